@@ -1,0 +1,24 @@
+use Rattle.std.proofs.Common.{◌≡◌, ◌+◌, ◌-◌, ◌*◌, length}
+use Rattle.pv_binary.specs.Reading.{items_at, pairs_at, value_at}
+use Rattle.pv_binary.proofs.Items.{with_front}
+use Rattle.pv_binary.proofs.reading.+read.Given as goal
+
+abbrev pub decreases-read_value : goal.decreases-read_value
+decreases-read_value l = 3 * l.budget
+
+abbrev pub decreases-read_items : goal.decreases-read_items
+decreases-read_items l = 3 * l.budget + 1
+
+abbrev pub decreases-read_pairs : goal.decreases-read_pairs
+decreases-read_pairs l = 3 * l.budget + 1
+
+abbrev pub decreases-read_compound : goal.decreases-read_compound
+decreases-read_compound l = 3 * l.budget + 2
+
+abbrev pub invariant-read_items-loop : goal.invariant-read_items-loop
+invariant-read_items-loop l =
+    with_front l.items (items_at l.total (value_at l.total l.budget) (length l.bytes - l.counter) l.rest) ≡ items_at l.total (value_at l.total l.budget) (length l.bytes) l.bytes
+
+abbrev pub invariant-read_pairs-loop : goal.invariant-read_pairs-loop
+invariant-read_pairs-loop l =
+    with_front l.pairs (pairs_at l.total (value_at l.total l.budget) (length l.bytes - l.counter) l.rest) ≡ pairs_at l.total (value_at l.total l.budget) (length l.bytes) l.bytes

@@ -1,0 +1,9 @@
+pub mod Fronts
+pub mod Numbers
+pub mod OneOfThree
+pub mod Reading
+pub mod Reads
+pub mod Results
+pub mod Spells
+pub mod Tags
+pub mod Written

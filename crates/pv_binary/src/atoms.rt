@@ -1,0 +1,146 @@
+//! Reading atoms. Nothing here takes memory.
+ghost use Rattle.std.specs.Prelude.{◌≡◌, ◌≤◌, ◌<◌, ◌*◌, ◌^◌, length, IfOk};
+ghost use Rattle.pv_binary.specs.Reading.{sign, pad, is_minimal, int_value, int_at, varint_at, split_at, counted_at, text_at, double_at};
+ghost use Rattle.pv_binary.specs.Results.{Answers};
+ghost use Rattle.std.specs.Int.{w64, from_be_bytes};
+
+use crate::faults::BinKind;
+use crate::writing::repeats_sign;
+
+/// The double behind its tag: the 8, and the eight bytes of its bits.
+#[tactic(auto, unfolding(crate::specs::Reading::double_at))]
+pub(crate) fn read_double(bytes: &[u8]) -> Result<(u64, &[u8]), BinKind>
+    ensures { Answers (λ x. (x.0, x.1.now)) result (double_at bytes.now) }
+{
+    let Some((count, rest)) = bytes.split_first() else {
+        return Err(BinKind::Truncated);
+    };
+    if *count != 8 {
+        return Err(BinKind::BadTag);
+    }
+    let (bits, rest) = split(rest, 8)?;
+    Ok((bits_of(bits), rest))
+}
+
+/// A text behind its count.
+#[tactic(auto, unfolding(crate::specs::Reading::text_at))]
+pub(crate) fn read_text(bytes: &[u8]) -> Result<(&str, &[u8]), BinKind>
+    ensures { Answers (λ x. (x.0.now, x.1.now)) result (text_at bytes.now) }
+{
+    let (text, rest) = read_counted(bytes)?;
+    let Ok(text) = std::str::from_utf8(text) else {
+        return Err(BinKind::BadUtf8);
+    };
+    Ok((text, rest))
+}
+
+/// An integer behind its count, in as few bytes as will do.
+#[tactic(auto, unfolding(crate::specs::Reading::int_at))]
+pub(crate) fn read_int(bytes: &[u8]) -> Result<(i128, &[u8]), BinKind>
+    ensures { Answers (λ x. (x.0, x.1.now)) result (int_at bytes.now) }
+{
+    let (count, rest) = read_varint(bytes, 9)?;
+    if count > 16 {
+        return Err(BinKind::TooWide);
+    }
+    let (digits, rest) = split(rest, count)?;
+    if !is_minimal(digits) {
+        return Err(BinKind::LongInteger);
+    }
+    Ok((int_of(digits), rest))
+}
+
+/// Bytes behind their count.
+#[tactic(auto, unfolding(crate::specs::Reading::counted_at))]
+pub(crate) fn read_counted(bytes: &[u8]) -> Result<(&[u8], &[u8]), BinKind>
+    ensures { Answers (λ x. (x.0.now, x.1.now)) result (counted_at bytes.now) }
+{
+    let (count, rest) = read_varint(bytes, 9)?;
+    split(rest, count)
+}
+
+/// The first `count` bytes, and the others.
+fn split(bytes: &[u8], count: u64) -> Result<(&[u8], &[u8]), BinKind>
+    ensures { Answers (λ x. (x.0.now, x.1.now)) result (split_at count bytes.now) }
+{
+    if count > bytes.len() as u64 {
+        return Err(BinKind::Truncated);
+    }
+    Ok(bytes.split_at(count as usize))
+}
+
+/// A count in its shortest form; after `left` more bytes the tenth is reached, which holds one bit.
+fn read_varint(bytes: &[u8], left: u32) -> Result<(u64, &[u8]), BinKind>
+    requires { left ≤ 9 }
+    ensures value { Answers (λ x. (x.0, x.1.now)) result (varint_at left bytes.now) }
+    ensures small { IfOk result (λ x. x.0 < 2 * 128 ^ left) }
+{
+    let Some((byte, rest)) = bytes.split_first() else {
+        return Err(BinKind::Truncated);
+    };
+    if left == 0 {
+        return match *byte {
+            1 => Ok((1, rest)),
+            _ => Err(BinKind::LongVarint),
+        };
+    }
+    if *byte < 128 {
+        return Ok((u64::from(*byte), rest));
+    }
+    let (high, rest) = read_varint(rest, left - 1)?;
+    if high == 0 {
+        return Err(BinKind::LongVarint);
+    }
+    Ok((u64::from(*byte - 128) + 128 * high, rest))
+}
+
+/// No byte only repeats the sign.
+fn is_minimal(digits: &[u8]) -> bool
+    ensures { result ≡ is_minimal digits.now }
+{
+    match digits {
+        [] => true,
+        [only] => *only != 0,
+        [first, second, ..] => !repeats_sign(*first, *second),
+    }
+}
+
+/// What at most 16 bytes of two's complement stand for.
+fn int_of(digits: &[u8]) -> i128
+    requires { length digits.now ≤ 16 }
+    ensures { result ≡ int_value digits.now }
+{
+    i128::from_be_bytes(padded(digits))
+}
+
+/// The same in 16 bytes.
+fn padded(digits: &[u8]) -> [u8; 16]
+    requires { length digits.now ≤ 16 }
+    ensures { result ≡ pad digits.now }
+{
+    let mut bytes = [sign_byte(digits); 16];
+    let start = 16 - digits.len();
+    let place = &mut bytes[start..];
+    place.copy_from_slice(digits);
+    bytes
+}
+
+/// The byte that repeats the sign.
+fn sign_byte(digits: &[u8]) -> u8
+    ensures { result ≡ sign digits.now }
+{
+    match digits {
+        [] => 0,
+        [first, ..] => if *first < 128 { 0 } else { 255 },
+    }
+}
+
+/// The number of eight bytes, big-endian.
+fn bits_of(bytes: &[u8]) -> u64
+    requires { length bytes.now ≡ 8 }
+    ensures { result ≡ from_be_bytes w64 bytes.now }
+{
+    let mut eight = [0u8; 8];
+    eight.copy_from_slice(bytes);
+    u64::from_be_bytes(eight)
+}

@@ -1,0 +1,21 @@
+//! The binary form of values, by the Preserves binary specification.
+#![tactic(auto)]
+
+mod atoms;
+#[cfg(test)]
+mod fault_tests;
+mod faults;
+mod laws;
+mod reading;
+mod tags;
+#[cfg(test)]
+mod tests;
+mod writing;
+
+pub use faults::{BinFault, BinKind};
+pub use laws::{one_of_three, spellings_are_unique};
+pub use reading::read;
+pub use writing::write;
+
+/// How deep a value that is read may nest.
+pub const READ_DEPTH: u32 = 64;

@@ -1,0 +1,223 @@
+//! Reading values.
+ghost use Rattle.std.specs.Prelude.{◌≡◌, ◌≤◌, ℕ, List, take, length, map, IfOk};
+ghost use Rattle.pv_value.specs.Plain.{Plain};
+ghost use Rattle.pv_value.specs.View.{key_and_value};
+ghost use Rattle.pv_binary.specs.Reading.{within, no_tag, atom_at, set_from, dictionary_from, items_at, pairs_at, compound_at, value_at};
+ghost use Rattle.pv_binary.specs.Results.{Gives, placed};
+ghost use Rattle.pv_binary.specs.Reads.{BeginsWith, IsFound, IsBad, IsExact, IsFault};
+ghost use Rattle.pv_binary.specs.Fronts.{Front, Stands};
+ghost use Rattle.pv_binary.specs.declared.faults.BinKind.{BinKind};
+ghost use Rattle.pv_binary.specs.declared.faults.BinKind.TheVariants.{Truncated};
+
+use crate::READ_DEPTH;
+use crate::atoms::{read_counted, read_double, read_int, read_text};
+use crate::faults::{BinFault, BinKind};
+use crate::tags::{END, Tag};
+use pv_value::{Blob, Items, Pairs, SetFault, Text, Value};
+use std::alloc::Global;
+
+/// The value that the bytes begin with, and how many bytes spell it. Bytes may follow.
+pub fn read(alloc: Global, bytes: &[u8]) -> Result<(Value, usize), BinFault>
+    // What is read is spelled so.
+    ensures found { IfOk result (λ x. BeginsWith bytes.now x.1 x.0) }
+    // What is spelled so is read, unless memory runs out.
+    ensures only { (n : ℕ) (v : Plain) → BeginsWith bytes.now n v → IsFound result v n }
+    // A fault comes only where nothing is spelled so.
+    ensures bad { IsBad result bytes.now }
+
+    // A fault that is answered stands there: the bytes end within a value, or what follows can be no part of one.
+    ensures exact { IsExact result bytes.now }
+    // A fault that stands is answered, unless memory runs out.
+    ensures only_fault { (kind : BinKind) (place : ℕ) → Stands bytes.now kind place → IsFault result kind place }
+    ensures only_front { (path : List ℕ) (place : ℕ) → Front bytes.now path place → IsFault result Truncated place }
+{
+    let (value, rest) = read_value(alloc, bytes, bytes.len(), READ_DEPTH)?;
+    Ok((value, bytes.len() - rest.len()))
+}
+
+/// The value that the bytes begin with, which nests at most `budget` deep, and the bytes after it. The bytes
+/// are the last of `total`, which tells the place of a fault.
+#[cycle(read)]
+#[tactic(auto, unfolding(crate::specs::Reading::value_at, crate::specs::Reading::behind))]
+fn read_value(
+    alloc: Global,
+    bytes: &[u8],
+    total: usize,
+    budget: u32,
+) -> Result<(Value, &[u8]), BinFault>
+    ensures { Gives (λ x. (x.0, x.1.now)) result (value_at total budget bytes.now) }
+{
+    let place = total.saturating_sub(bytes.len());
+    let Some((byte, rest)) = bytes.split_first() else {
+        return Err(BinFault::Bad(BinKind::Truncated, total));
+    };
+    let tag = Tag::of(*byte);
+    if !tag.is_compound() {
+        return read_atom(alloc, tag, rest, place);
+    }
+    if budget == 0 {
+        return Err(BinFault::Bad(BinKind::TooDeep, place));
+    }
+    read_compound(alloc, tag, rest, total, place, budget - 1)
+}
+
+/// What stands behind the tag of an atom.
+#[tactic(auto, unfolding(crate::specs::Reading::atom_at))]
+fn read_atom(
+    alloc: Global,
+    tag: Tag,
+    bytes: &[u8],
+    place: usize,
+) -> Result<(Value, &[u8]), BinFault>
+    ensures { Gives (λ x. (x.0, x.1.now)) result (atom_at place tag bytes.now) }
+{
+    match tag {
+        Tag::False => Ok((Value::boolean(false), bytes)),
+        Tag::True => Ok((Value::boolean(true), bytes)),
+        Tag::Double => {
+            let (bits, rest) = at(place, read_double(bytes))?;
+            Ok((Value::double(bits), rest))
+        }
+        Tag::Integer => {
+            let (n, rest) = at(place, read_int(bytes))?;
+            Ok((Value::integer(n), rest))
+        }
+        Tag::String => {
+            let (text, rest) = at(place, read_text(bytes))?;
+            Ok((Value::string(Text::from_str(alloc, text)?), rest))
+        }
+        Tag::ByteString => {
+            let (blob, rest) = at(place, read_counted(bytes))?;
+            Ok((Value::byte_string(Blob::from_slice(alloc, blob)?), rest))
+        }
+        Tag::Symbol => {
+            let (text, rest) = at(place, read_text(bytes))?;
+            Ok((Value::symbol(Text::from_str(alloc, text)?), rest))
+        }
+        _ => Err(BinFault::Bad(BinKind::BadTag, place)),
+    }
+}
+
+/// A fault of the value whose tag stands at this place.
+fn at<T>(place: usize, read: Result<T, BinKind>) -> Result<T, BinFault>
+    ensures { result ≡ placed place read }
+{
+    match read {
+        Ok(x) => Ok(x),
+        Err(kind) => Err(BinFault::Bad(kind, place)),
+    }
+}
+
+/// What stands behind the tag of a compound, which holds values that nest at most `budget` deep.
+#[cycle(read)]
+#[tactic(auto, unfolding(crate::specs::Reading::compound_at))]
+fn read_compound(
+    alloc: Global,
+    tag: Tag,
+    bytes: &[u8],
+    total: usize,
+    place: usize,
+    budget: u32,
+) -> Result<(Value, &[u8]), BinFault>
+    ensures { Gives (λ x. (x.0, x.1.now)) result (compound_at total place (value_at total budget) tag bytes.now) }
+{
+    match tag {
+        Tag::Embedded => {
+            let (inside, rest) = read_value(alloc, bytes, total, budget)?;
+            Ok((Value::embedded(alloc, inside)?, rest))
+        }
+        Tag::Record => {
+            let (label, rest) = read_value(alloc, bytes, total, budget)?;
+            let (fields, rest) = read_items(alloc, rest, total, budget)?;
+            Ok((Value::record(alloc, label, fields)?, rest))
+        }
+        Tag::Sequence => {
+            let (items, rest) = read_items(alloc, bytes, total, budget)?;
+            Ok((Value::sequence(items), rest))
+        }
+        Tag::Set => {
+            let (items, rest) = read_items(alloc, bytes, total, budget)?;
+            Ok((set_of(alloc, items, place)?, rest))
+        }
+        Tag::Dictionary => {
+            let (pairs, rest) = read_pairs(alloc, bytes, total, budget)?;
+            Ok((dictionary_of(alloc, pairs, place)?, rest))
+        }
+        _ => Err(BinFault::Bad(BinKind::BadTag, place)),
+    }
+}
+
+/// Values up to the end.
+#[cycle(read)]
+fn read_items(
+    alloc: Global,
+    bytes: &[u8],
+    total: usize,
+    budget: u32,
+) -> Result<(Items, &[u8]), BinFault>
+    ensures { Gives (λ x. (x.0, x.1.now)) result (items_at total (value_at total budget) (length bytes.now) bytes.now) }
+{
+    let mut items = Items::new(alloc);
+    let mut rest = bytes;
+    for _ in 0..bytes.len() {
+        let Some((byte, after)) = rest.split_first() else {
+            return Err(BinFault::Bad(BinKind::Truncated, total));
+        };
+        if *byte == END {
+            return Ok((items, after));
+        }
+        let (value, after) = read_value(alloc, rest, total, budget)?;
+        items.push(value)?;
+        rest = after;
+    }
+    Err(BinFault::Bad(BinKind::Truncated, total))
+}
+
+/// Keys and values by turns up to the end.
+#[cycle(read)]
+fn read_pairs(
+    alloc: Global,
+    bytes: &[u8],
+    total: usize,
+    budget: u32,
+) -> Result<(Pairs, &[u8]), BinFault>
+    ensures { Gives (λ x. (x.0, x.1.now)) result (pairs_at total (value_at total budget) (length bytes.now) bytes.now) }
+{
+    let mut pairs = Pairs::new(alloc);
+    let mut rest = bytes;
+    for _ in 0..bytes.len() {
+        let Some((byte, after)) = rest.split_first() else {
+            return Err(BinFault::Bad(BinKind::Truncated, total));
+        };
+        if *byte == END {
+            return Ok((pairs, after));
+        }
+        let (key, after) = read_value(alloc, rest, total, budget)?;
+        let (value, after) = read_value(alloc, after, total, budget)?;
+        pairs.push(key, value)?;
+        rest = after;
+    }
+    Err(BinFault::Bad(BinKind::Truncated, total))
+}
+
+/// The set of these elements, whose tag stands at this place.
+fn set_of(alloc: Global, items: Items, place: usize) -> Result<Value, BinFault>
+    ensures { Gives (λ v. v) result (within place (set_from items)) }
+{
+    match Value::set(alloc, items) {
+        Ok(set) => Ok(set),
+        Err(SetFault::NoMemory) => Err(BinFault::NoMemory),
+        Err(SetFault::Duplicate(_)) => Err(BinFault::Bad(BinKind::Duplicate, place)),
+    }
+}
+
+/// The dictionary of these entries, whose tag stands at this place.
+fn dictionary_of(alloc: Global, pairs: Pairs, place: usize) -> Result<Value, BinFault>
+    ensures { Gives (λ v. v) result (within place (dictionary_from pairs)) }
+{
+    match Value::dict(alloc, pairs) {
+        Ok(dictionary) => Ok(dictionary),
+        Err(SetFault::NoMemory) => Err(BinFault::NoMemory),
+        Err(SetFault::Duplicate(_)) => Err(BinFault::Bad(BinKind::Duplicate, place)),
+    }
+}
