@@ -1,0 +1,4 @@
+pub mod Integers
+pub mod Lengths
+pub mod Sorting
+pub mod Spelling

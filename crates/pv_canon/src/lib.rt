@@ -1,0 +1,10 @@
+//! The canonical form of values (Preserves, "Canonical Form for Binary Syntax").
+#![tactic(auto)]
+
+mod forms;
+mod laws;
+#[cfg(test)]
+mod tests;
+
+pub use forms::{canon, canon_len};
+pub use laws::canonical_is_exact;
