@@ -1,0 +1,7 @@
+pub mod Fronts
+pub mod Items
+pub mod Digits
+pub mod Told
+pub mod Bare
+pub mod Texts
+pub mod Streams

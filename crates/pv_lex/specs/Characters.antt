@@ -1,0 +1,70 @@
+-- Characters of the text form, by their bytes, and what is passed over before a token.
+-- Preserves text syntax, "White space" and "Comments". Each byte of a character from 80 hexadecimal up is one from 128.
+use Rattle.std.specs.Prelude.{ℕ, ◌-◌, Bool, true, false, ◌&&◌, ◌||◌, ◌==◌, nat_le, not, List, [], ◌∷◌, if◌then◌else◌, Option, Some, None}
+
+abbrev pub all_of : (ℕ → Bool) → List ℕ → Bool
+all_of test [] = true
+all_of test (b ∷ bs) = test b && all_of test bs
+
+abbrev pub is_between : ℕ → ℕ → ℕ → Bool
+is_between low high b = nat_le low b && nat_le b high
+
+-- CR or LF
+abbrev pub is_line_end : ℕ → Bool
+is_line_end b = (b == 13) || (b == 10)
+
+-- space, tab, CR or LF
+abbrev pub is_space : ℕ → Bool
+is_space b = (b == 32) || (b == 9) || is_line_end b
+
+abbrev pub is_digit : ℕ → Bool
+is_digit b = is_between 48 57 b
+
+abbrev pub is_letter : ℕ → Bool
+is_letter b = is_between 65 90 b || is_between 97 122 b
+
+-- ~ ! $ % ^ & * ? _ = + - / .
+abbrev pub is_bare_sign : ℕ → Bool
+is_bare_sign b =
+    (b == 126) || (b == 33) || (b == 36) || (b == 37) || (b == 94) || (b == 38) || (b == 42)
+    || (b == 63) || (b == 95) || (b == 61) || (b == 43) || (b == 45) || (b == 47) || (b == 46)
+
+-- part of a bare token
+abbrev pub is_bare : ℕ → Bool
+is_bare b = is_letter b || is_digit b || is_bare_sign b || nat_le 128 b
+
+-- a hexadecimal digit in either case
+abbrev pub hex_digit : ℕ → Option ℕ
+hex_digit b =
+    if is_digit b then Some (b - 48)
+    else (if is_between 97 102 b then Some (b - 87)
+    else (if is_between 65 70 b then Some (b - 55) else None))
+
+-- whether a # begins a comment, by what follows it
+abbrev pub begins_comment : List ℕ → Bool
+begins_comment [] = false
+begins_comment (b ∷ bs) = is_space b || (b == 33)
+
+-- what follows white space and comments; a comment goes to its line's end
+abbrev pub gap_from : Bool → List ℕ → List ℕ
+gap_from in_comment [] = []
+gap_from true (b ∷ bs) = gap_from (not (is_line_end b)) bs
+gap_from false (b ∷ bs) =
+    if (b == 35) && begins_comment bs then gap_from true bs
+    else (if is_space b then gap_from false bs else b ∷ bs)
+
+abbrev pub after_gap : List ℕ → List ℕ
+after_gap bytes = gap_from false bytes
+
+abbrev pub after_bare : List ℕ → List ℕ
+after_bare [] = []
+after_bare (b ∷ bs) = if is_bare b then after_bare bs else b ∷ bs
+
+-- no bare character stands first
+abbrev pub ends_bare : List ℕ → Bool
+ends_bare [] = true
+ends_bare (b ∷ bs) = not (is_bare b)
+
+abbrev pub after_digits : List ℕ → List ℕ
+after_digits [] = []
+after_digits (b ∷ bs) = if is_digit b then after_digits bs else b ∷ bs

@@ -1,0 +1,16 @@
+pub mod BareLaws
+pub mod ByteTexts
+pub mod Characters
+pub mod ContentLaws
+pub mod Contents
+pub mod EnclosedLaws
+pub mod Escapes
+pub mod Lexing
+pub mod Local
+pub mod Numbers
+pub mod Pieces
+pub mod Quoted
+pub mod QuotedLaws
+pub mod Results
+pub mod Slices
+pub mod TokenLaws

@@ -1,0 +1,129 @@
+//! Characters, and what is passed over between tokens.
+ghost use Rattle.std.specs.Prelude.{◌≡◌, ◌≤◌, ◌<◌, length, IfSome};
+ghost use Rattle.pv_lex.specs.Characters.{is_line_end, is_space, is_digit, is_letter, is_bare_sign, is_bare, hex_digit, begins_comment, after_gap, after_bare, after_digits};
+
+/// What follows white space and comments.
+pub fn skip_gap(bytes: &[u8]) -> &[u8]
+    ensures value { result.now ≡ after_gap bytes.now }
+    ensures within { length result.now ≤ length bytes.now }
+{
+    let mut rest = bytes;
+    let mut in_comment = false;
+    while let Some((first, after)) = rest.split_first() {
+        if in_comment {
+            in_comment = !is_line_end(*first);
+        } else if *first == b'#' && begins_comment(after) {
+            in_comment = true;
+        } else if !is_space(*first) {
+            return rest;
+        }
+        rest = after;
+    }
+    rest
+}
+
+/// What follows the bytes of a bare token.
+pub(crate) fn skip_bare(bytes: &[u8]) -> &[u8]
+    ensures value { result.now ≡ after_bare bytes.now }
+    ensures within { length result.now ≤ length bytes.now }
+{
+    let mut rest = bytes;
+    while let Some((first, after)) = rest.split_first() {
+        if !is_bare(*first) {
+            return rest;
+        }
+        rest = after;
+    }
+    rest
+}
+
+/// What follows digits.
+pub(crate) fn skip_digits(bytes: &[u8]) -> &[u8]
+    ensures { result.now ≡ after_digits bytes.now }
+{
+    let mut rest = bytes;
+    while let Some((first, after)) = rest.split_first() {
+        if !is_digit(*first) {
+            return rest;
+        }
+        rest = after;
+    }
+    rest
+}
+
+/// Whether a `#` begins a comment, by what follows it.
+fn begins_comment(bytes: &[u8]) -> bool
+    ensures { result ≡ begins_comment bytes.now }
+{
+    match bytes {
+        [] => false,
+        [first, ..] => is_space(*first) || *first == b'!',
+    }
+}
+
+/// CR or LF.
+fn is_line_end(b: u8) -> bool
+    ensures { result ≡ is_line_end b }
+{
+    b == b'\r' || b == b'\n'
+}
+
+pub(crate) fn is_space(b: u8) -> bool
+    ensures { result ≡ is_space b }
+{
+    b == b' ' || b == b'\t' || is_line_end(b)
+}
+
+pub(crate) fn is_digit(b: u8) -> bool
+    ensures { result ≡ is_digit b }
+{
+    b >= b'0' && b <= b'9'
+}
+
+fn is_letter(b: u8) -> bool
+    ensures { result ≡ is_letter b }
+{
+    (b >= b'A' && b <= b'Z') || (b >= b'a' && b <= b'z')
+}
+
+fn is_bare_sign(b: u8) -> bool
+    ensures { result ≡ is_bare_sign b }
+{
+    b == b'~'
+        || b == b'!'
+        || b == b'$'
+        || b == b'%'
+        || b == b'^'
+        || b == b'&'
+        || b == b'*'
+        || b == b'?'
+        || b == b'_'
+        || b == b'='
+        || b == b'+'
+        || b == b'-'
+        || b == b'/'
+        || b == b'.'
+}
+
+/// Part of a bare token, as every byte of a character from 80 hexadecimal up.
+pub(crate) fn is_bare(b: u8) -> bool
+    ensures { result ≡ is_bare b }
+{
+    is_letter(b) || is_digit(b) || is_bare_sign(b) || b >= 0x80
+}
+
+/// What a hexadecimal digit in either case stands for.
+pub(crate) fn hex_digit(b: u8) -> Option<u8>
+    ensures value { result ≡ hex_digit b }
+    ensures small { IfSome result (λ d. d < 16) }
+{
+    if is_digit(b) {
+        Some(b - b'0')
+    } else if b >= b'a' && b <= b'f' {
+        Some(b - 87)
+    } else if b >= b'A' && b <= b'F' {
+        Some(b - 55)
+    } else {
+        None
+    }
+}
