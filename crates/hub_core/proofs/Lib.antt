@@ -1,0 +1,9 @@
+pub mod Ascending
+pub mod FirstTurns
+pub mod Groups
+pub mod Keeping
+pub mod Places
+pub mod References
+pub mod Shapes
+pub mod Turning
+pub mod Wants

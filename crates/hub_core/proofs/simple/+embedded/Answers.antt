@@ -1,0 +1,17 @@
+use Rattle.std.proofs.Common.{arith}
+use Rattle.pv_value.specs.Nodes.{nodes_at, entry_nodes_at}
+use Rattle.hub_core.proofs.simple.+embedded.Goals as goal
+
+pub any_embedded-has_embedded-requires : goal.any_embedded-has_embedded-requires
+any_embedded-has_embedded-requires t c =
+    (omega (arith, nodes_at c.args.values.now c.loop-x.x-index c.x-item.result (omega arith) c.x-item.is), tt)
+
+pub any_pair_embedded-has_embedded-requires : goal.any_pair_embedded-has_embedded-requires
+any_pair_embedded-has_embedded-requires t c =
+    let h = entry_nodes_at c.args.entries.now c.loop-e.e-index c.e-item.result (omega arith) c.e-item.is in
+    (omega (arith, h.0), tt)
+
+pub any_pair_embedded-has_embedded-requires-else-has_embedded : goal.any_pair_embedded-has_embedded-requires-else-has_embedded
+any_pair_embedded-has_embedded-requires-else-has_embedded t c =
+    let h = entry_nodes_at c.args.entries.now c.loop-e.e-index c.e-item.result (omega arith) c.e-item.is in
+    (omega (arith, h.1), tt)

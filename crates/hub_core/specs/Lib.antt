@@ -1,0 +1,17 @@
+pub mod Ascending
+pub mod Crossing
+pub mod FirstPath
+pub mod Found
+pub mod Holding
+pub mod Kept
+pub mod Looking
+pub mod Machine
+pub mod Matching
+pub mod Packets
+pub mod Patterns
+pub mod Plans
+pub mod ReplayLaws
+pub mod Replays
+pub mod Spaces
+pub mod State
+pub mod Words
