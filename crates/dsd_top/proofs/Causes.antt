@@ -1,0 +1,134 @@
+-- What a status says, by its cause.
+use Rattle.std.proofs.Common.{◌≡◌, ◌≢◌, ℕ, List, Option, Some, None, IfSome, IfErr, Result, Ok, Err, Contains, lit<, refl, sym, subst, arith}
+use Rattle.std.specs.Result.{IsErrAnd}
+use Rattle.dsd_top.specs.declared.once.Fault.{Fault}
+use Rattle.dsd_top.specs.declared.once.Fault.TheVariants.{BadInput, BadWords, ReadFailed, WriteFailed, NoMemory, TooLong, NotBuilt}
+use Rattle.dsd_top.specs.declared.streams.ReadFault.{ReadFault}
+use Rattle.dsd_top.specs.declared.streams.ReadFault.TheVariants as reading
+use Rattle.dsd_top.specs.declared.words.Command.{Command}
+use Rattle.dsd_top.specs.declared.words.Command.TheVariants.{Run, CanonicalForms}
+use Rattle.dsd_top.specs.Statuses.{IsStatus, statuses_of, IsBadInputAt, IsNotBuiltAt, IsBadInput, IsNotBuilt, IsOver, IsCut, status_of, from_read, IsCauseOf, Tells}
+
+pub is_status : (f : Fault) → IsStatus (status_of f)
+is_status (BadInput n) = (1, lit< tt, refl)
+is_status BadWords = (2, lit< tt, refl)
+is_status ReadFailed = (3, lit< tt, refl)
+is_status WriteFailed = (4, lit< tt, refl)
+is_status NoMemory = (5, lit< tt, refl)
+is_status TooLong = (6, lit< tt, refl)
+is_status (NotBuilt n) = (7, lit< tt, refl)
+
+-- a cause that stands of the input is one of the command's
+pub cause_known : (c : Command) (bytes : List ℕ) (f : Fault) → IsCauseOf c bytes f → Contains (statuses_of (Some c)) (status_of f)
+cause_known Run bytes (BadInput n) h = (1, lit< tt, refl)
+cause_known CanonicalForms bytes (BadInput n) h = (1, lit< tt, refl)
+cause_known Run bytes NoMemory h = (4, lit< tt, refl)
+cause_known CanonicalForms bytes NoMemory h = (4, lit< tt, refl)
+cause_known CanonicalForms bytes TooLong h = (5, lit< tt, refl)
+cause_known Run bytes (NotBuilt n) h = (5, lit< tt, refl)
+cause_known Run bytes BadWords h = absurd h
+cause_known CanonicalForms bytes BadWords h = absurd h
+cause_known Run bytes ReadFailed h = absurd h
+cause_known CanonicalForms bytes ReadFailed h = absurd h
+cause_known Run bytes WriteFailed h = absurd h
+cause_known CanonicalForms bytes WriteFailed h = absurd h
+cause_known Run bytes TooLong h = absurd h
+cause_known CanonicalForms bytes (NotBuilt n) h = absurd h
+
+pub read_known : (c : Command) (e : ReadFault) → Contains (statuses_of (Some c)) (status_of (from_read e))
+read_known Run reading.Failed = (2, lit< tt, refl)
+read_known CanonicalForms reading.Failed = (2, lit< tt, refl)
+read_known Run reading.NoMemory = (4, lit< tt, refl)
+read_known CanonicalForms reading.NoMemory = (4, lit< tt, refl)
+
+pub write_known : (c : Command) → Contains (statuses_of (Some c)) (status_of WriteFailed)
+write_known Run = (3, lit< tt, refl)
+write_known CanonicalForms = (3, lit< tt, refl)
+
+pub read_failed : (f : Fault) → status_of f ≡ 3 → f ≡ ReadFailed
+read_failed (BadInput n) e = absurd (omega arith)
+read_failed BadWords e = absurd (omega arith)
+read_failed ReadFailed e = refl
+read_failed WriteFailed e = absurd (omega arith)
+read_failed NoMemory e = absurd (omega arith)
+read_failed TooLong e = absurd (omega arith)
+read_failed (NotBuilt n) e = absurd (omega arith)
+
+pub write_failed : (f : Fault) → status_of f ≡ 4 → f ≡ WriteFailed
+write_failed (BadInput n) e = absurd (omega arith)
+write_failed BadWords e = absurd (omega arith)
+write_failed ReadFailed e = absurd (omega arith)
+write_failed WriteFailed e = refl
+write_failed NoMemory e = absurd (omega arith)
+write_failed TooLong e = absurd (omega arith)
+write_failed (NotBuilt n) e = absurd (omega arith)
+
+pub none_is : (f : Fault) → status_of f ≡ 0 → ⊥
+none_is (BadInput n) e = absurd (omega arith)
+none_is BadWords e = absurd (omega arith)
+none_is ReadFailed e = absurd (omega arith)
+none_is WriteFailed e = absurd (omega arith)
+none_is NoMemory e = absurd (omega arith)
+none_is TooLong e = absurd (omega arith)
+none_is (NotBuilt n) e = absurd (omega arith)
+
+some_bad : (c : Command) (left : Option (List ℕ)) (n : ℕ) → IfSome left (λ bytes. IsBadInputAt c bytes n) → IfSome left (IsBadInput c)
+some_bad c None n h = tt
+some_bad c (Some bytes) n h = (n, h)
+
+some_not_built : (c : Command) (left : Option (List ℕ)) (n : ℕ) → IfSome left (λ bytes. IsNotBuiltAt c bytes n) → IfSome left (IsNotBuilt c)
+some_not_built c None n h = tt
+some_not_built c (Some bytes) n h = (n, h)
+
+module _ (c : Command) (left before now : Option (List ℕ)) where
+  pub input_is_bad : (f : Fault) → Tells c f left before now → status_of f ≡ 1 → IfSome left (IsBadInput c)
+  input_is_bad (BadInput n) h e = some_bad c left n h.0
+  input_is_bad BadWords h e = absurd (omega arith)
+  input_is_bad ReadFailed h e = absurd (omega arith)
+  input_is_bad WriteFailed h e = absurd (omega arith)
+  input_is_bad NoMemory h e = absurd (omega arith)
+  input_is_bad TooLong h e = absurd (omega arith)
+  input_is_bad (NotBuilt n) h e = absurd (omega arith)
+
+  pub input_is_over : (f : Fault) → Tells c f left before now → status_of f ≡ 6 → IfSome left (IsOver c)
+  input_is_over (BadInput n) h e = absurd (omega arith)
+  input_is_over BadWords h e = absurd (omega arith)
+  input_is_over ReadFailed h e = absurd (omega arith)
+  input_is_over WriteFailed h e = absurd (omega arith)
+  input_is_over NoMemory h e = absurd (omega arith)
+  input_is_over TooLong h e = h.0
+  input_is_over (NotBuilt n) h e = absurd (omega arith)
+
+  pub input_not_built : (f : Fault) → Tells c f left before now → status_of f ≡ 10 → IfSome left (IsNotBuilt c)
+  input_not_built (BadInput n) h e = absurd (omega arith)
+  input_not_built BadWords h e = absurd (omega arith)
+  input_not_built ReadFailed h e = absurd (omega arith)
+  input_not_built WriteFailed h e = absurd (omega arith)
+  input_not_built NoMemory h e = absurd (omega arith)
+  input_not_built TooLong h e = absurd (omega arith)
+  input_not_built (NotBuilt n) h e = some_not_built c left n h.0
+
+  pub is_cut : (f : Fault) → Tells c f left before now → status_of f ≡ 4 → IfSome left (λ bytes. IsCut c bytes before now)
+  is_cut (BadInput n) h e = absurd (omega arith)
+  is_cut BadWords h e = absurd (omega arith)
+  is_cut ReadFailed h e = absurd (omega arith)
+  is_cut WriteFailed h e = h
+  is_cut NoMemory h e = absurd (omega arith)
+  is_cut TooLong h e = absurd (omega arith)
+  is_cut (NotBuilt n) h e = absurd (omega arith)
+
+  pub is_unwritten : (f : Fault) → Tells c f left before now → status_of f ≢ 4 → now ≡ before
+  is_unwritten (BadInput n) h e = h.1
+  is_unwritten BadWords h e = absurd h
+  is_unwritten ReadFailed h e = h
+  is_unwritten WriteFailed h e = absurd (e refl)
+  is_unwritten NoMemory h e = h
+  is_unwritten TooLong h e = h.1
+  is_unwritten (NotBuilt n) h e = h.1
+
+-- the cause that an error is
+pub known_err : {T : Type 0} (c : Command) (r : Result T Fault) (x : Fault) → IsErrAnd r (λ f. f ≡ x) → Contains (statuses_of (Some c)) (status_of x) → IfErr r (λ f. Contains (statuses_of (Some c)) (status_of f))
+known_err c (Ok t) x h k = tt
+known_err c (Err f) x h k =
+    let P : Fault → Type 0 = λ y. Contains (statuses_of (Some c)) (status_of y) in
+    subst P (sym h) k

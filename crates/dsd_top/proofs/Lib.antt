@@ -1,0 +1,12 @@
+pub mod Begins
+pub mod Causes
+pub mod Drained
+pub mod Events
+pub mod Handles
+pub mod Leading
+pub mod Opened
+pub mod Parts
+pub mod Readings
+pub mod Replays
+pub mod Turns
+pub mod Verdicts

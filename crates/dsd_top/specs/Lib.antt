@@ -1,0 +1,10 @@
+pub mod Calls
+pub mod Commands
+pub mod Memory
+pub mod Ports
+pub mod Reading
+pub mod Reports
+pub mod Runs
+pub mod Scripts
+pub mod Statuses
+pub mod Values

@@ -1,0 +1,114 @@
+-- Scripts of the first path: a list of values, each an event that stands where it may.
+use Rattle.std.specs.Prelude.{◌≡◌, ◌≢◌, ℕ, ◌<◌, ◌≤◌, ◌⊎◌, Bool, true, false, ◌==◌, not, ◌&&◌, IsTrue, List, [], ◌∷◌, ◌++◌, length, drop, map, codes}
+use Rattle.std.specs.List.{list_any}
+use Rattle.pv_value.specs.Plain.{Plain, byte_string}
+use Rattle.pv_binary.specs.Spells.{Spells}
+use Rattle.pv_binary.specs.Reads.{BeginsWith}
+use Rattle.hub_core.specs.Words.{labelled, number}
+use Rattle.hub_core.specs.Packets.{turn_value}
+use Rattle.hub_core.specs.FirstPath.{IsSimpleTurn}
+use Rattle.hub_core.specs.declared.packets.Event.{Event}
+use Rattle.hub_core.specs.declared.packets.Event.TheVariants.{Assert, Retract}
+use Rattle.hub_core.specs.declared.packets.TurnEvent.{TurnEvent}
+use Rattle.dsd_top.specs.declared.scripts.TheConstants.{SCRIPT_BYTES, DRAIN_TURNS}
+use Rattle.dsd_top.specs.declared.scripts.ScriptEvent.{ScriptEvent}
+use Rattle.dsd_top.specs.declared.scripts.ScriptEvent.TheVariants.{Open, Bytes, Drain}
+
+-- `<open 1>`; `<bytes 1 b>`, where b spells one turn of the first path; `<drain n>`
+abbrev pub Writes : Plain → ScriptEvent → Type 0
+Writes v Open = v ≡ labelled (codes "open") (number 1 ∷ [])
+Writes v (Bytes es) = IsSimpleTurn es × (b : List ℕ) × Spells b (turn_value es) × (v ≡ labelled (codes "bytes") (number 1 ∷ byte_string b ∷ []))
+Writes v (Drain n) = (n ≤ DRAIN_TURNS) × (v ≡ labelled (codes "drain") (number n ∷ []))
+
+-- what has come before: whether the connection was opened, and the handles that are in use
+pub record Before : Type 0 where
+  pub opened : Bool
+  pub used : List ℕ
+
+abbrev pub start : Before
+start = record { opened = false; used = [] }
+
+abbrev pub handle_of : Event → ℕ
+handle_of (Assert v h) = h
+handle_of (Retract h) = h
+
+abbrev pub handles_of : List TurnEvent → List ℕ
+handles_of es = map (λ e. handle_of e.event) es
+
+-- no handle is in use, and none stands twice
+abbrev pub are_new : List ℕ → List ℕ → Bool
+are_new used [] = true
+are_new used (h ∷ hs) = not (list_any (λ x. x == h) used) && are_new (used ++ h ∷ []) hs
+
+-- the opening is the first event and no other
+abbrev pub MayStand : Before → ScriptEvent → Type 0
+MayStand c Open = c.opened ≡ false
+MayStand c (Bytes es) = (c.opened ≡ true) × IsTrue (are_new c.used (handles_of es))
+MayStand c (Drain n) = c.opened ≡ true
+
+abbrev pub after : Before → ScriptEvent → Before
+after c Open = record { opened = true; used = c.used }
+after c (Bytes es) = record { opened = c.opened; used = c.used ++ handles_of es }
+after c (Drain n) = c
+
+-- the value is this event of the first path
+abbrev pub IsEvent : Before → Plain → ScriptEvent → Type 0
+IsEvent c v e = Writes v e × MayStand c e
+
+abbrev pub IsNoEvent : Before → Plain → Type 0
+IsNoEvent c v = (e : ScriptEvent) → IsEvent c v e → ⊥
+
+-- the bytes begin with a value that is the event e, and the rest of them is left
+pub record IsNext (c : Before) (bytes : List ℕ) (e : ScriptEvent) (rest : List ℕ) : Type 0 where
+  pub value : Plain
+  pub size : ℕ
+  pub begins : BeginsWith bytes size value
+  pub is : IsEvent c value e
+  pub left : rest ≡ drop size bytes
+
+-- the bytes begin with these events, after which the rest is left
+abbrev pub Leads : Before → List ℕ → List ScriptEvent → Before → List ℕ → Type 0
+Leads c bytes [] d rest = (d ≡ c) × (rest ≡ bytes)
+Leads c bytes (e ∷ es) d rest = (more : List ℕ) × IsNext c bytes e more × Leads (after c e) more es d rest
+
+-- the bytes are a script of these events
+abbrev pub IsScript : List ℕ → List ScriptEvent → Type 0
+IsScript bytes es = (d : Before) × Leads start bytes es d []
+
+-- after n events bytes are left that begin with no value
+pub record IsBadAt (bytes : List ℕ) (n : ℕ) : Type 0 where
+  pub events : List ScriptEvent
+  pub before : Before
+  pub rest : List ℕ
+  pub leads : Leads start bytes events before rest
+  pub place : length events ≡ n
+  pub some : rest ≢ []
+  pub none : (size : ℕ) (value : Plain) → BeginsWith rest size value → ⊥
+
+-- after n events the bytes go on with a value that is no event of the first path there
+pub record IsOtherAt (bytes : List ℕ) (n : ℕ) : Type 0 where
+  pub events : List ScriptEvent
+  pub before : Before
+  pub rest : List ℕ
+  pub leads : Leads start bytes events before rest
+  pub place : length events ≡ n
+  pub value : Plain
+  pub size : ℕ
+  pub begins : BeginsWith rest size value
+  pub other : IsNoEvent before value
+
+-- a longer input is not built as a whole, or its value n isn't
+abbrev pub IsNotBuiltAt : List ℕ → ℕ → Type 0
+IsNotBuiltAt bytes n = ((SCRIPT_BYTES < length bytes) × (n ≡ 0)) ⊎ ((length bytes ≤ SCRIPT_BYTES) × IsOtherAt bytes n)
+
+-- ---- what stands of an input: its length is looked at first, then its values and events in order
+
+pub data Verdict : Type 0 where
+  good : (events : List ScriptEvent) → Verdict
+  bad : (n : ℕ) → Verdict
+  not_built : (n : ℕ) → Verdict
+
+abbrev pub IsJudged : List ℕ → Verdict → Type 0
+IsJudged bytes (good es) = (length bytes ≤ SCRIPT_BYTES) × IsScript bytes es
+IsJudged bytes (bad n) = (length bytes ≤ SCRIPT_BYTES) × IsBadAt bytes n
+IsJudged bytes (not_built n) = IsNotBuiltAt bytes n

@@ -1,0 +1,125 @@
+-- What a status says of the words, the input and what was written.
+use Rattle.std.specs.Prelude.{◌≡◌, ℕ, ◌<◌, ◌≤◌, List, [], ◌∷◌, length, Option, Some, None, Contains, IfSome}
+use Rattle.pv_binary.specs.Written.{written}
+use Rattle.dsd_top.specs.Ports.{Appends, AppendsFront}
+use Rattle.dsd_top.specs.Scripts.{good, bad, not_built, IsJudged}
+use Rattle.dsd_top.specs.Values.{IsBadValueAt, AreCanonicalForms}
+use Rattle.dsd_top.specs.Runs.{run_of}
+use Rattle.dsd_top.specs.Reports.{report_of}
+use Rattle.dsd_top.specs.declared.canonical.TheConstants.{INPUT_BYTES}
+use Rattle.dsd_top.specs.declared.canonical.InputFault.{InputFault}
+use Rattle.dsd_top.specs.declared.canonical.InputFault.TheVariants as input
+use Rattle.dsd_top.specs.declared.scripts.ScriptEvent.{ScriptEvent}
+use Rattle.dsd_top.specs.declared.scripts.ScriptFault.{ScriptFault}
+use Rattle.dsd_top.specs.declared.scripts.ScriptFault.TheVariants as script
+use Rattle.dsd_top.specs.declared.streams.ReadFault.{ReadFault}
+use Rattle.dsd_top.specs.declared.streams.ReadFault.TheVariants as reading
+use Rattle.dsd_top.specs.declared.words.Command.{Command}
+use Rattle.dsd_top.specs.declared.words.Command.TheVariants.{Run, CanonicalForms}
+use Rattle.dsd_top.specs.declared.once.Fault.{Fault}
+use Rattle.dsd_top.specs.declared.once.Fault.TheVariants as fault
+
+-- ---- by the command
+
+-- every status that comes
+abbrev pub IsStatus : ℕ → Type 0
+IsStatus n = Contains (0 ∷ 1 ∷ 2 ∷ 3 ∷ 4 ∷ 5 ∷ 6 ∷ 10 ∷ []) n
+
+-- those that come for a command, and where the words are none of the table's
+abbrev pub statuses_of : Option Command → List ℕ
+statuses_of None = 2 ∷ []
+statuses_of (Some Run) = 0 ∷ 1 ∷ 3 ∷ 4 ∷ 5 ∷ 10 ∷ []
+statuses_of (Some CanonicalForms) = 0 ∷ 1 ∷ 3 ∷ 4 ∷ 5 ∷ 6 ∷ []
+
+-- this holds of the command and the input, where the words are of the table and the input is told
+abbrev pub IfTold : Option Command → Option (List ℕ) → (Command → List ℕ → Type 0) → Type 0
+IfTold command left P = IfSome command (λ c. IfSome left (P c))
+
+-- what is written for a script
+abbrev pub answer_of : List ScriptEvent → List ℕ
+answer_of es = written (report_of (run_of es))
+
+-- the bytes are a script, and these its report
+abbrev pub IsReported : List ℕ → List ℕ → Type 0
+IsReported bytes out = (es : List ScriptEvent) × IsJudged bytes (good es) × (out ≡ answer_of es)
+
+-- what the command makes of the input
+abbrev pub IsAnswerOf : Command → List ℕ → List ℕ → Type 0
+IsAnswerOf Run bytes out = IsReported bytes out
+IsAnswerOf CanonicalForms bytes out = AreCanonicalForms bytes out
+
+-- value n of the input is malformed
+abbrev pub IsBadInputAt : Command → List ℕ → ℕ → Type 0
+IsBadInputAt Run bytes n = IsJudged bytes (bad n)
+IsBadInputAt CanonicalForms bytes n = (length bytes ≤ INPUT_BYTES) × IsBadValueAt bytes n
+
+-- value n of the input goes past what is built
+abbrev pub IsNotBuiltAt : Command → List ℕ → ℕ → Type 0
+IsNotBuiltAt Run bytes n = IsJudged bytes (not_built n)
+IsNotBuiltAt CanonicalForms bytes n = ⊥
+
+-- the input is longer than the command takes
+abbrev pub IsOver : Command → List ℕ → Type 0
+IsOver Run bytes = ⊥
+IsOver CanonicalForms bytes = INPUT_BYTES < length bytes
+
+-- ---- for any command
+
+-- the command's answer was appended
+abbrev pub IsAnswered : Command → List ℕ → Option (List ℕ) → Option (List ℕ) → Type 0
+IsAnswered c bytes before now = (out : List ℕ) × IsAnswerOf c bytes out × Appends before now out
+
+-- a front of the command's answer was appended
+abbrev pub IsCut : Command → List ℕ → Option (List ℕ) → Option (List ℕ) → Type 0
+IsCut c bytes before now = (out : List ℕ) × IsAnswerOf c bytes out × AppendsFront before now out
+
+abbrev pub IsBadInput : Command → List ℕ → Type 0
+IsBadInput c bytes = (n : ℕ) × IsBadInputAt c bytes n
+
+abbrev pub IsNotBuilt : Command → List ℕ → Type 0
+IsNotBuilt c bytes = (n : ℕ) × IsNotBuiltAt c bytes n
+
+-- ---- the causes of a status
+
+abbrev pub status_of : Fault → ℕ
+status_of (fault.BadInput n) = 1
+status_of fault.BadWords = 2
+status_of fault.ReadFailed = 3
+status_of fault.WriteFailed = 4
+status_of fault.NoMemory = 5
+status_of fault.TooLong = 6
+status_of (fault.NotBuilt n) = 10
+
+-- what a cause says of the input, where a command was making its answer
+abbrev pub IsCauseOf : Command → List ℕ → Fault → Type 0
+IsCauseOf c bytes (fault.BadInput n) = IsBadInputAt c bytes n
+IsCauseOf c bytes fault.BadWords = ⊥
+IsCauseOf c bytes fault.ReadFailed = ⊥
+IsCauseOf c bytes fault.WriteFailed = ⊥
+IsCauseOf c bytes fault.NoMemory = Unit {0}
+IsCauseOf c bytes fault.TooLong = IsOver c bytes
+IsCauseOf c bytes (fault.NotBuilt n) = IsNotBuiltAt c bytes n
+
+-- what a cause says of the input and of what was written
+abbrev pub Tells : Command → Fault → Option (List ℕ) → Option (List ℕ) → Option (List ℕ) → Type 0
+Tells c (fault.BadInput n) left before now = IfSome left (λ bytes. IsBadInputAt c bytes n) × (now ≡ before)
+Tells c fault.BadWords left before now = ⊥
+Tells c fault.ReadFailed left before now = now ≡ before
+Tells c fault.WriteFailed left before now = IfSome left (λ bytes. IsCut c bytes before now)
+Tells c fault.NoMemory left before now = now ≡ before
+Tells c fault.TooLong left before now = IfSome left (IsOver c) × (now ≡ before)
+Tells c (fault.NotBuilt n) left before now = IfSome left (λ bytes. IsNotBuiltAt c bytes n) × (now ≡ before)
+
+abbrev pub from_script : ScriptFault → Fault
+from_script (script.Bad n) = fault.BadInput n
+from_script (script.NotBuilt n) = fault.NotBuilt n
+from_script script.NoMemory = fault.NoMemory
+
+abbrev pub from_input : InputFault → Fault
+from_input (input.Bad n) = fault.BadInput n
+from_input input.TooLong = fault.TooLong
+from_input input.NoMemory = fault.NoMemory
+
+abbrev pub from_read : ReadFault → Fault
+from_read reading.Failed = fault.ReadFailed
+from_read reading.NoMemory = fault.NoMemory
