@@ -1,0 +1,109 @@
+//! The real host: files by name. It opens no port yet, so it gives no link.
+ghost use Rattle.std.specs.Prelude.{◌≡◌, None};
+ghost use Rattle.dsd_top.specs.Ports.{raised};
+
+use crate::streams::{ReadSource, WriteSink};
+use dsd_top::ports::{Accepted, FILE_READ, Host, HostFault, Listen, Source, Took};
+use std::alloc::Global;
+use std::fs;
+use std::net::TcpStream;
+use std::rt::Files;
+
+/// How many bytes one take from a file asks for.
+const PIECE: usize = 4096;
+
+/// The files of the machine.
+#[derive(Drop)]
+pub struct RealHost<'a, Rt> {
+    rt: &'a Rt,
+    stops: u64,
+    file_faults: u64,
+    port_faults: u64,
+}
+
+impl<'a, Rt: Files> RealHost<'a, Rt> {
+    pub fn new(rt: &'a Rt) -> RealHost<'a, Rt>
+        ensures { result.file_faults ≡ 0 }
+    {
+        RealHost {
+            rt,
+            stops: 0,
+            file_faults: 0,
+            port_faults: 0,
+        }
+    }
+}
+
+impl<'a, Rt: Files> Listen for RealHost<'a, Rt> {
+    type R = ReadSource<TcpStream>;
+
+    type W = WriteSink<TcpStream>;
+
+    ghost gave = { λ _. 0 };
+
+    ghost stops = { λ h. h.stops };
+
+    ghost faults = { λ _. 0 };
+
+    ghost address = { λ _. None };
+
+    fn faults(&self) -> u64 {
+        0
+    }
+
+    fn accept(&mut self, _alloc: Global) -> Accepted<Self::R, Self::W> {
+        self.stops = self.stops.saturating_add(1);
+        Accepted::Stopped
+    }
+}
+
+impl<'a, Rt: Files> Host for RealHost<'a, Rt> {
+    ghost files = { λ _. None };
+
+    ghost file_faults = { λ h. h.file_faults };
+
+    ghost port_faults = { λ h. h.port_faults };
+
+    fn file_faults(&self) -> u64 {
+        self.file_faults
+    }
+
+    fn port_faults(&self) -> u64 {
+        self.port_faults
+    }
+
+    fn file(&mut self, alloc: Global, name: &str) -> Result<Vec<u8>, HostFault> {
+        let Ok(file) = fs::open(self.rt, name) else {
+            self.file_faults = self.file_faults.saturating_add(1);
+            return Err(HostFault::Failed);
+        };
+        let read = front_of(alloc, &mut ReadSource::new(file));
+        if let Err(HostFault::Failed) = &read {
+            self.file_faults = self.file_faults.saturating_add(1);
+        }
+        read
+    }
+
+    fn port(&mut self, _alloc: Global, _addr: &str) -> Result<(), HostFault> {
+        self.port_faults = self.port_faults.saturating_add(1);
+        Err(HostFault::Failed)
+    }
+}
+
+/// The first bytes of a file, at most as many as are read of one.
+fn front_of<I: Source>(alloc: Global, file: &mut I) -> Result<Vec<u8>, HostFault> {
+    let mut front = Vec::new(alloc);
+    let mut buf = [0; PIECE];
+    for _ in 0..FILE_READ {
+        match file.take(&mut buf) {
+            Took::Some(n) => front.extend_from_slice(&buf[..n])?,
+            Took::End => break,
+            Took::Failed => return Err(HostFault::Failed),
+        }
+        if front.len() >= FILE_READ {
+            break;
+        }
+    }
+    front.truncate(FILE_READ);
+    Ok(front)
+}
