@@ -98,7 +98,8 @@ pub struct MemSink {
 }
 
 impl MemSink {
-    /// An empty sink that fails at these puts, and at each piece that its room doesn't hold.
+    /// An empty sink that fails at these puts, and at each piece that its room doesn't hold. An error is want of
+    /// memory for the room, and makes nothing.
     pub fn new(alloc: Global, room: usize, failing: Vec<u64>) -> Result<Self, AllocError>
         ensures held { IfOk result (λ sink. ⟦<MemSink as Sink>⟧.held sink ≡ Some []) }
         ensures finishes { IfOk result (λ sink. ⟦<MemSink as Sink>⟧.finishes sink ≡ 0) }

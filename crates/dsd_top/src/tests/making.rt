@@ -4,23 +4,23 @@ use pv_value::{Blob, Entry, Items, Pairs, Text, Value};
 use std::alloc::Global;
 use std::test::Fail;
 
-pub fn int(n: i128) -> Value {
+pub(super) fn int(n: i128) -> Value {
     Value::integer(n)
 }
 
-pub fn symbol(alloc: Global, word: &str) -> Result<Value, Fail> {
+pub(super) fn symbol(alloc: Global, word: &str) -> Result<Value, Fail> {
     Ok(Value::symbol(Text::from_str(alloc, word)?))
 }
 
-pub fn string(alloc: Global, text: &str) -> Result<Value, Fail> {
+pub(super) fn string(alloc: Global, text: &str) -> Result<Value, Fail> {
     Ok(Value::string(Text::from_str(alloc, text)?))
 }
 
-pub fn list<const N: usize>(alloc: Global, values: [Value; N]) -> Result<Value, Fail> {
+pub(super) fn list<const N: usize>(alloc: Global, values: [Value; N]) -> Result<Value, Fail> {
     Ok(Value::sequence(Items::from_vec(Vec::from_array(alloc, values)?)))
 }
 
-pub fn record<const N: usize>(
+pub(super) fn record<const N: usize>(
     alloc: Global,
     word: &str,
     fields: [Value; N],
@@ -29,23 +29,26 @@ pub fn record<const N: usize>(
     Ok(Value::record(alloc, symbol(alloc, word)?, fields)?)
 }
 
-pub fn entry(key: Value, value: Value) -> Entry {
+pub(super) fn entry(key: Value, value: Value) -> Entry {
     Entry { key, value }
 }
 
-pub fn dictionary<const N: usize>(alloc: Global, entries: [Entry; N]) -> Result<Value, Fail> {
+pub(super) fn dictionary<const N: usize>(
+    alloc: Global,
+    entries: [Entry; N],
+) -> Result<Value, Fail> {
     let pairs = Pairs::from_vec(Vec::from_array(alloc, entries)?);
     Ok(Value::dict(alloc, pairs)?)
 }
 
 /// `<bind <_>>`
-pub fn bound(alloc: Global) -> Result<Value, Fail> {
+pub(super) fn bound(alloc: Global) -> Result<Value, Fail> {
     let any = record(alloc, "_", [])?;
     record(alloc, "bind", [any])
 }
 
 /// `<group kind entries>`
-pub fn group<const N: usize>(
+pub(super) fn group<const N: usize>(
     alloc: Global,
     kind: Value,
     entries: [Entry; N],
@@ -55,20 +58,25 @@ pub fn group<const N: usize>(
 }
 
 /// `<Observe pattern #:[at entity]>`
-pub fn observe(alloc: Global, pattern: Value, at: i128, entity: i128) -> Result<Value, Fail> {
+pub(super) fn observe(
+    alloc: Global,
+    pattern: Value,
+    at: i128,
+    entity: i128,
+) -> Result<Value, Fail> {
     let reference = list(alloc, [int(at), int(entity)])?;
     let reference = Value::embedded(alloc, reference)?;
     record(alloc, "Observe", [pattern, reference])
 }
 
 /// `<Present who>`
-pub fn present(alloc: Global, who: &str) -> Result<Value, Fail> {
+pub(super) fn present(alloc: Global, who: &str) -> Result<Value, Fail> {
     let who = string(alloc, who)?;
     record(alloc, "Present", [who])
 }
 
 /// The pattern that captures who is present.
-pub fn who_is_present(alloc: Global) -> Result<Value, Fail> {
+pub(super) fn who_is_present(alloc: Global) -> Result<Value, Fail> {
     let label = symbol(alloc, "Present")?;
     let kind = record(alloc, "rec", [label])?;
     let who = bound(alloc)?;
@@ -77,14 +85,14 @@ pub fn who_is_present(alloc: Global) -> Result<Value, Fail> {
 
 /// An assertion at an object, under a handle.
 #[derive(Drop)]
-pub struct Asserted {
+pub(super) struct Asserted {
     pub oid: i128,
     pub handle: i128,
     pub value: Value,
 }
 
 /// `[[oid <A value handle>] ..]`
-pub fn packet<const N: usize>(alloc: Global, events: &[Asserted; N]) -> Result<Value, Fail> {
+pub(super) fn packet<const N: usize>(alloc: Global, events: &[Asserted; N]) -> Result<Value, Fail> {
     let mut items = Items::new(alloc);
     for e in events {
         let value = e.value.copy(alloc)?;
@@ -95,7 +103,7 @@ pub fn packet<const N: usize>(alloc: Global, events: &[Asserted; N]) -> Result<V
 }
 
 /// Connection 1 is opened, asserts these values at its object 0 under handles from 1 on, and so many turns are done.
-pub fn script<const N: usize>(
+pub(super) fn script<const N: usize>(
     alloc: Global,
     values: [Value; N],
     turns: i128,
@@ -120,7 +128,7 @@ pub fn script<const N: usize>(
 }
 
 /// The report where so many batches wait, and connection 1 was sent these assertions in one packet, or nothing.
-pub fn report<const N: usize>(
+pub(super) fn report<const N: usize>(
     alloc: Global,
     pending: i128,
     sent: [Asserted; N],
