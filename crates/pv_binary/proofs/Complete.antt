@@ -18,8 +18,8 @@ use Rattle.pv_binary.proofs.Varints.{counted_again}
 use Rattle.pv_binary.proofs.Texts.{text_again}
 use Rattle.pv_binary.proofs.Ints.{int_again}
 use Rattle.pv_binary.proofs.Doubles.{double_again}
-use Rattle.pv_binary.proofs.SetFrom.{set_from_ok}
-use Rattle.pv_binary.proofs.DictionaryFrom.{dictionary_from_ok}
+use Rattle.pv_binary.specs.SetFrom.{set_from_ok}
+use Rattle.pv_binary.specs.DictionaryFrom.{dictionary_from_ok}
 use Rattle.pv_binary.proofs.Zips.{left_permutes}
 
 -- p does not look like the end, and inner reads x from it, whatever follows

@@ -18,7 +18,7 @@ use Rattle.pv_binary.specs.declared.faults.BinKind.{BinKind}
 use Rattle.pv_binary.specs.declared.faults.BinKind.TheVariants as kind
 use Rattle.pv_binary.proofs.Binds.{err, err_same, bind_err, within_err, chosen}
 use Rattle.pv_binary.proofs.Varints.{IsBytes}
-use Rattle.pv_binary.proofs.SetFrom.{differ_from_distinct}
+use Rattle.pv_binary.specs.SetFrom.{differ_from_distinct}
 use Rattle.pv_binary.proofs.Sound.{Found, FoundItems, FoundPairs, items_sound, pairs_sound, value_sound}
 use Rattle.pv_binary.proofs.Complete.{again}
 use Rattle.pv_binary.proofs.Cuts.{AtomWrong, cut, faulty, no_tag as other_tag, atom_fails, never_cut}

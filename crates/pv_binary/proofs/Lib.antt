@@ -1,17 +1,14 @@
-pub mod Ascending
 pub mod Binds
 pub mod Bytes
 pub mod Complete
 pub mod Counts
 pub mod Cuts
-pub mod DictionaryFrom
 pub mod Doubles
 pub mod Exact
 pub mod Ints
 pub mod Items
 pub mod Numbers
 pub mod OneOfThree
-pub mod SetFrom
 pub mod Sound
 pub mod Stops
 pub mod TagBytes

@@ -21,8 +21,8 @@ use Rattle.pv_binary.proofs.Varints.{IsBytes, counted_sound, counted_small}
 use Rattle.pv_binary.proofs.Texts.{text_sound}
 use Rattle.pv_binary.proofs.Ints.{int_sound}
 use Rattle.pv_binary.proofs.Doubles.{double_sound}
-use Rattle.pv_binary.proofs.SetFrom.{set_from_is}
-use Rattle.pv_binary.proofs.DictionaryFrom.{dictionary_from_is}
+use Rattle.pv_binary.specs.SetFrom.{set_from_is}
+use Rattle.pv_binary.specs.DictionaryFrom.{dictionary_from_is}
 use Rattle.pv_binary.proofs.Zips.{right_permutes}
 
 -- a front of the bytes spells the value

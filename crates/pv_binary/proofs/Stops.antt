@@ -18,7 +18,7 @@ use Rattle.pv_binary.specs.declared.faults.BinKind.TheVariants as kind
 use Rattle.pv_binary.proofs.Binds.{err, err_same}
 use Rattle.pv_binary.proofs.Varints.{IsBytes, IsBytes-append}
 use Rattle.pv_binary.proofs.Items.{items_none, items_next, items_fail, pairs_none, pairs_end, pairs_next, pairs_fail_key, pairs_fail_value}
-use Rattle.pv_binary.proofs.SetFrom.{distinct_from_differ}
+use Rattle.pv_binary.specs.SetFrom.{distinct_from_differ}
 use Rattle.pv_binary.proofs.Complete.{Parses, items_all, agains}
 use Rattle.pv_binary.proofs.Cuts.{cut_is_atom, cut_read, fault_is_atom, fault_read}
 

@@ -1,9 +1,12 @@
+pub mod Ascending
+pub mod DictionaryFrom
 pub mod Fronts
 pub mod Numbers
 pub mod OneOfThree
 pub mod Reading
 pub mod Reads
 pub mod Results
+pub mod SetFrom
 pub mod Spells
 pub mod Tags
 pub mod Written

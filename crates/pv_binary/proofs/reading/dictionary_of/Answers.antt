@@ -1,4 +1,4 @@
-use Rattle.pv_binary.proofs.DictionaryFrom.{dictionary_from_ok, dictionary_from_repeat}
+use Rattle.pv_binary.specs.DictionaryFrom.{dictionary_from_ok, dictionary_from_repeat}
 use Rattle.pv_binary.proofs.reading.dictionary_of.Goals as goal
 
 pub returns-in-Ok : goal.returns-in-Ok

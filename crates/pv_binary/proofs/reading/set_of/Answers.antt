@@ -1,4 +1,4 @@
-use Rattle.pv_binary.proofs.SetFrom.{set_from_ok, set_from_repeat}
+use Rattle.pv_binary.specs.SetFrom.{set_from_ok, set_from_repeat}
 use Rattle.pv_binary.proofs.reading.set_of.Goals as goal
 
 pub returns-in-Ok : goal.returns-in-Ok

@@ -17,9 +17,8 @@ use Rattle.pv_value.specs.WellFormed.{KeysAscend}
 use Rattle.pv_binary.specs.Reading.{ascending_by, pair_order, all_differ, dictionary_from}
 use Rattle.pv_binary.specs.declared.faults.BinKind.{BinKind}
 use Rattle.pv_binary.specs.declared.faults.BinKind.TheVariants.{Duplicate}
-use Rattle.pv_binary.proofs.Ascending.{ascending_sorted, ascending_is, ascending_moves}
-use Rattle.pv_binary.proofs.SetFrom.{differ_from_distinct, distinct_from_differ, repeat_fails, distinct_from_ascend}
-use Rattle.pv_binary.proofs.Binds.{ok_same}
+use Rattle.pv_binary.specs.Ascending.{ascending_sorted, ascending_is, ascending_moves}
+use Rattle.pv_binary.specs.SetFrom.{differ_from_distinct, distinct_from_differ, repeat_fails, distinct_from_ascend, value_or}
 
 abbrev keys : List (Plain × Plain) → List Plain
 keys ps = map (λ (p : Plain × Plain). p.0) ps
@@ -91,5 +90,5 @@ dictionary_from_is ps v e = by (all_differ (keys ps)) refl e
         let qs = ascending_by pair_order ps in
         let moved = ascending_moves pair_order pairs_total pairs_same ps (distinct_by_keys ps apart) in
         let still = IsDistinct-IsPermutation (eq_by_cmp order) (eq_by_cmp_equiv order_total).symm (keys ps) (keys qs) (IsPermutation-map (λ (p : Plain × Plain). p.0) ps qs moved) apart in
-        (qs, moved, keys_sorted qs still (ascending_sorted pair_order pairs_total pairs_same ps), sym (ok_same (dictionary (pairs qs)) v k))
+        (qs, moved, keys_sorted qs still (ascending_sorted pair_order pairs_total pairs_same ps), sym (ap (value_or v) k))
     by false d k = cc

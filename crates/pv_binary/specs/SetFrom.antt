@@ -17,8 +17,7 @@ use Rattle.pv_value.specs.WellFormed.{Ascend}
 use Rattle.pv_binary.specs.Reading.{ascending_by, all_differ, set_from}
 use Rattle.pv_binary.specs.declared.faults.BinKind.{BinKind}
 use Rattle.pv_binary.specs.declared.faults.BinKind.TheVariants.{Duplicate}
-use Rattle.pv_binary.proofs.Ascending.{ascending_sorted, ascending_is, ascending_moves, or_false}
-use Rattle.pv_binary.proofs.Binds.{ok_same}
+use Rattle.pv_binary.specs.Ascending.{ascending_sorted, ascending_is, ascending_moves, or_false}
 
 -- ---- the test
 
@@ -71,10 +70,14 @@ pub set_from_repeat : (xs : List Plain) (p : ℕ) → IsFirstRepeat xs p → set
 unfolding set_from
 set_from_repeat xs p h = rw (repeat_fails xs p h.0 h.1 h.2)
 
+abbrev pub value_or : Plain → Result Plain BinKind → Plain
+value_or v (Ok x) = x
+value_or v (Err k) = v
+
 pub set_from_is : (xs : List Plain) (v : Plain) → set_from xs ≡ Ok v → (ys : List Plain) × IsPermutation xs ys × Ascend ys × (v ≡ set_of (plains ys))
 unfolding set_from
 set_from_is xs v e = by (all_differ xs) refl e
   where
     by : (b : Bool) → all_differ xs ≡ b → cond {A = Result Plain BinKind} b (Ok (set_of (plains (ascending_by order xs)))) (Err Duplicate) ≡ Ok v → (ys : List Plain) × IsPermutation xs ys × Ascend ys × (v ≡ set_of (plains ys))
-    by true d k = (ascending_by order xs, ascending_moves order order_total order_same xs (distinct_from_differ xs d), ascending_sorted order order_total order_same xs, sym (ok_same (set_of (plains (ascending_by order xs))) v k))
+    by true d k = (ascending_by order xs, ascending_moves order order_total order_same xs (distinct_from_differ xs d), ascending_sorted order order_total order_same xs, sym (ap (value_or v) k))
     by false d k = cc
