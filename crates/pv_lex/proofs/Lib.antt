@@ -1,7 +1,9 @@
 pub mod Fronts
+pub mod HexDecoded
 pub mod Items
 pub mod Digits
 pub mod Told
 pub mod Bare
+pub mod Base64Decoded
 pub mod Texts
 pub mod Streams

@@ -14,3 +14,4 @@ pub mod QuotedLaws
 pub mod Results
 pub mod Slices
 pub mod TokenLaws
+pub mod Unspaced

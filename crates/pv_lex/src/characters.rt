@@ -1,6 +1,9 @@
 //! Characters, and what is passed over between tokens.
-ghost use Rattle.std.specs.Prelude.{◌≡◌, ◌≤◌, ◌<◌, length, IfSome};
+ghost use Rattle.std.specs.Prelude.{◌≡◌, ◌≤◌, ◌<◌, length, IfOk, IfSome};
 ghost use Rattle.pv_lex.specs.Characters.{is_line_end, is_space, is_digit, is_letter, is_bare_sign, is_bare, hex_digit, begins_comment, after_gap, after_bare, after_digits};
+ghost use Rattle.pv_lex.specs.Unspaced.{without_spaces};
+
+use std::alloc::{AllocError, Global};
 
 /// What follows white space and comments.
 pub fn skip_gap(bytes: &[u8]) -> &[u8]
@@ -20,6 +23,19 @@ pub fn skip_gap(bytes: &[u8]) -> &[u8]
         rest = after;
     }
     rest
+}
+
+/// The bytes that are no white space.
+pub(crate) fn without_spaces(alloc: Global, bytes: &[u8]) -> Result<Vec<u8>, AllocError>
+    ensures { IfOk result (λ v. v.items ≡ without_spaces bytes.now) }
+{
+    let mut out = Vec::new(alloc);
+    for b in bytes {
+        if !is_space(*b) {
+            out.push(*b)?;
+        }
+    }
+    Ok(out)
 }
 
 /// What follows the bytes of a bare token.
@@ -106,7 +122,7 @@ fn is_bare_sign(b: u8) -> bool
 }
 
 /// Part of a bare token, as every byte of a character from 80 hexadecimal up.
-pub(crate) fn is_bare(b: u8) -> bool
+pub fn is_bare(b: u8) -> bool
     ensures { result ≡ is_bare b }
 {
     is_letter(b) || is_digit(b) || is_bare_sign(b) || b >= 0x80

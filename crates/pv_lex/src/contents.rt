@@ -3,9 +3,9 @@
 ghost use Rattle.std.specs.Prelude.{◌≡◌, ◌<◌, IfOk, option_map, vec_items, string_bytes};
 ghost use Rattle.pv_lex.specs.Contents.{inside, if_utf8, quoted_text, ascii_text, hex_text, base64_text, double_text};
 
-use crate::base64::base64_bytes;
-use crate::hex::{double_bits, hex_bytes};
+use crate::hexadecimal::{double_bits, hex_bytes};
 use crate::quoted::{ascii_bytes, unescaped};
+use crate::sextets::base64_bytes;
 use std::alloc::{AllocError, Global};
 
 /// A string `"..."`, or with the quote `|` a quoted symbol.

@@ -3,13 +3,13 @@ ghost use Rattle.std.specs.Prelude.{suc, ◌≡◌, ◌≤◌, ◌<◌, ◌+◌,
 ghost use Rattle.pv_lex.specs.Lexing.{BeginsBare, before, before_close, mark_kind, bare_kind, bare_at, quoted_at, ascii_at, judged, hex_at, base64_at, double_at, double_mark_at, hex_mark_at, hash_at, long_at, token_at, next_of, next_only, tokens_in, text_tokens};
 ghost use Rattle.pv_lex.specs.Results.{Answers, Gives};
 
-use crate::base64::{behind_base64, is_base64};
 use crate::characters::{is_bare, skip_bare, skip_gap};
 use crate::faults::{TextFault, TextKind};
-use crate::hex::{behind_hex, is_double, is_hex};
+use crate::hexadecimal::{behind_hex, is_double, is_hex};
 use crate::kinds::{Token, TokenKind, Tokens};
 use crate::numbers::{is_decimal_double, is_integer_text, is_wide};
 use crate::quoted::{behind_ascii, behind_quote};
+use crate::sextets::{behind_base64, is_base64};
 use std::alloc::Global;
 
 /// All tokens of a text, which must be UTF-8 as a whole, in order; or the first fault.
@@ -17,7 +17,7 @@ use std::alloc::Global;
 pub fn tokens(alloc: Global, text: &[u8]) -> Result<Tokens, TextFault>
     ensures { Gives (λ t. t) result (text_tokens text.now) }
 {
-    let Ok(_) = std::str::from_utf8(text) else {
+    let Ok(_) = simdutf8::compat::from_utf8(text) else {
         return Err(TextFault::Bad(TextKind::BadUtf8, 0));
     };
     all_tokens(alloc, text)

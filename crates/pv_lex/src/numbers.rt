@@ -82,7 +82,7 @@ fn is_negative(text: &[u8]) -> bool
 }
 
 /// An optional sign and digits.
-pub(crate) fn is_integer_text(text: &[u8]) -> bool
+pub fn is_integer_text(text: &[u8]) -> bool
     ensures { result ≡ is_integer_text text.now }
 {
     let digits = skip_sign(text);
@@ -90,7 +90,7 @@ pub(crate) fn is_integer_text(text: &[u8]) -> bool
 }
 
 /// That with a fraction, an exponent or both.
-pub(crate) fn is_decimal_double(text: &[u8]) -> bool
+pub fn is_decimal_double(text: &[u8]) -> bool
     ensures { result ≡ is_decimal_double text.now }
 {
     let digits = skip_sign(text);

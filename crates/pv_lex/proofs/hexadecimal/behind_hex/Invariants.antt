@@ -1,6 +1,6 @@
 use Rattle.std.proofs.Common.{◌≡◌, ◌≤◌, length}
 use Rattle.pv_lex.specs.ByteTexts.{behind_close, may_stand_in_hex}
-use Rattle.pv_lex.proofs.hex.behind_hex.Given as goal
+use Rattle.pv_lex.proofs.hexadecimal.behind_hex.Given as goal
 
 abbrev pub invariant-loop-first : goal.invariant-loop-first
 invariant-loop-first l = (behind_close may_stand_in_hex 34 l.rest ≡ behind_close may_stand_in_hex 34 l.bytes) × (length l.rest ≤ length l.bytes)

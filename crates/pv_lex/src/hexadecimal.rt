@@ -1,10 +1,11 @@
 //! Hexadecimal text, in either case and with white space.
-ghost use Rattle.std.specs.Prelude.{◌≡◌, ◌++◌, ◌<◌, length, IfOk, option_map, vec_items, is_some};
+ghost use Rattle.std.specs.Prelude.{◌≡◌, ◌<◌, length, IfOk, option_map, vec_items, is_some};
 ghost use Rattle.pv_lex.specs.ByteTexts.{hex_bytes, double_bits, behind_close, may_stand_in_hex};
 ghost use Rattle.pv_lex.specs.Results.{Answers};
 
-use crate::characters::{hex_digit, is_space};
+use crate::characters::{hex_digit, is_space, without_spaces};
 use crate::faults::TextKind;
+use hex::FromHexError;
 use std::alloc::{AllocError, Global};
 
 /// What follows the closing quote.
@@ -35,25 +36,11 @@ fn may_stand(b: u8) -> bool
 pub(crate) fn hex_bytes(alloc: Global, text: &[u8]) -> Result<Option<Vec<u8>>, AllocError>
     ensures { IfOk result (λ r. option_map vec_items r ≡ hex_bytes text.now) }
 {
-    let mut out = Vec::new(alloc);
-    let mut high = None;
-    for b in text {
-        if is_space(*b) {
-            continue;
-        }
-        let Some(digit) = hex_digit(*b) else {
-            return Ok(None);
-        };
-        let Some(first) = high else {
-            high = Some(digit);
-            continue;
-        };
-        out.push(16 * first + digit)?;
-        high = None;
-    }
-    match high {
-        None => Ok(Some(out)),
-        Some(_) => Ok(None),
+    let digits = without_spaces(alloc, text)?;
+    match hex::decode(alloc, digits.as_slice()) {
+        Ok(bytes) => Ok(Some(bytes)),
+        Err(FromHexError::OutOfMemory) => Err(AllocError),
+        Err(_) => Ok(None),
     }
 }
 

@@ -1,7 +1,7 @@
 use Rattle.std.proofs.Common.{sym}
 use Rattle.pv_lex.specs.ByteTexts.{hex_bytes, double_bits}
 use Rattle.pv_lex.proofs.Told.{bits_told, bits_none}
-use Rattle.pv_lex.proofs.hex.is_double.Goals as goal
+use Rattle.pv_lex.proofs.hexadecimal.is_double.Goals as goal
 
 pub returns-in-Some : goal.returns-in-Some
 unfolding double_bits

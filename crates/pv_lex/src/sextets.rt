@@ -1,10 +1,15 @@
 //! Base64 in either alphabet, with or without padding and with white space.
-ghost use Rattle.std.specs.Prelude.{◌≡◌, ◌++◌, ◌<◌, ◌≤◌, ◌^◌, length, IfOk, IfSome, OnOk, option_map, vec_items, is_some};
-ghost use Rattle.pv_lex.specs.ByteTexts.{sextet, group_bytes, last_bytes, is_padding, base64_bytes, behind_close, may_stand_in_base64};
+ghost use Rattle.std.specs.Prelude.{◌≡◌, ◌<◌, length, IfOk, IfSome, option_map, vec_items, is_some};
+ghost use Rattle.pv_lex.specs.ByteTexts.{sextet, last_bytes, is_padding, base64_bytes, behind_close, may_stand_in_base64};
+ghost use Rattle.std.specs.Result.{result_ok};
+ghost use Rattle.base64.specs.GeneralPurpose.{IsBytes, IsStrict, decode_of, encode_of};
+ghost use Rattle.pv_lex.specs.Unspaced.{standard_digit, standard_digits};
 ghost use Rattle.pv_lex.specs.Results.{Answers};
 
 use crate::characters::is_space;
 use crate::faults::TextKind;
+use base64::DecodeAllocError;
+use base64::engine::general_purpose::{GeneralPurpose, STANDARD, STANDARD_NO_PAD};
 use std::alloc::{AllocError, Global};
 
 /// What follows the closing bracket.
@@ -31,38 +36,57 @@ fn may_stand(b: u8) -> bool
     is_space(b) || b == b'=' || sextet(b).is_some()
 }
 
-/// The bytes that the text stands for.
+/// The bytes that the text stands for: padding is either whole, and then the digits and it come in fours, or left out.
 pub(crate) fn base64_bytes(alloc: Global, text: &[u8]) -> Result<Option<Vec<u8>>, AllocError>
     ensures { IfOk result (λ r. option_map vec_items r ≡ base64_bytes text.now) }
 {
+    let digits = standard_digits(alloc, text)?;
+    if digits.len() % 4 == 0 {
+        decoded(alloc, &STANDARD, digits.as_slice())
+    } else {
+        decoded(alloc, &STANDARD_NO_PAD, digits.as_slice())
+    }
+}
+
+/// The bytes whose encoding the digits are.
+fn decoded(
+    alloc: Global,
+    engine: &GeneralPurpose,
+    digits: &[u8],
+) -> Result<Option<Vec<u8>>, AllocError>
+    requires { IsStrict engine.now }
+    ensures value { IfOk result (λ r. option_map vec_items r ≡ result_ok (decode_of engine.now digits.now)) }
+    ensures exact { IfOk result (λ r. IfSome r (λ v. (digits.now ≡ encode_of engine.now v.items) × IsBytes v.items)) }
+{
+    match engine.decode(alloc, digits) {
+        Ok(bytes) => Ok(Some(bytes)),
+        Err(DecodeAllocError::OutOfMemory) => Err(AllocError),
+        Err(DecodeAllocError::DecodeError(_)) => Ok(None),
+    }
+}
+
+/// The text without white space, in the standard alphabet.
+fn standard_digits(alloc: Global, text: &[u8]) -> Result<Vec<u8>, AllocError>
+    ensures { IfOk result (λ v. v.items ≡ standard_digits text.now) }
+{
     let mut out = Vec::new(alloc);
-    let mut count: u32 = 0;
-    let mut bits: u32 = 0;
-    let mut rest = text;
-    while let Some((first, after)) = rest.split_first() {
-        rest = after;
-        if is_space(*first) {
-            continue;
-        }
-        if *first == b'=' {
-            if count == 0 || !is_padding(3 - count, after) {
-                return Ok(None);
-            }
-            return push_last(out, count, bits);
-        }
-        let Some(digit) = sextet(*first) else {
-            return Ok(None);
-        };
-        if count == 3 {
-            push_group(&mut out, 64 * bits + digit)?;
-            count = 0;
-            bits = 0;
-        } else {
-            count += 1;
-            bits = 64 * bits + digit;
+    for b in text {
+        if !is_space(*b) {
+            out.push(standard_digit(*b))?;
         }
     }
-    push_last(out, count, bits)
+    Ok(out)
+}
+
+/// The digit of the standard alphabet in place of one of the alphabet for URLs.
+fn standard_digit(b: u8) -> u8
+    ensures { result ≡ standard_digit b }
+{
+    match b {
+        b'-' => b'+',
+        b'_' => b'/',
+        _ => b,
+    }
 }
 
 /// Whether the text stands for bytes.
@@ -112,37 +136,6 @@ fn is_padding(m: u32, bytes: &[u8]) -> bool
         due -= 1;
     }
     due == 0
-}
-
-/// The three bytes of a whole group, whose digits form `bits`.
-fn push_group(out: &mut Vec<u8>, bits: u32) -> Result<(), AllocError>
-    requires { bits < 2 ^ 24 }
-    ensures { OnOk result (out.new.items ≡ out.old.items ++ group_bytes bits) }
-{
-    out.push((bits / 65536) as u8)?;
-    out.push((bits / 256 % 256) as u8)?;
-    out.push((bits % 256) as u8)?;
-    Ok(())
-}
-
-/// With the bytes of a last group of `count` digits, which form `bits`.
-fn push_last(out: Vec<u8>, count: u32, bits: u32) -> Result<Option<Vec<u8>>, AllocError>
-    requires count { count ≤ 3 }
-    requires bits { bits < 64 ^ count }
-    ensures { IfOk result (λ r. option_map vec_items r ≡ option_map (λ s. out.items ++ s) (last_bytes count bits)) }
-{
-    let mut out = out;
-    if !is_last(count, bits) {
-        return Ok(None);
-    }
-    if count == 2 {
-        out.push((bits / 16) as u8)?;
-    }
-    if count == 3 {
-        out.push((bits / 1024) as u8)?;
-        out.push((bits / 4 % 256) as u8)?;
-    }
-    Ok(Some(out))
 }
 
 /// Whether `count` digits may be the last group: no bits may be left over.

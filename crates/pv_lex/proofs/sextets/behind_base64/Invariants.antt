@@ -1,6 +1,6 @@
 use Rattle.std.proofs.Common.{◌≡◌, ◌≤◌, length}
 use Rattle.pv_lex.specs.ByteTexts.{behind_close, may_stand_in_base64}
-use Rattle.pv_lex.proofs.base64.behind_base64.Given as goal
+use Rattle.pv_lex.proofs.sextets.behind_base64.Given as goal
 
 abbrev pub invariant-loop-first : goal.invariant-loop-first
 invariant-loop-first l = (behind_close may_stand_in_base64 93 l.rest ≡ behind_close may_stand_in_base64 93 l.bytes) × (length l.rest ≤ length l.bytes)
