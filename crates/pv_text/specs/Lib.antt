@@ -1,0 +1,9 @@
+pub mod Ends
+pub mod Gaps
+pub mod OneWay
+pub mod Reading
+pub mod Reads
+pub mod Results
+pub mod Spells
+pub mod Stops
+pub mod TokenFaults

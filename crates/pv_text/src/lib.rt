@@ -1,0 +1,15 @@
+//! The text form of values: reading it, by the Preserves text syntax.
+#![tactic(auto)]
+
+mod atoms;
+mod gaps;
+mod laws;
+mod reading;
+#[cfg(test)]
+mod tests;
+mod values;
+
+pub use laws::{text_is_judged_as_a_whole, texts_are_read_one_way};
+pub use pv_binary::READ_DEPTH;
+pub use pv_lex::{TextFault, TextKind};
+pub use values::{next_value, read_all, read_text};
