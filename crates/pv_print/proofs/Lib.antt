@@ -1,0 +1,10 @@
+pub mod Ascii
+pub mod Base64
+pub mod Doubles
+pub mod Encoded
+pub mod Escaped
+pub mod Integers
+pub mod Measures
+pub mod ReadBack
+pub mod Spelled
+pub mod Utf8

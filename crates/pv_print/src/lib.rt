@@ -1,0 +1,13 @@
+//! The one compact text of a value, by the Preserves text syntax.
+#![tactic(auto)]
+
+mod atoms;
+mod bytes;
+mod laws;
+mod printing;
+mod symbols;
+#[cfg(test)]
+mod tests;
+
+pub use laws::{printed_texts_read_back, printed_texts_spell};
+pub use printing::print;
