@@ -23,7 +23,7 @@ fn bound(alloc: Global) -> Result<Value, Fail> {
 }
 
 /// `[[0 <A 5 handle>]]`
-pub fn five(alloc: Global, handle: u64) -> Result<Turn, Fail> {
+pub(crate) fn five(alloc: Global, handle: u64) -> Result<Turn, Fail> {
     let mut events = Vec::new(alloc);
     let event = Event::Assert(Value::integer(5), handle);
     events.push(TurnEvent { oid: 0, event })?;
