@@ -6,8 +6,8 @@ use Rattle.dsd_top.specs.declared.once.Fault.TheVariants.{BadInput, BadWords, Re
 use Rattle.dsd_top.specs.declared.streams.ReadFault.{ReadFault}
 use Rattle.dsd_top.specs.declared.streams.ReadFault.TheVariants as reading
 use Rattle.dsd_top.specs.declared.words.Command.{Command}
-use Rattle.dsd_top.specs.declared.words.Command.TheVariants.{Run, CanonicalForms}
-use Rattle.dsd_top.specs.Statuses.{IsStatus, statuses_of, IsBadInputAt, IsNotBuiltAt, IsBadInput, IsNotBuilt, IsOver, IsCut, status_of, from_read, IsCauseOf, Tells}
+use Rattle.dsd_top.specs.declared.words.Command.TheVariants.{Run, RunText, CanonicalForms, Printed, Written}
+use Rattle.dsd_top.specs.Statuses.{IsStatus, statuses_by, IsBadInputAt, IsNotBuiltAt, IsBadInput, IsNotBuilt, IsOver, IsCut, status_of, from_read, IsCauseOf, Tells}
 
 pub is_status : (f : Fault) → IsStatus (status_of f)
 is_status (BadInput n) = (1, lit< tt, refl)
@@ -19,31 +19,29 @@ is_status TooLong = (6, lit< tt, refl)
 is_status (NotBuilt n) = (7, lit< tt, refl)
 
 -- a cause that stands of the input is one of the command's
-pub cause_known : (c : Command) (bytes : List ℕ) (f : Fault) → IsCauseOf c bytes f → Contains (statuses_of (Some c)) (status_of f)
-cause_known Run bytes (BadInput n) h = (1, lit< tt, refl)
-cause_known CanonicalForms bytes (BadInput n) h = (1, lit< tt, refl)
-cause_known Run bytes NoMemory h = (4, lit< tt, refl)
-cause_known CanonicalForms bytes NoMemory h = (4, lit< tt, refl)
-cause_known CanonicalForms bytes TooLong h = (5, lit< tt, refl)
-cause_known Run bytes (NotBuilt n) h = (5, lit< tt, refl)
-cause_known Run bytes BadWords h = absurd h
-cause_known CanonicalForms bytes BadWords h = absurd h
-cause_known Run bytes ReadFailed h = absurd h
-cause_known CanonicalForms bytes ReadFailed h = absurd h
-cause_known Run bytes WriteFailed h = absurd h
-cause_known CanonicalForms bytes WriteFailed h = absurd h
+pub cause_known : (c : Command) (bytes : List ℕ) (f : Fault) → IsCauseOf c bytes f → Contains (statuses_by c) (status_of f)
+cause_known c bytes (BadInput n) h = (1, lit< tt, refl)
+cause_known c bytes BadWords h = absurd h
+cause_known c bytes ReadFailed h = absurd h
+cause_known c bytes WriteFailed h = absurd h
+cause_known c bytes NoMemory h = (4, lit< tt, refl)
 cause_known Run bytes TooLong h = absurd h
+cause_known RunText bytes TooLong h = absurd h
+cause_known CanonicalForms bytes TooLong h = (5, lit< tt, refl)
+cause_known Printed bytes TooLong h = (5, lit< tt, refl)
+cause_known Written bytes TooLong h = (5, lit< tt, refl)
+cause_known Run bytes (NotBuilt n) h = (5, lit< tt, refl)
+cause_known RunText bytes (NotBuilt n) h = (5, lit< tt, refl)
 cause_known CanonicalForms bytes (NotBuilt n) h = absurd h
+cause_known Printed bytes (NotBuilt n) h = absurd h
+cause_known Written bytes (NotBuilt n) h = absurd h
 
-pub read_known : (c : Command) (e : ReadFault) → Contains (statuses_of (Some c)) (status_of (from_read e))
-read_known Run reading.Failed = (2, lit< tt, refl)
-read_known CanonicalForms reading.Failed = (2, lit< tt, refl)
-read_known Run reading.NoMemory = (4, lit< tt, refl)
-read_known CanonicalForms reading.NoMemory = (4, lit< tt, refl)
+pub read_known : (c : Command) (e : ReadFault) → Contains (statuses_by c) (status_of (from_read e))
+read_known c reading.Failed = (2, lit< tt, refl)
+read_known c reading.NoMemory = (4, lit< tt, refl)
 
-pub write_known : (c : Command) → Contains (statuses_of (Some c)) (status_of WriteFailed)
-write_known Run = (3, lit< tt, refl)
-write_known CanonicalForms = (3, lit< tt, refl)
+pub write_known : (c : Command) → Contains (statuses_by c) (status_of WriteFailed)
+write_known c = (3, lit< tt, refl)
 
 pub read_failed : (f : Fault) → status_of f ≡ 3 → f ≡ ReadFailed
 read_failed (BadInput n) e = absurd (omega arith)
@@ -127,8 +125,8 @@ module _ (c : Command) (left before now : Option (List ℕ)) where
   is_unwritten (NotBuilt n) h e = h.1
 
 -- the cause that an error is
-pub known_err : {T : Type 0} (c : Command) (r : Result T Fault) (x : Fault) → IsErrAnd r (λ f. f ≡ x) → Contains (statuses_of (Some c)) (status_of x) → IfErr r (λ f. Contains (statuses_of (Some c)) (status_of f))
+pub known_err : {T : Type 0} (c : Command) (r : Result T Fault) (x : Fault) → IsErrAnd r (λ f. f ≡ x) → Contains (statuses_by c) (status_of x) → IfErr r (λ f. Contains (statuses_by c) (status_of f))
 known_err c (Ok t) x h k = tt
 known_err c (Err f) x h k =
-    let P : Fault → Type 0 = λ y. Contains (statuses_of (Some c)) (status_of y) in
+    let P : Fault → Type 0 = λ y. Contains (statuses_by c) (status_of y) in
     subst P (sym h) k

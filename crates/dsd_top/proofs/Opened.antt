@@ -1,5 +1,6 @@
 -- A script opens one connection at most.
 use Rattle.std.proofs.Common.{◌≡◌, ℕ, zero, suc, ◌+◌, ◌≤◌, Bool, true, false, cond, nat_lt, lit≤, List, [], ◌∷◌, ◌++◌, refl, sym, ap, ◌∙◌, subst, arith, Option, Some, None}
+use Rattle.pv_value.specs.Plain.{Plain}
 use Rattle.hub_core.specs.State.{State, Batch, Actor, find_actor}
 use Rattle.hub_core.specs.Machine.{After, spaces, opening, is_system, is_worn, unchanged, done, step, turn_from, turn_of, packet_of, arrive}
 use Rattle.hub_core.specs.Words.{actor_of}
@@ -10,7 +11,8 @@ use Rattle.hub_core.specs.declared.hub.Reply.TheVariants.{Worn, Barred}
 use Rattle.hub_core.specs.declared.packets.TurnEvent.{TurnEvent}
 use Rattle.dsd_top.specs.declared.scripts.ScriptEvent.{ScriptEvent}
 use Rattle.dsd_top.specs.declared.scripts.ScriptEvent.TheVariants.{Open, Bytes, Drain}
-use Rattle.dsd_top.specs.Scripts.{Before, start, after, MayStand, Leads, IsScript, good, IsJudged}
+use Rattle.dsd_top.specs.Scripts.{Before, start, after, MayStand, InOrder, EventsOf, Leads, good, IsJudged}
+use Rattle.dsd_top.specs.TextScripts.{IsTextJudged}
 use Rattle.dsd_top.specs.Runs.{with_turn, drained, after_event, after_events, run_of, IsAt}
 use Rattle.hub_core.specs.ReplayLaws.{run_from-more}
 
@@ -84,14 +86,32 @@ event_keeps c steps (Drain n) i m =
     let same = drained_keeps steps n in
     (λ e. same ∙ i.0 e, omega (arith, same, i.1))
 
-events_keep : (c : Before) (bytes : List ℕ) (es : List ScriptEvent) (d : Before) (rest : List ℕ) (steps : List Step) → Leads c bytes es d rest → IsOpened c steps → opened_by (after_events steps es) ≤ 1
-events_keep c bytes [] d rest steps l i = i.1
-events_keep c bytes (e ∷ es) d rest steps l i = events_keep (after c e) l.0 es d rest (after_event steps e) l.2 (event_keeps c steps e i l.1.is.1)
+events_keep : (c : Before) (es : List ScriptEvent) (steps : List Step) → InOrder c es → IsOpened c steps → opened_by (after_events steps es) ≤ 1
+events_keep c [] steps o i = i.1
+events_keep c (e ∷ es) steps o i = events_keep (after c e) es (after_event steps e) o.1 (event_keeps c steps e i o.0)
 
-pub one_connection : (bytes : List ℕ) (es : List ScriptEvent) → IsScript bytes es → (replay spaces (run_of es)).opened ≤ 1
-one_connection bytes es s = events_keep start bytes es s.0 [] [] s.1 (λ e. refl, lit≤ tt)
+one_connection : (es : List ScriptEvent) → InOrder start es → (replay spaces (run_of es)).opened ≤ 1
+one_connection es o = events_keep start es [] o (λ e. refl, lit≤ tt)
 
-pub opened_at : (bytes : List ℕ) (es : List ScriptEvent) (s : State) (sent : List (List TurnEvent)) → IsJudged bytes (good es) → IsAt (run_of es) s sent → s.opened ≤ 1
-opened_at bytes es s sent judged at =
+pub opened_at : (es : List ScriptEvent) (s : State) (sent : List (List TurnEvent)) → InOrder start es → IsAt (run_of es) s sent → s.opened ≤ 1
+opened_at es s sent order at =
     let P : ℕ → Type 0 = λ n. n ≤ 1 in
-    subst P (sym (ap (λ (t : State). t.opened) at.0)) (one_connection bytes es judged.1)
+    subst P (sym (ap (λ (t : State). t.opened) at.0)) (one_connection es order)
+
+-- ---- scripts are in order
+
+leads_in_order : (c : Before) (bytes : List ℕ) (es : List ScriptEvent) (d : Before) (rest : List ℕ) → Leads c bytes es d rest → InOrder c es
+leads_in_order c bytes [] d rest l = tt
+leads_in_order c bytes (e ∷ es) d rest l = (l.1.is.1, leads_in_order (after c e) l.0 es d rest l.2)
+
+pub script_in_order : (bytes : List ℕ) (es : List ScriptEvent) → IsJudged bytes (good es) → InOrder start es
+script_in_order bytes es judged = leads_in_order start bytes es judged.1.0 [] judged.1.1
+
+values_in_order : (c : Before) (vs : List Plain) (es : List ScriptEvent) (d : Before) → EventsOf c vs es d → InOrder c es
+values_in_order c [] [] d l = tt
+values_in_order c (v ∷ vs) (e ∷ es) d l = (l.0.1, values_in_order (after c e) vs es d l.1)
+values_in_order c [] (e ∷ es) d l = absurd l
+values_in_order c (v ∷ vs) [] d l = absurd l
+
+pub text_in_order : (text : List ℕ) (es : List ScriptEvent) → IsTextJudged text (good es) → InOrder start es
+text_in_order text es judged = values_in_order start judged.0 es judged.3.0 judged.3.1

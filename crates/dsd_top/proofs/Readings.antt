@@ -1,12 +1,12 @@
 -- Values one behind another: one more of them, and that they are one list, where no spelling of a value begins another.
-use Rattle.std.proofs.Common.{◌≡◌, ℕ, ◌+◌, ◌-◌, ◌≤◌, List, [], ◌∷◌, ◌++◌, length, take, drop, refl, sym, ap, ◌∙◌, subst, length-append, length-drop, append-nil, arith}
-use Rattle.std.specs.List.{flat_map}
+use Rattle.std.proofs.Common.{◌≡◌, ℕ, ◌+◌, ◌-◌, ◌≤◌, List, [], ◌∷◌, ◌++◌, length, take, drop, refl, sym, ap, ◌∙◌, subst, length-append, length-drop, arith}
 use Rattle.std.proofs.lemmas.List.{take_all}
-use Rattle.std.proofs.lemmas.Grind.{flat_map-append}
 use Rattle.pv_value.specs.Plain.{Plain}
 use Rattle.pv_binary.specs.Reads.{BeginsWith}
-use Rattle.pv_canon.specs.Canonical.{canonical}
-use Rattle.dsd_top.specs.Values.{LeadsOver, AreValues, IsBadValueAt, IsCanonicalSoFar, IsNextForm}
+use Rattle.dsd_top.specs.declared.forms.Form.{Form}
+use Rattle.dsd_top.specs.Forms.{in_form}
+use Rattle.dsd_top.specs.Values.{LeadsOver, AreValues, IsBadValueAt, IsInSoFar, IsNextIn}
+use Rattle.dsd_top.proofs.InForm.{all_in-more}
 use Rattle.dsd_top.proofs.Begins.{IsUnique, begins_same, nothing_begins}
 
 -- one value more
@@ -14,12 +14,9 @@ leads_more : (bytes : List ℕ) (vs : List Plain) (rest : List ℕ) (n : ℕ) (v
 leads_more bytes [] rest n v l b = (n, subst (λ bs. BeginsWith bs n v) (sym l) b, ap (λ bs. drop n bs) l)
 leads_more bytes (x ∷ vs) rest n v l b = (l.0, l.1, leads_more (drop l.0 bytes) vs rest n v l.2 b)
 
-canonical_more : (vs : List Plain) (v : Plain) → flat_map canonical (vs ++ v ∷ []) ≡ flat_map canonical vs ++ canonical v
-canonical_more vs v = flat_map-append canonical vs (v ∷ []) ∙ ap (λ l. flat_map canonical vs ++ l) (append-nil (canonical v))
-
--- one canonical form more
-pub form_more : (bytes out : List ℕ) (n : ℕ) (rest : List ℕ) (size : ℕ) (now : List ℕ) → IsCanonicalSoFar bytes out n rest → IsNextForm rest size out now → IsCanonicalSoFar bytes now (n + 1) (take (length rest - size) (drop size rest))
-form_more bytes out n rest size now f x =
+-- one value more in the form
+pub form_more : (form : Form) (bytes out : List ℕ) (n : ℕ) (rest : List ℕ) (size : ℕ) (now : List ℕ) → IsInSoFar form bytes out n rest → IsNextIn form rest size out now → IsInSoFar form bytes now (n + 1) (take (length rest - size) (drop size rest))
+form_more form bytes out n rest size now f x =
     let vs = f.0 in
     let v = x.0 in
     let P : List ℕ → Type 0 = λ r. LeadsOver bytes (vs ++ v ∷ []) r in
@@ -27,7 +24,7 @@ form_more bytes out n rest size now f x =
       vs ++ v ∷ [],
       subst P (sym (take_all (length rest - size) (drop size rest) s)) (leads_more bytes vs rest size v f.1 x.1),
       length-append vs (v ∷ []) ∙ ap (λ k. k + 1) f.2,
-      x.2 ∙ ap (λ o. o ++ canonical v) f.3 ∙ sym (canonical_more vs v),
+      x.2 ∙ ap (λ o. o ++ in_form form v) f.3 ∙ sym (all_in-more form vs v),
     )
 
 -- no value comes next

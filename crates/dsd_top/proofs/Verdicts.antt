@@ -14,7 +14,7 @@ abbrev Stops : Before → List ℕ → Type 0
 Stops c rest = (e : ScriptEvent) (more : List ℕ) → IsNext c rest e more → ⊥
 
 module _ (unique : IsUnique) where
-  writes_same : (v : Plain) (e d : ScriptEvent) → Writes v e → Writes v d → e ≡ d
+  pub writes_same : (v : Plain) (e d : ScriptEvent) → Writes v e → Writes v d → e ≡ d
   writes_same v Open Open p q = refl
   writes_same v Open (Bytes ds) p q = let r = q.3 in absurd (let z : ⊥ = cc in z)
   writes_same v Open (Drain n) p q = let r = q.1 in absurd (let z : ⊥ = cc in z)

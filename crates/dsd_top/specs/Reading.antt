@@ -12,7 +12,7 @@ use Rattle.dsd_top.specs.declared.scripts.ScriptEvent.{ScriptEvent}
 use Rattle.dsd_top.specs.declared.scripts.ScriptEvent.TheVariants.{Open, Bytes, Drain}
 use Rattle.dsd_top.specs.declared.scripts.ScriptFault.{ScriptFault}
 use Rattle.dsd_top.specs.declared.scripts.ScriptFault.TheVariants as fault
-use Rattle.dsd_top.specs.Scripts.{Before, MayStand, after, IsNoEvent, IsNext, IsJudged, bad, not_built}
+use Rattle.dsd_top.specs.Scripts.{Before, MayStand, after, IsEvent, IsNoEvent, HasOtherAt, IsNext, IsJudged, bad, not_built}
 
 -- ---- one value
 
@@ -50,6 +50,24 @@ IsSoleCount fields (Some n) = (n ≤ DRAIN_TURNS) × (fields ≡ number n ∷ []
 abbrev pub Goes : Before → Before → ScriptEvent → Bool → Type 0
 Goes c d e true = MayStand c e × (d ≡ after c e)
 Goes c d e false = MayStand c e → ⊥
+
+-- ---- a value where it stands
+
+-- the value is the event, after which more is known to have come
+abbrev pub Stands : Before → Before → Plain → ScriptEvent → Type 0
+Stands c d v e = IsEvent c v e × (d ≡ after c e)
+
+-- why value n is no event
+abbrev pub IsOther : Before → Plain → ℕ → ScriptFault → Type 0
+IsOther c v n (fault.Bad m) = ⊥
+IsOther c v n (fault.NotBuilt m) = (m ≡ n) × IsNoEvent c v
+IsOther c v n fault.NoMemory = Unit {0}
+
+-- why values aren't events
+abbrev pub IsOtherOf : List Plain → ScriptFault → Type 0
+IsOtherOf vs (fault.Bad m) = ⊥
+IsOtherOf vs (fault.NotBuilt n) = HasOtherAt vs n
+IsOtherOf vs fault.NoMemory = Unit {0}
 
 -- ---- the next event
 

@@ -58,6 +58,28 @@ IsEvent c v e = Writes v e × MayStand c e
 abbrev pub IsNoEvent : Before → Plain → Type 0
 IsNoEvent c v = (e : ScriptEvent) → IsEvent c v e → ⊥
 
+-- the values are these events, each where it stands
+abbrev pub EventsOf : Before → List Plain → List ScriptEvent → Before → Type 0
+EventsOf c [] [] d = d ≡ c
+EventsOf c (v ∷ vs) (e ∷ es) d = IsEvent c v e × EventsOf (after c e) vs es d
+EventsOf c [] (e ∷ es) d = ⊥
+EventsOf c (v ∷ vs) [] d = ⊥
+
+abbrev pub AreEvents : List Plain → List ScriptEvent → Type 0
+AreEvents vs es = (d : Before) × EventsOf start vs es d
+
+-- behind n values that are events stands one that is none there
+pub record HasOtherAt (vs : List Plain) (n : ℕ) : Type 0 where
+  pub front : List Plain
+  pub value : Plain
+  pub rest : List Plain
+  pub are : vs ≡ front ++ value ∷ rest
+  pub place : length front ≡ n
+  pub events : List ScriptEvent
+  pub before : Before
+  pub fit : EventsOf start front events before
+  pub other : IsNoEvent before value
+
 -- the bytes begin with a value that is the event e, and the rest of them is left
 pub record IsNext (c : Before) (bytes : List ℕ) (e : ScriptEvent) (rest : List ℕ) : Type 0 where
   pub value : Plain
@@ -65,6 +87,11 @@ pub record IsNext (c : Before) (bytes : List ℕ) (e : ScriptEvent) (rest : List
   pub begins : BeginsWith bytes size value
   pub is : IsEvent c value e
   pub left : rest ≡ drop size bytes
+
+-- each of the events may stand where it is
+abbrev pub InOrder : Before → List ScriptEvent → Type 0
+InOrder c [] = Unit {0}
+InOrder c (e ∷ es) = MayStand c e × InOrder (after c e) es
 
 -- the bytes begin with these events, after which the rest is left
 abbrev pub Leads : Before → List ℕ → List ScriptEvent → Before → List ℕ → Type 0

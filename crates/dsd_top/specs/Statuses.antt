@@ -1,21 +1,27 @@
 -- What a status says of the words, the input and what was written.
 use Rattle.std.specs.Prelude.{◌≡◌, ℕ, ◌<◌, ◌≤◌, List, [], ◌∷◌, length, Option, Some, None, Contains, IfSome}
-use Rattle.pv_binary.specs.Written.{written}
 use Rattle.dsd_top.specs.Ports.{Appends, AppendsFront}
 use Rattle.dsd_top.specs.Scripts.{good, bad, not_built, IsJudged}
-use Rattle.dsd_top.specs.Values.{IsBadValueAt, AreCanonicalForms}
+use Rattle.dsd_top.specs.TextScripts.{IsTextJudged}
+use Rattle.dsd_top.specs.Values.{IsBadValueAt, AreIn}
+use Rattle.dsd_top.specs.Texts.{IsBadTextAt, IsTextIn}
+use Rattle.dsd_top.specs.Forms.{in_form}
 use Rattle.dsd_top.specs.Runs.{run_of}
 use Rattle.dsd_top.specs.Reports.{report_of}
-use Rattle.dsd_top.specs.declared.canonical.TheConstants.{INPUT_BYTES}
-use Rattle.dsd_top.specs.declared.canonical.InputFault.{InputFault}
-use Rattle.dsd_top.specs.declared.canonical.InputFault.TheVariants as input
+use Rattle.dsd_top.specs.declared.forms.Form.{Form}
+use Rattle.dsd_top.specs.declared.forms.Form.TheVariants as form
+use Rattle.dsd_top.specs.declared.values.TheConstants.{INPUT_BYTES}
+use Rattle.dsd_top.specs.declared.values.InputFault.{InputFault}
+use Rattle.dsd_top.specs.declared.values.InputFault.TheVariants as input
 use Rattle.dsd_top.specs.declared.scripts.ScriptEvent.{ScriptEvent}
 use Rattle.dsd_top.specs.declared.scripts.ScriptFault.{ScriptFault}
 use Rattle.dsd_top.specs.declared.scripts.ScriptFault.TheVariants as script
 use Rattle.dsd_top.specs.declared.streams.ReadFault.{ReadFault}
 use Rattle.dsd_top.specs.declared.streams.ReadFault.TheVariants as reading
 use Rattle.dsd_top.specs.declared.words.Command.{Command}
-use Rattle.dsd_top.specs.declared.words.Command.TheVariants.{Run, CanonicalForms}
+use Rattle.dsd_top.specs.declared.words.Command.TheVariants.{Run, RunText, CanonicalForms, Printed, Written}
+use Rattle.dsd_top.specs.declared.words.Request.{Request}
+use Rattle.dsd_top.specs.declared.words.Request.TheVariants.{Make, Tell}
 use Rattle.dsd_top.specs.declared.once.Fault.{Fault}
 use Rattle.dsd_top.specs.declared.once.Fault.TheVariants as fault
 
@@ -25,43 +31,71 @@ use Rattle.dsd_top.specs.declared.once.Fault.TheVariants as fault
 abbrev pub IsStatus : ℕ → Type 0
 IsStatus n = Contains (0 ∷ 1 ∷ 2 ∷ 3 ∷ 4 ∷ 5 ∷ 6 ∷ 10 ∷ []) n
 
--- those that come for a command, and where the words are none of the table's
-abbrev pub statuses_of : Option Command → List ℕ
+-- the status of a command for an input past its bounds: a script of what isn't built, or too many bytes of values
+abbrev pub bound_of : Command → ℕ
+bound_of Run = 10
+bound_of RunText = 10
+bound_of CanonicalForms = 6
+bound_of Printed = 6
+bound_of Written = 6
+
+-- those that come for a command
+abbrev pub statuses_by : Command → List ℕ
+statuses_by c = 0 ∷ 1 ∷ 3 ∷ 4 ∷ 5 ∷ bound_of c ∷ []
+
+-- those that come for what the words ask for, and where they are none of the table's
+abbrev pub statuses_of : Option Request → List ℕ
 statuses_of None = 2 ∷ []
-statuses_of (Some Run) = 0 ∷ 1 ∷ 3 ∷ 4 ∷ 5 ∷ 10 ∷ []
-statuses_of (Some CanonicalForms) = 0 ∷ 1 ∷ 3 ∷ 4 ∷ 5 ∷ 6 ∷ []
+statuses_of (Some (Make c)) = statuses_by c
+statuses_of (Some (Tell n)) = 0 ∷ 4 ∷ []
 
 -- this holds of the command and the input, where the words are of the table and the input is told
 abbrev pub IfTold : Option Command → Option (List ℕ) → (Command → List ℕ → Type 0) → Type 0
 IfTold command left P = IfSome command (λ c. IfSome left (P c))
 
--- what is written for a script
-abbrev pub answer_of : List ScriptEvent → List ℕ
-answer_of es = written (report_of (run_of es))
+-- what is written for the events of a script
+abbrev pub answer_of : Form → List ScriptEvent → List ℕ
+answer_of form es = in_form form (report_of (run_of es))
 
 -- the bytes are a script, and these its report
 abbrev pub IsReported : List ℕ → List ℕ → Type 0
-IsReported bytes out = (es : List ScriptEvent) × IsJudged bytes (good es) × (out ≡ answer_of es)
+IsReported bytes out = (es : List ScriptEvent) × IsJudged bytes (good es) × (out ≡ answer_of form.Written es)
+
+-- the text is a script, and these its report, printed
+abbrev pub IsReportedText : List ℕ → List ℕ → Type 0
+IsReportedText text out = (es : List ScriptEvent) × IsTextJudged text (good es) × (out ≡ answer_of form.Printed es)
 
 -- what the command makes of the input
 abbrev pub IsAnswerOf : Command → List ℕ → List ℕ → Type 0
 IsAnswerOf Run bytes out = IsReported bytes out
-IsAnswerOf CanonicalForms bytes out = AreCanonicalForms bytes out
+IsAnswerOf RunText bytes out = IsReportedText bytes out
+IsAnswerOf CanonicalForms bytes out = AreIn form.Canonical bytes out
+IsAnswerOf Printed bytes out = AreIn form.Printed bytes out
+IsAnswerOf Written bytes out = IsTextIn form.Written bytes out
 
 -- value n of the input is malformed
 abbrev pub IsBadInputAt : Command → List ℕ → ℕ → Type 0
 IsBadInputAt Run bytes n = IsJudged bytes (bad n)
+IsBadInputAt RunText bytes n = IsTextJudged bytes (bad n)
 IsBadInputAt CanonicalForms bytes n = (length bytes ≤ INPUT_BYTES) × IsBadValueAt bytes n
+IsBadInputAt Printed bytes n = (length bytes ≤ INPUT_BYTES) × IsBadValueAt bytes n
+IsBadInputAt Written bytes n = (length bytes ≤ INPUT_BYTES) × IsBadTextAt bytes n
 
 -- value n of the input goes past what is built
 abbrev pub IsNotBuiltAt : Command → List ℕ → ℕ → Type 0
 IsNotBuiltAt Run bytes n = IsJudged bytes (not_built n)
+IsNotBuiltAt RunText bytes n = IsTextJudged bytes (not_built n)
 IsNotBuiltAt CanonicalForms bytes n = ⊥
+IsNotBuiltAt Printed bytes n = ⊥
+IsNotBuiltAt Written bytes n = ⊥
 
 -- the input is longer than the command takes
 abbrev pub IsOver : Command → List ℕ → Type 0
 IsOver Run bytes = ⊥
+IsOver RunText bytes = ⊥
 IsOver CanonicalForms bytes = INPUT_BYTES < length bytes
+IsOver Printed bytes = INPUT_BYTES < length bytes
+IsOver Written bytes = INPUT_BYTES < length bytes
 
 -- ---- for any command
 

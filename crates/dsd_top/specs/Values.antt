@@ -1,12 +1,12 @@
--- Values one behind another to the end of the bytes.
+-- Binary values one behind another to the end of the bytes.
 use Rattle.std.specs.Prelude.{◌≡◌, ◌≢◌, ℕ, ◌<◌, ◌≤◌, List, [], ◌∷◌, ◌++◌, length, drop}
-use Rattle.std.specs.List.{flat_map}
 use Rattle.pv_value.specs.Plain.{Plain}
 use Rattle.pv_binary.specs.Reads.{BeginsWith}
-use Rattle.pv_canon.specs.Canonical.{canonical}
-use Rattle.dsd_top.specs.declared.canonical.TheConstants.{INPUT_BYTES}
-use Rattle.dsd_top.specs.declared.canonical.InputFault.{InputFault}
-use Rattle.dsd_top.specs.declared.canonical.InputFault.TheVariants as fault
+use Rattle.dsd_top.specs.declared.forms.Form.{Form}
+use Rattle.dsd_top.specs.declared.values.TheConstants.{INPUT_BYTES}
+use Rattle.dsd_top.specs.declared.values.InputFault.{InputFault}
+use Rattle.dsd_top.specs.declared.values.InputFault.TheVariants as fault
+use Rattle.dsd_top.specs.Forms.{in_form, all_in}
 
 -- the bytes begin with these values, after which the rest is left
 abbrev pub LeadsOver : List ℕ → List Plain → List ℕ → Type 0
@@ -28,13 +28,13 @@ pub record IsBadValueAt (bytes : List ℕ) (n : ℕ) : Type 0 where
 
 -- ---- the steps of reading them
 
--- n values have led to the rest, and these are their canonical forms
-abbrev pub IsCanonicalSoFar : List ℕ → List ℕ → ℕ → List ℕ → Type 0
-IsCanonicalSoFar bytes out n rest = (vs : List Plain) × LeadsOver bytes vs rest × (length vs ≡ n) × (out ≡ flat_map canonical vs)
+-- n values have led to the rest, and this is what they are in the form
+abbrev pub IsInSoFar : Form → List ℕ → List ℕ → ℕ → List ℕ → Type 0
+IsInSoFar form bytes out n rest = (vs : List Plain) × LeadsOver bytes vs rest × (length vs ≡ n) × (out ≡ all_in form vs)
 
--- the canonical form of the value in the first so many bytes was appended
-abbrev pub IsNextForm : List ℕ → ℕ → List ℕ → List ℕ → Type 0
-IsNextForm rest size before now = (v : Plain) × BeginsWith rest size v × (now ≡ before ++ canonical v)
+-- the value in the first so many bytes was appended in the form
+abbrev pub IsNextIn : Form → List ℕ → ℕ → List ℕ → List ℕ → Type 0
+IsNextIn form rest size before now = (v : Plain) × BeginsWith rest size v × (now ≡ before ++ in_form form v)
 
 -- why value n isn't there
 abbrev pub StopsAt : List ℕ → ℕ → InputFault → Type 0
@@ -44,9 +44,9 @@ StopsAt rest n fault.NoMemory = Unit {0}
 
 -- ---- the whole input
 
--- these are the canonical forms of the values that the bytes are
-abbrev pub AreCanonicalForms : List ℕ → List ℕ → Type 0
-AreCanonicalForms bytes out = (length bytes ≤ INPUT_BYTES) × (vs : List Plain) × AreValues bytes vs × (out ≡ flat_map canonical vs)
+-- these are the values that the bytes are, in the form
+abbrev pub AreIn : Form → List ℕ → List ℕ → Type 0
+AreIn form bytes out = (length bytes ≤ INPUT_BYTES) × (vs : List Plain) × AreValues bytes vs × (out ≡ all_in form vs)
 
 -- what a fault says of the input
 abbrev pub IsInputFaultOf : List ℕ → InputFault → Type 0

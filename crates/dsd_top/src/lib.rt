@@ -1,7 +1,7 @@
 //! The program over an outside world that is handed in.
 #![tactic(auto)]
 
-mod canonical;
+mod forms;
 mod laws;
 pub mod memory;
 mod once;
@@ -12,7 +12,10 @@ pub mod scripts;
 pub mod streams;
 #[cfg(test)]
 mod tests;
+mod text_scripts;
+mod texts;
+mod values;
 mod words;
 
-pub use laws::{one_reading, one_verdict};
+pub use laws::{one_reading, one_reading_of_text, one_verdict, one_verdict_of_text};
 pub use once::{dsd_main, dsd_once};

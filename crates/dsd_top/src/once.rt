@@ -1,20 +1,24 @@
 //! The program's words.
-ghost use Rattle.std.specs.Prelude.{◌≡◌, ◌≢◌, ◌≤◌, ◌↔◌, true, false, Some, None, Contains, IfSome, IfOk, IfErr, OnOk, OnErr, IsErrOf};
+ghost use Rattle.std.specs.Prelude.{◌≡◌, ◌≢◌, ◌≤◌, ◌↔◌, [], ◌∷◌, true, false, None, Contains, IfSome, IfOk, IfErr, OnOk, OnErr, IsErrOf};
 ghost use Rattle.dsd_top.specs.declared.once.Fault.TheVariants as fault;
-ghost use Rattle.dsd_top.specs.Ports.{Rose};
-ghost use Rattle.dsd_top.specs.Commands.{texts, command_of, is_serve as begins_with_serve};
+ghost use Rattle.dsd_top.specs.Ports.{Rose, Appends, AppendsFront};
+ghost use Rattle.dsd_top.specs.Commands.{texts, request_of, command_of, notice_of, text_of, is_serve as begins_with_serve};
+ghost use Rattle.dsd_top.specs.Scripts.{start, InOrder};
 ghost use Rattle.dsd_top.specs.Reading.{IsFaultOf};
-ghost use Rattle.dsd_top.specs.Statuses.{IsStatus, statuses_of, IfTold, IsReported, IsAnswerOf, IsAnswered, IsCut, IsBadInput, IsNotBuilt, IsOver, IsCauseOf, Tells, status_of, from_script, from_input, from_read};
+ghost use Rattle.dsd_top.specs.TextScripts.{IsFaultOfText};
+ghost use Rattle.dsd_top.specs.Statuses.{IsStatus, statuses_by, statuses_of, IfTold, answer_of, IsReported, IsReportedText, IsAnswerOf, IsAnswered, IsCut, IsBadInput, IsNotBuilt, IsOver, IsCauseOf, Tells, status_of, from_script, from_input, from_read};
 
-use crate::canonical::{InputFault, canonical_forms};
+use crate::forms::{Form, value_in};
 use crate::ports::{Host, Sink, Source};
 use crate::reports::report;
 use crate::runs::run_events;
-use crate::scripts::{ScriptFault, read_script};
+use crate::scripts::{ScriptEvent, ScriptFault, read_script};
 use crate::streams::{ReadFault, WriteFault, read_to_end, write_all};
-use crate::words::{Command, find_command, is_serve};
-use pv_binary::write;
-use pv_value::Blob;
+use crate::text_scripts::read_text_script;
+use crate::texts::text_to_end;
+use crate::values::{InputFault, values_to_end};
+use crate::words::{Command, Notice, Request, find_request, is_serve};
+use pv_value::{Blob, NoMemory};
 use std::alloc::Global;
 use std::sync::Wait;
 use std::thread::Threads;
@@ -90,15 +94,32 @@ impl From<WriteFault> for Fault {
     }
 }
 
+// The report of the run of these events, in this form.
+fn report_of_run(alloc: Global, events: Vec<ScriptEvent>, form: Form) -> Result<Blob, NoMemory>
+    requires { InOrder start events.items }
+    ensures { IfOk result (λ bytes. bytes ≡ answer_of form events.items) }
+{
+    let run = run_events(alloc, events)?;
+    let value = report(alloc, &run)?;
+    value_in(alloc, &value, form)
+}
+
 // What is written for a script.
 fn report_of_script(alloc: Global, bytes: &[u8]) -> Result<Blob, ScriptFault>
     ensures answer { IfOk result (IsReported bytes.now) }
     ensures fault { IfErr result (IsFaultOf bytes.now) }
 {
     let events = read_script(alloc, bytes)?;
-    let run = run_events(alloc, events)?;
-    let value = report(alloc, &run)?;
-    Ok(write(alloc, &value)?)
+    Ok(report_of_run(alloc, events, Form::Written)?)
+}
+
+// What is written for a script in text.
+fn report_of_text(alloc: Global, text: &[u8]) -> Result<Blob, ScriptFault>
+    ensures answer { IfOk result (IsReportedText text.now) }
+    ensures fault { IfErr result (IsFaultOfText text.now) }
+{
+    let events = read_text_script(alloc, text)?;
+    Ok(report_of_run(alloc, events, Form::Printed)?)
 }
 
 // What the command makes of the input.
@@ -108,7 +129,10 @@ fn answer(alloc: Global, command: Command, bytes: &[u8]) -> Result<Blob, Fault>
 {
     match command {
         Command::Run => Ok(report_of_script(alloc, bytes)?),
-        Command::CanonicalForms => Ok(canonical_forms(alloc, bytes)?),
+        Command::RunText => Ok(report_of_text(alloc, bytes)?),
+        Command::CanonicalForms => Ok(values_to_end(alloc, bytes, Form::Canonical)?),
+        Command::Printed => Ok(values_to_end(alloc, bytes, Form::Printed)?),
+        Command::Written => Ok(text_to_end(alloc, bytes, Form::Written)?),
     }
 }
 
@@ -119,7 +143,7 @@ fn do_command<I: Source, O: Sink>(
     input: &mut I,
     out: &mut O,
 ) -> Result<(), Fault>
-    ensures known { IfErr result (λ f. Contains (statuses_of (Some command)) (status_of f)) }
+    ensures known { IfErr result (λ f. Contains (statuses_by command) (status_of f)) }
     ensures ended { OnOk result (I.ended input.new ≡ true) }
     ensures done { OnOk result (IfSome (I.left input.old) (λ bytes. IsAnswered command bytes (O.held out.old) (O.held out.new))) }
     ensures fault { IfErr result (λ f. Tells command f (I.left input.old) (O.held out.old) (O.held out.new)) }
@@ -165,10 +189,24 @@ fn refuse<E: Sink>(alloc: Global, diag: &mut E, fault: Fault) -> u8
     fault.status()
 }
 
-/// Does what the words say, and answers the status: 0 where all input was read and all output written, 1 where a
-/// value of the input is malformed, 2 where the words are none of the table's, 3 where the input failed, 4 where the
-/// output failed, 5 for want of memory, 6 where the input is longer than the command takes, 10 where the input goes
-/// past what is built. At every status but 0 one line on `diag` says why; a fault of `diag` changes nothing.
+// Writes a notice, and answers the status.
+fn show<O: Sink, E: Sink>(alloc: Global, notice: Notice, out: &mut O, diag: &mut E) -> u8
+    ensures known { Contains (0 ∷ 4 ∷ []) result }
+    ensures done { result ≡ 0 → Appends (O.held out.old) (O.held out.new) (text_of notice) }
+    ensures cut { result ≡ 4 → AppendsFront (O.held out.old) (O.held out.new) (text_of notice) }
+    ensures write_failed { result ≡ 4 → Rose (O.faults out.old) (O.faults out.new) }
+{
+    match write_all(out, notice.text().as_bytes()) {
+        Ok(()) => 0,
+        Err(_) => refuse(alloc, diag, Fault::WriteFailed),
+    }
+}
+
+/// Does what the words say, and answers the status: 0 where all input was read, or a notice asked for, and all output
+/// written, 1 where a value of the input is malformed, 2 where the words are none of the table's, 3 where the input
+/// failed, 4 where the output failed, 5 for want of memory, 6 where the input is longer than the command takes, 10 where
+/// the input goes past what is built. At every status but 0 one line on `diag` says why; a fault of `diag` changes
+/// nothing.
 pub fn dsd_once<I: Source, O: Sink, E: Sink, H: Host>(
     alloc: Global,
     words: &[String],
@@ -182,9 +220,9 @@ pub fn dsd_once<I: Source, O: Sink, E: Sink, H: Host>(
     // Each status, and when it comes. Where the words are of the table, no count rose and no cause of 1, 6 or
     // 10 stands, the status is 0, or 5 for want of memory.
     ensures known { IsStatus result }
-    ensures of_command { Contains (statuses_of (command_of (texts words.now))) result }
-    ensures words { (result ≡ 2) ↔ (command_of (texts words.now) ≡ None) }
-    ensures ended { result ≡ 0 → I.ended input.new ≡ true }
+    ensures of_request { Contains (statuses_of (request_of (texts words.now))) result }
+    ensures words { (result ≡ 2) ↔ (request_of (texts words.now) ≡ None) }
+    ensures ended { result ≡ 0 → IfSome (command_of (texts words.now)) (λ c. I.ended input.new ≡ true) }
     ensures done { result ≡ 0 → IfTold (command_of (texts words.now)) (I.left input.old) (λ c bytes. IsAnswered c bytes (O.held out.old) (O.held out.new)) }
     ensures bad_input { result ≡ 1 → IfTold (command_of (texts words.now)) (I.left input.old) IsBadInput }
     ensures limit { result ≡ 6 → IfTold (command_of (texts words.now)) (I.left input.old) IsOver }
@@ -192,13 +230,20 @@ pub fn dsd_once<I: Source, O: Sink, E: Sink, H: Host>(
     ensures read_failed { result ≡ 3 → Rose (I.faults input.old) (I.faults input.new) }
     ensures write_failed { result ≡ 4 → Rose (O.faults out.old) (O.faults out.new) }
 
+    // A notice is written with no look at the input.
+    ensures shown { result ≡ 0 → IfSome (notice_of (texts words.now)) (λ n. Appends (O.held out.old) (O.held out.new) (text_of n)) }
+    ensures shown_front { result ≡ 4 → IfSome (notice_of (texts words.now)) (λ n. AppendsFront (O.held out.old) (O.held out.new) (text_of n)) }
+    ensures unread { IfSome (notice_of (texts words.now)) (λ n. input.new ≡ input.old) }
+
     // What stands after it.
     ensures cut { result ≡ 4 → IfTold (command_of (texts words.now)) (I.left input.old) (λ c bytes. IsCut c bytes (O.held out.old) (O.held out.new)) }
     ensures unwritten { result ≢ 0 → result ≢ 4 → O.held out.new ≡ O.held out.old }
     ensures same_host { host.new ≡ host.old }
 {
-    let Some(command) = find_command(words) else {
-        return refuse(alloc, diag, Fault::BadWords);
+    let command = match find_request(words) {
+        Some(Request::Make(command)) => command,
+        Some(Request::Tell(notice)) => return show(alloc, notice, out, diag),
+        None => return refuse(alloc, diag, Fault::BadWords),
     };
     match do_command(alloc, command, input, out) {
         Ok(()) => 0,
@@ -223,15 +268,20 @@ where
     // Each status, and when it comes. Where the words are of the table, no count rose and no cause of 1, 6 or
     // 10 stands, the status is 0, or 5 for want of memory.
     ensures known { IsStatus result }
-    ensures of_command { Contains (statuses_of (command_of (texts words.now))) result }
-    ensures words { (result ≡ 2) ↔ (command_of (texts words.now) ≡ None) }
-    ensures ended { result ≡ 0 → I.ended input.new ≡ true }
+    ensures of_request { Contains (statuses_of (request_of (texts words.now))) result }
+    ensures words { (result ≡ 2) ↔ (request_of (texts words.now) ≡ None) }
+    ensures ended { result ≡ 0 → IfSome (command_of (texts words.now)) (λ c. I.ended input.new ≡ true) }
     ensures done { result ≡ 0 → IfTold (command_of (texts words.now)) (I.left input.old) (λ c bytes. IsAnswered c bytes (O.held out.old) (O.held out.new)) }
     ensures bad_input { result ≡ 1 → IfTold (command_of (texts words.now)) (I.left input.old) IsBadInput }
     ensures limit { result ≡ 6 → IfTold (command_of (texts words.now)) (I.left input.old) IsOver }
     ensures not_built { result ≡ 10 → IfTold (command_of (texts words.now)) (I.left input.old) IsNotBuilt }
     ensures read_failed { result ≡ 3 → Rose (I.faults input.old) (I.faults input.new) }
     ensures write_failed { result ≡ 4 → Rose (O.faults out.old) (O.faults out.new) }
+
+    // A notice is written with no look at the input.
+    ensures shown { result ≡ 0 → IfSome (notice_of (texts words.now)) (λ n. Appends (O.held out.old) (O.held out.new) (text_of n)) }
+    ensures shown_front { result ≡ 4 → IfSome (notice_of (texts words.now)) (λ n. AppendsFront (O.held out.old) (O.held out.new) (text_of n)) }
+    ensures unread { IfSome (notice_of (texts words.now)) (λ n. input.new ≡ input.old) }
 
     // What stands after it.
     ensures cut { result ≡ 4 → IfTold (command_of (texts words.now)) (I.left input.old) (λ c bytes. IsCut c bytes (O.held out.old) (O.held out.new)) }

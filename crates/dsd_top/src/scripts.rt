@@ -4,8 +4,8 @@ ghost use Rattle.pv_value.specs.Plain.{symbol, record_of, plains};
 ghost use Rattle.pv_binary.specs.Reads.{BeginsWith};
 ghost use Rattle.hub_core.specs.Words.{number};
 ghost use Rattle.dsd_top.specs.declared.scripts.ScriptFault.TheVariants as fault;
-ghost use Rattle.dsd_top.specs.Scripts.{start, are_new, handle_of, handles_of, Writes, IsJudged, good};
-ghost use Rattle.dsd_top.specs.Reading.{HasNoWord, WritesIn, IsSole, IsTurnAtEnd, IsSoleTurn, IsSoleCount, Goes, IsEventIn, IsNoValue, Stops, IsFaultOf};
+ghost use Rattle.dsd_top.specs.Scripts.{start, are_new, handle_of, handles_of, Writes, AreEvents, IsJudged, good};
+ghost use Rattle.dsd_top.specs.Reading.{HasNoWord, WritesIn, IsSole, IsTurnAtEnd, IsSoleTurn, IsSoleCount, Goes, Stands, IsOther, IsEventIn, IsNoValue, Stops, IsOtherOf, IsFaultOf};
 
 use hub_core::{Event, Turn, turn_of};
 use pv_binary::{BinFault, read};
@@ -254,6 +254,25 @@ fn value_of(alloc: Global, rest: &[u8], place: u64) -> Result<(Value, usize), Sc
     }
 }
 
+// The event that the value is where it stands, behind so many events.
+fn stand(
+    alloc: Global,
+    seen: &mut Seen,
+    value: &Value,
+    place: u64,
+) -> Result<ScriptEvent, ScriptFault>
+    ensures event { IfOk result (λ e. Stands seen.old seen.new value.now e) }
+    ensures other { IfErr result (IsOther seen.old value.now place) }
+{
+    let Some(event) = event_of(alloc, value)? else {
+        return Err(ScriptFault::NotBuilt(place));
+    };
+    if !seen.go(&event)? {
+        return Err(ScriptFault::NotBuilt(place));
+    }
+    Ok(event)
+}
+
 // The event that the bytes begin with, behind so many events, and how many bytes it has.
 fn next_event(
     alloc: Global,
@@ -265,13 +284,22 @@ fn next_event(
     ensures stops { IfErr result (Stops seen.old rest.now place) }
 {
     let (value, size) = value_of(alloc, rest, place)?;
-    let Some(event) = event_of(alloc, &value)? else {
-        return Err(ScriptFault::NotBuilt(place));
-    };
-    if !seen.go(&event)? {
-        return Err(ScriptFault::NotBuilt(place));
-    }
+    let event = stand(alloc, seen, &value, place)?;
     Ok((event, size))
+}
+
+/// The events that values are, one behind another from the beginning of a script.
+pub(crate) fn events_of(alloc: Global, values: &[Value]) -> Result<Vec<ScriptEvent>, ScriptFault>
+    ensures events { IfOk result (λ events. AreEvents values.now events.items) }
+    ensures other { IfErr result (IsOtherOf values.now) }
+{
+    let mut seen = Seen::new(alloc);
+    let mut events = Vec::new(alloc);
+    for value in values {
+        let event = stand(alloc, &mut seen, value, events.len() as u64)?;
+        events.push(event)?;
+    }
+    Ok(events)
 }
 
 /// The events of a script. Its length is looked at first, then its values in order.

@@ -1,13 +1,16 @@
 //! The program over the memory forms: whole scripts, and each status.
 mod canon;
+mod document;
 mod making;
 mod runs;
 mod statuses;
+mod words;
 
 use crate::dsd_main;
 use crate::memory::{MemHost, MemListen, MemSink, MemSource};
 use crate::ports::Sink;
 use std::alloc::Global;
+use std::process::Abort;
 use std::sync::Wait;
 use std::test::Fail;
 use std::thread::Threads;
@@ -58,20 +61,30 @@ fn outcome_with<Rt: Threads + Wait + Sync>(
     })
 }
 
+/// The outcome for these words and this input, where nothing fails.
+fn outcome_for<Rt: Threads + Wait + Sync>(
+    rt: &Rt,
+    alloc: Global,
+    words: &[&str],
+    bytes: &[u8],
+) -> Result<Outcome, Fail> {
+    outcome_with(rt, alloc, words, bytes, Vec::new(alloc), Vec::new(alloc))
+}
+
+/// The status, and a line that says it; nothing is written.
+fn is_refused(rt: &impl Abort, got: &Outcome, status: u8, line: &str) {
+    assert_eq!(rt; got.status, status, "{line}");
+    assert_eq!(rt; got.diag.as_slice(), line.as_bytes());
+    assert!(rt; got.out.is_empty(), "{line}");
+}
+
 /// The outcome for a script, where nothing fails.
 fn outcome_of<Rt: Threads + Wait + Sync>(
     rt: &Rt,
     alloc: Global,
     script: &[u8],
 ) -> Result<Outcome, Fail> {
-    outcome_with(
-        rt,
-        alloc,
-        &["run"],
-        script,
-        Vec::new(alloc),
-        Vec::new(alloc),
-    )
+    outcome_for(rt, alloc, &["run"], script)
 }
 
 /// Somebody is present, and an observer at object 1 captures who.

@@ -1,31 +1,93 @@
-//! The program's words, and the command that they are.
+//! The program's words, and what they ask for.
 ghost use Rattle.std.specs.Prelude.{◌≡◌};
-ghost use Rattle.dsd_top.specs.Commands.{texts, command_of, is_serve as begins_with_serve};
+ghost use Rattle.dsd_top.specs.Commands.{texts, request_of, named, text_of, is_serve as begins_with_serve};
 
-/// What the words ask for.
+/// The answer to `--help`: the words, a line each.
+pub const USAGE: &str = "usage: dsd WORD, from standard input to standard output
+  run           the report of a script's run, in binary
+  run --text    the same of a script in text, in text
+  canon         binary values, each in its canonical form
+  text          binary values, each printed on a line
+  binary        text values, each in its written binary spelling
+  --help        these lines
+  --version     the version
+";
+
+/// The answer to `--version`.
+pub const VERSION: &str = "dsd 0.1.0\n";
+
+/// What is made of the input.
 #[derive(Clone, Copy)]
 pub enum Command {
     /// The report of a script's run.
     Run,
-    /// Each value of the input in its canonical form.
+    /// The report of a script's run, both in text.
+    RunText,
+    /// Each binary value in its canonical form.
     CanonicalForms,
+    /// Each binary value printed.
+    Printed,
+    /// Each text value in its written spelling.
+    Written,
 }
 
-/// The command of the words, where they are of the table.
-pub fn find_command(words: &[String]) -> Option<Command>
-    ensures { result ≡ command_of (texts words.now) }
+/// A text that is told with no input.
+#[derive(Clone, Copy)]
+pub enum Notice {
+    /// [`USAGE`]
+    Usage,
+    /// [`VERSION`]
+    Version,
+}
+
+/// What the words ask for.
+#[derive(Clone, Copy)]
+pub enum Request {
+    /// What a command makes of the input.
+    Make(Command),
+    /// A notice, for which no input is read.
+    Tell(Notice),
+}
+
+impl Notice {
+    /// The text, which ends with a line's end.
+    #[tactic(auto, unfolding(crate::specs::Commands::text_of))]
+    pub fn text(self) -> &'static str
+        ensures { result.now ≡ text_of self }
+    {
+        match self {
+            Notice::Usage => USAGE,
+            Notice::Version => VERSION,
+        }
+    }
+}
+
+// What one word asks for.
+fn find_word(word: &str) -> Option<Request>
+    ensures { result ≡ named word.now }
 {
-    if words.len() != 1 {
-        return None;
+    match word {
+        "run" => Some(Request::Make(Command::Run)),
+        "canon" => Some(Request::Make(Command::CanonicalForms)),
+        "text" => Some(Request::Make(Command::Printed)),
+        "binary" => Some(Request::Make(Command::Written)),
+        "--help" => Some(Request::Tell(Notice::Usage)),
+        "--version" => Some(Request::Tell(Notice::Version)),
+        _ => None,
     }
-    let word = words[0].as_str();
-    if word == "run" {
-        Some(Command::Run)
-    } else if word == "canon" {
-        Some(Command::CanonicalForms)
-    } else {
-        None
+}
+
+/// What the words ask for, where they are of the table.
+pub fn find_request(words: &[String]) -> Option<Request>
+    ensures { result ≡ request_of (texts words.now) }
+{
+    if words.len() == 1 {
+        return find_word(words[0].as_str());
     }
+    if words.len() == 2 && words[0].as_str() == "run" && words[1].as_str() == "--text" {
+        return Some(Request::Make(Command::RunText));
+    }
+    None
 }
 
 /// Whether the first word begins with `serve`.

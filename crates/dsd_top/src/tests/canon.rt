@@ -1,7 +1,6 @@
 //! Canonical forms of an input of values, and the statuses of that command.
-use super::{Outcome, outcome_with};
+use super::{Outcome, is_refused, outcome_for, outcome_with};
 use std::alloc::Global;
-use std::process::Abort;
 use std::sync::Wait;
 use std::test::Fail;
 use std::thread::Threads;
@@ -20,21 +19,7 @@ fn forms_of<Rt: Threads + Wait + Sync>(
     alloc: Global,
     bytes: &[u8],
 ) -> Result<Outcome, Fail> {
-    outcome_with(
-        rt,
-        alloc,
-        &["canon"],
-        bytes,
-        Vec::new(alloc),
-        Vec::new(alloc),
-    )
-}
-
-/// The status, and a line that says it; nothing is written.
-fn is_refused(rt: &impl Abort, got: &Outcome, status: u8, line: &str) {
-    assert_eq!(rt; got.status, status, "{line}");
-    assert_eq!(rt; got.diag.as_slice(), line.as_bytes());
-    assert!(rt; got.out.is_empty(), "{line}");
+    outcome_for(rt, alloc, &["canon"], bytes)
 }
 
 #[test]

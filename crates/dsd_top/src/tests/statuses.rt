@@ -1,7 +1,7 @@
 //! Each status, with its line and what was written.
 ghost use Rattle.std.specs.Prelude.{Some};
 
-use super::{Outcome, PRESENT, PRESENT_REPORT, outcome_of, outcome_with, status_with};
+use super::{PRESENT, PRESENT_REPORT, is_refused, outcome_of, outcome_with, status_with};
 use crate::memory::{MemSink, MemSource};
 use crate::ports::{Put, Sink};
 use std::alloc::Global;
@@ -17,13 +17,6 @@ fn after_open(alloc: Global, bytes: &[u8]) -> Result<Vec<u8>, Fail> {
     let mut all = Vec::from_slice(alloc, OPEN.as_slice())?;
     all.extend_from_slice(bytes)?;
     Ok(all)
-}
-
-/// The status, and a line that says it; nothing is written.
-fn is_refused(rt: &impl Abort, got: &Outcome, status: u8, line: &str) {
-    assert_eq!(rt; got.status, status, "{line}");
-    assert_eq!(rt; got.diag.as_slice(), line.as_bytes());
-    assert!(rt; got.out.is_empty(), "{line}");
 }
 
 /// These words are none of the table's.

@@ -1,5 +1,5 @@
-use Rattle.dsd_top.proofs.Opened.{opened_at}
+use Rattle.dsd_top.proofs.Opened.{script_in_order}
 use Rattle.dsd_top.proofs.once.report_of_script.Goals as goal
 
-pub report-requires : goal.report-requires
-report-requires c = opened_at c.args.bytes.now c.in_ok-events.events.items _ c.in_ok-run.run'.sent.items c.in_ok-events.ensures.script c.in_ok-run.ensures
+pub report_of_run-requires : goal.report_of_run-requires
+report_of_run-requires c = script_in_order _ _ c.in_ok-events.ensures.script

@@ -1,10 +1,10 @@
-//! Values one behind another, and their canonical forms.
+//! Binary values one behind another, and what is made of them.
 ghost use Rattle.std.specs.Prelude.{◌≡◌, ◌≤◌, length, IfOk, IfErr};
-ghost use Rattle.dsd_top.specs.declared.canonical.InputFault.TheVariants as fault;
-ghost use Rattle.dsd_top.specs.Values.{IsNextForm, StopsAt, AreCanonicalForms, IsInputFaultOf};
+ghost use Rattle.dsd_top.specs.declared.values.InputFault.TheVariants as fault;
+ghost use Rattle.dsd_top.specs.Values.{IsNextIn, StopsAt, AreIn, IsInputFaultOf};
 
+use crate::forms::{Form, push_value};
 use pv_binary::{BinFault, read};
-use pv_canon::canon;
 use pv_value::{Blob, NoMemory};
 use std::alloc::{AllocError, Global};
 
@@ -14,7 +14,7 @@ pub const INPUT_BYTES: usize = 67_108_864;
 /// Why an input isn't values to its end.
 #[derive(Debug, Drop)]
 pub enum InputFault {
-    /// After so many values come bytes that begin with no value.
+    /// After so many values comes what begins no value.
     Bad(u64),
     /// The input has more than [`INPUT_BYTES`].
     TooLong,
@@ -37,16 +37,21 @@ impl From<AllocError> for InputFault {
     }
 }
 
-// Appends the canonical form of the value that the bytes begin with, behind so many values. Gives how many bytes the
-// value has.
-fn push_next(alloc: Global, out: &mut Vec<u8>, rest: &[u8], place: u64) -> Result<usize, InputFault>
-    ensures form { IfOk result (λ size. IsNextForm rest.now size out.old.items out.new.items) }
+// Appends in this form the value that the bytes begin with, behind so many values. Gives how many bytes the value has.
+fn push_next(
+    alloc: Global,
+    out: &mut Vec<u8>,
+    rest: &[u8],
+    form: Form,
+    place: u64,
+) -> Result<usize, InputFault>
+    ensures form { IfOk result (λ size. IsNextIn form rest.now size out.old.items out.new.items) }
     ensures size { IfOk result (λ size. (1 ≤ size) × (size ≤ length rest.now)) }
     ensures stops { IfErr result (StopsAt rest.now place) }
 {
     match read(alloc, rest) {
         Ok((value, size)) => {
-            out.extend_from_slice(canon(alloc, &value)?.as_slice())?;
+            push_value(alloc, out, &value, form)?;
             Ok(size)
         }
         Err(BinFault::Bad(_, _)) => Err(InputFault::Bad(place)),
@@ -54,10 +59,10 @@ fn push_next(alloc: Global, out: &mut Vec<u8>, rest: &[u8], place: u64) -> Resul
     }
 }
 
-/// The canonical forms of the values that the bytes are, one behind another. Their length is looked at first, then the
+/// The values that the bytes are, each in this form, one behind another. Their length is looked at first, then the
 /// values in order.
-pub fn canonical_forms(alloc: Global, bytes: &[u8]) -> Result<Blob, InputFault>
-    ensures forms { IfOk result (AreCanonicalForms bytes.now) }
+pub fn values_to_end(alloc: Global, bytes: &[u8], form: Form) -> Result<Blob, InputFault>
+    ensures forms { IfOk result (AreIn form bytes.now) }
     ensures fault { IfErr result (IsInputFaultOf bytes.now) }
 {
     if bytes.len() > INPUT_BYTES {
@@ -67,7 +72,7 @@ pub fn canonical_forms(alloc: Global, bytes: &[u8]) -> Result<Blob, InputFault>
     let mut rest = bytes;
     let mut place = 0;
     while !rest.is_empty() {
-        let size = push_next(alloc, &mut out, rest, place)?;
+        let size = push_next(alloc, &mut out, rest, form, place)?;
         rest = &rest[size..];
         place += 1;
     }

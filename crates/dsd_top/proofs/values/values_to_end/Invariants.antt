@@ -1,14 +1,14 @@
 use Rattle.std.proofs.Common.{◌≤◌, ◌+◌, length}
-use Rattle.dsd_top.specs.Values.{IsCanonicalSoFar}
-use Rattle.dsd_top.specs.declared.canonical.TheConstants.{INPUT_BYTES}
-use Rattle.dsd_top.proofs.canonical.canonical_forms.Given as goal
+use Rattle.dsd_top.specs.Values.{IsInSoFar}
+use Rattle.dsd_top.specs.declared.values.TheConstants.{INPUT_BYTES}
+use Rattle.dsd_top.proofs.values.values_to_end.Given as goal
 
--- the canonical forms of the values so far are made
+-- the values so far are written in the form
 abbrev pub invariant-loop-rest : goal.invariant-loop-rest
 invariant-loop-rest l = record {
   small : length l.bytes ≤ INPUT_BYTES;
   place : l.place + length l.rest ≤ length l.bytes;
-  forms : IsCanonicalSoFar l.bytes l.out.items l.place l.rest;
+  forms : IsInSoFar l.form l.bytes l.out.items l.place l.rest;
 }
 
 abbrev pub decreases-loop-rest : goal.decreases-loop-rest
