@@ -1,9 +1,9 @@
 //! The real host: files by name. It opens no port yet, so it gives no link.
-ghost use Rattle.std.specs.Prelude.{◌≡◌, None};
-ghost use Rattle.dsd_top.specs.Ports.{raised};
+ghost use Rattle.std.specs.Prelude.{◌≡◌, ◌≤◌, None, IfOk, vec_len};
+ghost use Rattle.out_ports.specs.Ports.{raised};
 
 use crate::streams::{ReadSource, WriteSink};
-use dsd_top::ports::{Accepted, FILE_READ, Host, HostFault, Listen, Source, Took};
+use out_ports::ports::{Accepted, FILE_READ, Host, HostFault, Listen, Source, Took};
 use std::alloc::Global;
 use std::fs;
 use std::net::TcpStream;
@@ -23,7 +23,9 @@ pub struct RealHost<'a, Rt> {
 
 impl<'a, Rt: Files> RealHost<'a, Rt> {
     pub fn new(rt: &'a Rt) -> RealHost<'a, Rt>
-        ensures { result.file_faults ≡ 0 }
+        ensures stops { result.stops ≡ 0 }
+        ensures file_faults { result.file_faults ≡ 0 }
+        ensures port_faults { result.port_faults ≡ 0 }
     {
         RealHost {
             rt,
@@ -91,7 +93,9 @@ impl<'a, Rt: Files> Host for RealHost<'a, Rt> {
 }
 
 /// The first bytes of a file, at most as many as are read of one.
-fn front_of<I: Source>(alloc: Global, file: &mut I) -> Result<Vec<u8>, HostFault> {
+fn front_of<I: Source>(alloc: Global, file: &mut I) -> Result<Vec<u8>, HostFault>
+    ensures { IfOk result (λ front. vec_len front ≤ 1048577) }
+{
     let mut front = Vec::new(alloc);
     let mut buf = [0; PIECE];
     for _ in 0..FILE_READ {

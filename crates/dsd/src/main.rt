@@ -1,27 +1,31 @@
 //! `dsd`, a server of Syndicate dataspaces: the real streams, and the words of the command line.
 #![tactic(auto)]
 
+ghost use Rattle.std.specs.Prelude.{◌≡◌, ◌↔◌, [], ◌∷◌, Contains};
+ghost use Rattle.std.specs.declared.io.ErrorKind.TheVariants.{OutOfMemory};
+
 mod host;
 mod streams;
 
 use dsd_top::dsd_main;
 use host::RealHost;
-use std::alloc::{AllocError, Global};
+use out_ports::ports::Sink;
+use out_ports::streams::write_all;
 use std::env;
+use std::io::{self, ErrorKind};
 use std::process::ExitCode;
+use std::rt::Env;
 use streams::{ReadSource, WriteSink};
 
 /// Does what the words after the program's name say, and ends with the status.
 fn main(rt: HostRuntime) -> ExitCode {
-    let Ok(args) = env::args(&rt) else {
-        return ExitCode::from(BAD_WORDS);
-    };
-    let Ok(words) = words_of(rt.alloc(), args) else {
-        return ExitCode::from(NO_MEMORY);
+    let mut diag = WriteSink::new(rt.stderr());
+    let words = match words_of(&rt) {
+        Ok(words) => words,
+        Err(error) => return ExitCode::from(refuse(&mut diag, error.kind())),
     };
     let mut input = ReadSource::new(rt.stdin());
     let mut out = WriteSink::new(rt.stdout());
-    let mut diag = WriteSink::new(rt.stderr());
     let mut host = RealHost::new(&rt);
     let status = dsd_main(
         &rt,
@@ -35,17 +39,24 @@ fn main(rt: HostRuntime) -> ExitCode {
     ExitCode::from(status)
 }
 
-/// The status where the command line isn't text.
-const BAD_WORDS: u8 = 2;
-
-/// The status for want of memory.
-const NO_MEMORY: u8 = 5;
-
-/// The words after the program's name.
-fn words_of(alloc: Global, args: env::Args) -> Result<Vec<String>, AllocError> {
-    let mut words = Vec::new(alloc);
-    for word in args.skip(1) {
+/// The words after the program's name. One that isn't UTF-8 is an error.
+fn words_of<R: Env + AllocGlobal>(rt: &R) -> io::Result<Vec<String>> {
+    let mut words = Vec::new(rt.alloc());
+    for word in env::args(rt)?.skip(1) {
         words.push(word)?;
     }
     Ok(words)
+}
+
+/// Says why the words can't be read, and answers the status: 5 for want of memory, and else 2.
+fn refuse<E: Sink>(diag: &mut E, kind: ErrorKind) -> u8
+    ensures known { Contains (2 ∷ 5 ∷ []) result }
+    ensures memory { (result ≡ 5) ↔ (kind ≡ OutOfMemory) }
+{
+    let (status, line) = match kind {
+        ErrorKind::OutOfMemory => (5, "dsd: out of memory\n"),
+        _ => (2, "dsd: bad words\n"),
+    };
+    let _ = write_all(diag, line.as_bytes());
+    status
 }

@@ -1,8 +1,8 @@
 //! Real readers and writers as sources and sinks. They tell nothing of content.
 ghost use Rattle.std.specs.Prelude.{◌≡◌, ◌≤◌, None, false, length, IfSome};
-ghost use Rattle.dsd_top.specs.Ports.{raised};
+ghost use Rattle.out_ports.specs.Ports.{raised};
 
-use dsd_top::ports::{Put, Sink, Source, Took};
+use out_ports::ports::{Put, Sink, Source, Took};
 use std::io::{ErrorKind, Read, Write};
 
 /// A reader as a source.
@@ -16,7 +16,9 @@ pub struct ReadSource<R> {
 
 impl<R: Read> ReadSource<R> {
     pub fn new(reader: R) -> ReadSource<R>
-        ensures { result.faults ≡ 0 }
+        ensures given { result.given ≡ 0 }
+        ensures ended { result.ended ≡ false }
+        ensures faults { result.faults ≡ 0 }
     {
         ReadSource {
             reader,
@@ -85,7 +87,8 @@ pub struct WriteSink<W> {
 
 impl<W: Write> WriteSink<W> {
     pub fn new(writer: W) -> WriteSink<W>
-        ensures { result.faults ≡ 0 }
+        ensures finishes { result.finishes ≡ 0 }
+        ensures faults { result.faults ≡ 0 }
     {
         WriteSink {
             writer,

@@ -1,13 +1,16 @@
 -- What a status says, by its cause.
-use Rattle.std.proofs.Common.{◌≡◌, ◌≢◌, ℕ, List, Option, Some, None, IfSome, IfErr, Result, Ok, Err, Contains, lit<, refl, sym, subst, arith}
+use Rattle.std.proofs.Common.{◌≡◌, ◌≢◌, ℕ, List, Option, Some, None, IfSome, IfErr, Result, Ok, Err, Contains, lit<}
+use Rattle.std.proofs.Common.{refl, sym, subst, arith}
 use Rattle.std.specs.Result.{IsErrAnd}
 use Rattle.dsd_top.specs.declared.once.Fault.{Fault}
-use Rattle.dsd_top.specs.declared.once.Fault.TheVariants.{BadInput, BadWords, ReadFailed, WriteFailed, NoMemory, TooLong, NotBuilt}
-use Rattle.dsd_top.specs.declared.streams.ReadFault.{ReadFault}
-use Rattle.dsd_top.specs.declared.streams.ReadFault.TheVariants as reading
+use Rattle.dsd_top.specs.declared.once.Fault.TheVariants.{BadInput, BadWords, ReadFailed, WriteFailed, NoMemory}
+use Rattle.dsd_top.specs.declared.once.Fault.TheVariants.{TooLong, NotBuilt}
+use Rattle.out_ports.specs.declared.streams.ReadFault.{ReadFault}
+use Rattle.out_ports.specs.declared.streams.ReadFault.TheVariants as reading
 use Rattle.dsd_top.specs.declared.words.Command.{Command}
 use Rattle.dsd_top.specs.declared.words.Command.TheVariants.{Run, RunText, CanonicalForms, Printed, Written}
-use Rattle.dsd_top.specs.Statuses.{IsStatus, statuses_by, IsBadInputAt, IsNotBuiltAt, IsBadInput, IsNotBuilt, IsOver, IsCut, status_of, from_read, IsCauseOf, Tells}
+use Rattle.dsd_top.specs.Statuses.{IsStatus, statuses_by, IsBadInputAt, IsNotBuiltAt, IsBadInput, IsNotBuilt, IsOver}
+use Rattle.dsd_top.specs.Statuses.{IsCut, status_of, IsBehindInput, from_read, IsCauseOf, Tells}
 
 pub is_status : (f : Fault) → IsStatus (status_of f)
 is_status (BadInput n) = (1, lit< tt, refl)
@@ -19,7 +22,8 @@ is_status TooLong = (6, lit< tt, refl)
 is_status (NotBuilt n) = (7, lit< tt, refl)
 
 -- a cause that stands of the input is one of the command's
-pub cause_known : (c : Command) (bytes : List ℕ) (f : Fault) → IsCauseOf c bytes f → Contains (statuses_by c) (status_of f)
+pub cause_known : (c : Command) (bytes : List ℕ) (f : Fault) → IsCauseOf c bytes f
+    → Contains (statuses_by c) (status_of f)
 cause_known c bytes (BadInput n) h = (1, lit< tt, refl)
 cause_known c bytes BadWords h = absurd h
 cause_known c bytes ReadFailed h = absurd h
@@ -70,11 +74,13 @@ none_is NoMemory e = absurd (omega arith)
 none_is TooLong e = absurd (omega arith)
 none_is (NotBuilt n) e = absurd (omega arith)
 
-some_bad : (c : Command) (left : Option (List ℕ)) (n : ℕ) → IfSome left (λ bytes. IsBadInputAt c bytes n) → IfSome left (IsBadInput c)
+some_bad : (c : Command) (left : Option (List ℕ)) (n : ℕ) → IfSome left (λ bytes. IsBadInputAt c bytes n)
+    → IfSome left (IsBadInput c)
 some_bad c None n h = tt
 some_bad c (Some bytes) n h = (n, h)
 
-some_not_built : (c : Command) (left : Option (List ℕ)) (n : ℕ) → IfSome left (λ bytes. IsNotBuiltAt c bytes n) → IfSome left (IsNotBuilt c)
+some_not_built : (c : Command) (left : Option (List ℕ)) (n : ℕ) → IfSome left (λ bytes. IsNotBuiltAt c bytes n)
+    → IfSome left (IsNotBuilt c)
 some_not_built c None n h = tt
 some_not_built c (Some bytes) n h = (n, h)
 
@@ -106,7 +112,8 @@ module _ (c : Command) (left before now : Option (List ℕ)) where
   input_not_built TooLong h e = absurd (omega arith)
   input_not_built (NotBuilt n) h e = some_not_built c left n h.0
 
-  pub is_cut : (f : Fault) → Tells c f left before now → status_of f ≡ 4 → IfSome left (λ bytes. IsCut c bytes before now)
+  pub is_cut : (f : Fault) → Tells c f left before now → status_of f ≡ 4
+      → IfSome left (λ bytes. IsCut c bytes before now)
   is_cut (BadInput n) h e = absurd (omega arith)
   is_cut BadWords h e = absurd (omega arith)
   is_cut ReadFailed h e = absurd (omega arith)
@@ -125,8 +132,19 @@ module _ (c : Command) (left before now : Option (List ℕ)) where
   is_unwritten (NotBuilt n) h e = h.1
 
 -- the cause that an error is
-pub known_err : {T : Type 0} (c : Command) (r : Result T Fault) (x : Fault) → IsErrAnd r (λ f. f ≡ x) → Contains (statuses_by c) (status_of x) → IfErr r (λ f. Contains (statuses_by c) (status_of f))
+pub known_err : {T : Type 0} (c : Command) (r : Result T Fault) (x : Fault) → IsErrAnd r (λ f. f ≡ x)
+    → Contains (statuses_by c) (status_of x) → IfErr r (λ f. Contains (statuses_by c) (status_of f))
 known_err c (Ok t) x h k = tt
 known_err c (Err f) x h k =
     let P : Fault → Type 0 = λ y. Contains (statuses_by c) (status_of y) in
     subst P (sym h) k
+
+-- an error of reading comes before the end of the input
+pub read_first : {T : Type 0} (P : Type 0) (r : Result T Fault) (e : ReadFault) → IsErrAnd r (λ f. f ≡ from_read e)
+    → IfErr r (λ f. IsBehindInput f → P)
+read_first P (Ok t) e h = tt
+read_first P (Err f) e h = λ b. absurd (early e (subst IsBehindInput h b))
+  where
+    early : (e : ReadFault) → IsBehindInput (from_read e) → ⊥
+    early reading.Failed b = b.0 refl
+    early reading.NoMemory b = b.1 refl

@@ -1,16 +1,3 @@
-pub mod Begins
 pub mod Causes
-pub mod Drained
-pub mod Events
-pub mod Handles
 pub mod InForm
-pub mod Leading
-pub mod Opened
-pub mod Parts
 pub mod Readings
-pub mod Replays
-pub mod Standing
-pub mod TextReadings
-pub mod TextVerdicts
-pub mod Turns
-pub mod Verdicts

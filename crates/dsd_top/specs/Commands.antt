@@ -1,10 +1,10 @@
 -- The program's words, and what they ask for.
-use Rattle.std.specs.Prelude.{ℕ, List, [], ◌∷◌, map, string_bytes, codes, Bool, false, ◌&&◌, Option, Some, None, if◌then◌else◌, nat_eq}
+use Rattle.std.specs.Prelude.{ℕ, List, [], ◌∷◌, ◌++◌, map, string_bytes, codes, Bool, false, ◌&&◌, nat_eq}
+use Rattle.std.specs.Prelude.{Option, Some, None, if◌then◌else◌}
 use Rattle.std.specs.declared.string.String.{String}
 use Rattle.std.specs.declared.alloc.Global.{Global}
-use Rattle.std.specs.List.{starts_with}
+use Rattle.std.specs.List.{flat_map, starts_with}
 use Rattle.std.specs.Str.{bytes_eq}
-use Rattle.dsd_top.specs.declared.words.TheConstants.{USAGE, VERSION}
 use Rattle.dsd_top.specs.declared.words.Command.{Command}
 use Rattle.dsd_top.specs.declared.words.Command.TheVariants.{Run, RunText, CanonicalForms, Printed, Written}
 use Rattle.dsd_top.specs.declared.words.Notice.{Notice}
@@ -57,9 +57,23 @@ command_of words = made_by (request_of words)
 abbrev pub notice_of : List (List ℕ) → Option Notice
 notice_of words = told_by (request_of words)
 
+-- lines, each with its end
+abbrev pub lines_of : List (List ℕ) → List ℕ
+lines_of ls = flat_map (λ l. l ++ 10 ∷ []) ls
+
 unfoldable pub text_of : Notice → List ℕ
-text_of Usage = USAGE.now
-text_of Version = VERSION.now
+text_of Usage = lines_of (
+    codes "usage: dsd WORD, from standard input to standard output"
+    ∷ codes "  run           the report of a script's run, in binary"
+    ∷ codes "  run --text    the same of a script in text, in text"
+    ∷ codes "  canon         binary values, each in its canonical form"
+    ∷ codes "  text          binary values, each printed on a line"
+    ∷ codes "  binary        text values, each in its written binary spelling"
+    ∷ codes "  --help        these lines"
+    ∷ codes "  --version     the version"
+    ∷ []
+    )
+text_of Version = lines_of (codes "dsd 0.1.0" ∷ [])
 
 -- whether the first word begins with "serve"
 abbrev pub is_serve : List (List ℕ) → Bool

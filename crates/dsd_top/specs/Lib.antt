@@ -1,13 +1,5 @@
-pub mod Calls
 pub mod Commands
 pub mod Forms
-pub mod Memory
-pub mod Ports
-pub mod Reading
-pub mod Reports
-pub mod Runs
-pub mod Scripts
 pub mod Statuses
-pub mod TextScripts
 pub mod Texts
 pub mod Values

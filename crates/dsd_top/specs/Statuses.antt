@@ -1,23 +1,22 @@
 -- What a status says of the words, the input and what was written.
-use Rattle.std.specs.Prelude.{◌≡◌, ℕ, ◌<◌, ◌≤◌, List, [], ◌∷◌, length, Option, Some, None, Contains, IfSome}
-use Rattle.dsd_top.specs.Ports.{Appends, AppendsFront}
-use Rattle.dsd_top.specs.Scripts.{good, bad, not_built, IsJudged}
-use Rattle.dsd_top.specs.TextScripts.{IsTextJudged}
-use Rattle.dsd_top.specs.Values.{IsBadValueAt, AreIn}
-use Rattle.dsd_top.specs.Texts.{IsBadTextAt, IsTextIn}
+use Rattle.std.specs.Prelude.{◌≡◌, ◌≢◌, ℕ, ◌<◌, ◌≤◌, List, [], ◌∷◌, length, Option, Some, None, Contains, IfSome}
+use Rattle.out_ports.specs.Ports.{Appends, AppendsFront}
+use Rattle.sc_script.specs.Reports.{report_of}
+use Rattle.sc_script.specs.Runs.{run_of}
+use Rattle.sc_script.specs.TextVerdicts.{IsTextJudged}
+use Rattle.sc_script.specs.Verdicts.{good, bad, not_built, IsJudged}
+use Rattle.sc_script.specs.declared.events.ScriptEvent.{ScriptEvent}
+use Rattle.sc_script.specs.declared.scripts.ScriptFault.{ScriptFault}
+use Rattle.sc_script.specs.declared.scripts.ScriptFault.TheVariants as script
+use Rattle.out_ports.specs.declared.streams.ReadFault.{ReadFault}
+use Rattle.out_ports.specs.declared.streams.ReadFault.TheVariants as reading
 use Rattle.dsd_top.specs.Forms.{in_form}
-use Rattle.dsd_top.specs.Runs.{run_of}
-use Rattle.dsd_top.specs.Reports.{report_of}
+use Rattle.dsd_top.specs.Texts.{IsBadTextAt, IsTextIn}
+use Rattle.dsd_top.specs.Values.{IsBadValueAt, AreIn}
 use Rattle.dsd_top.specs.declared.forms.Form.{Form}
 use Rattle.dsd_top.specs.declared.forms.Form.TheVariants as form
-use Rattle.dsd_top.specs.declared.values.TheConstants.{INPUT_BYTES}
 use Rattle.dsd_top.specs.declared.values.InputFault.{InputFault}
 use Rattle.dsd_top.specs.declared.values.InputFault.TheVariants as input
-use Rattle.dsd_top.specs.declared.scripts.ScriptEvent.{ScriptEvent}
-use Rattle.dsd_top.specs.declared.scripts.ScriptFault.{ScriptFault}
-use Rattle.dsd_top.specs.declared.scripts.ScriptFault.TheVariants as script
-use Rattle.dsd_top.specs.declared.streams.ReadFault.{ReadFault}
-use Rattle.dsd_top.specs.declared.streams.ReadFault.TheVariants as reading
 use Rattle.dsd_top.specs.declared.words.Command.{Command}
 use Rattle.dsd_top.specs.declared.words.Command.TheVariants.{Run, RunText, CanonicalForms, Printed, Written}
 use Rattle.dsd_top.specs.declared.words.Request.{Request}
@@ -77,9 +76,9 @@ IsAnswerOf Written bytes out = IsTextIn form.Written bytes out
 abbrev pub IsBadInputAt : Command → List ℕ → ℕ → Type 0
 IsBadInputAt Run bytes n = IsJudged bytes (bad n)
 IsBadInputAt RunText bytes n = IsTextJudged bytes (bad n)
-IsBadInputAt CanonicalForms bytes n = (length bytes ≤ INPUT_BYTES) × IsBadValueAt bytes n
-IsBadInputAt Printed bytes n = (length bytes ≤ INPUT_BYTES) × IsBadValueAt bytes n
-IsBadInputAt Written bytes n = (length bytes ≤ INPUT_BYTES) × IsBadTextAt bytes n
+IsBadInputAt CanonicalForms bytes n = (length bytes ≤ 67108864) × IsBadValueAt bytes n
+IsBadInputAt Printed bytes n = (length bytes ≤ 67108864) × IsBadValueAt bytes n
+IsBadInputAt Written bytes n = (length bytes ≤ 67108864) × IsBadTextAt bytes n
 
 -- value n of the input goes past what is built
 abbrev pub IsNotBuiltAt : Command → List ℕ → ℕ → Type 0
@@ -93,9 +92,9 @@ IsNotBuiltAt Written bytes n = ⊥
 abbrev pub IsOver : Command → List ℕ → Type 0
 IsOver Run bytes = ⊥
 IsOver RunText bytes = ⊥
-IsOver CanonicalForms bytes = INPUT_BYTES < length bytes
-IsOver Printed bytes = INPUT_BYTES < length bytes
-IsOver Written bytes = INPUT_BYTES < length bytes
+IsOver CanonicalForms bytes = 67108864 < length bytes
+IsOver Printed bytes = 67108864 < length bytes
+IsOver Written bytes = 67108864 < length bytes
 
 -- ---- for any command
 
@@ -123,6 +122,10 @@ status_of fault.WriteFailed = 4
 status_of fault.NoMemory = 5
 status_of fault.TooLong = 6
 status_of (fault.NotBuilt n) = 10
+
+-- the causes that come only behind the whole input
+abbrev pub IsBehindInput : Fault → Type 0
+IsBehindInput f = (status_of f ≢ 3) × (status_of f ≢ 5)
 
 -- what a cause says of the input, where a command was making its answer
 abbrev pub IsCauseOf : Command → List ℕ → Fault → Type 0

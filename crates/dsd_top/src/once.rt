@@ -1,24 +1,27 @@
-//! The program's words.
-ghost use Rattle.std.specs.Prelude.{◌≡◌, ◌≢◌, ◌≤◌, ◌↔◌, [], ◌∷◌, true, false, None, Contains, IfSome, IfOk, IfErr, OnOk, OnErr, IsErrOf};
+//! What the program does once its words, streams and host are handed in.
+ghost use Rattle.std.specs.Prelude.{◌≡◌, ◌≢◌, ◌≤◌, ◌↔◌, [], ◌∷◌, true, false, None, Contains};
+ghost use Rattle.std.specs.Prelude.{IfSome, IfOk, IfErr, OnOk, OnErr, IsErrOf};
+ghost use Rattle.out_ports.specs.Ports.{Rose, Appends, AppendsFront};
+ghost use Rattle.sc_script.specs.Steps.{IsFaultOf};
+ghost use Rattle.sc_script.specs.TextVerdicts.{IsTextJudged};
+ghost use Rattle.sc_script.specs.Verdicts.{IsJudged};
+ghost use Rattle.dsd_top.specs.Commands.{texts, request_of, command_of, notice_of, text_of};
+ghost use Rattle.dsd_top.specs.Commands.{is_serve as begins_with_serve};
+ghost use Rattle.dsd_top.specs.Statuses.{IsStatus, statuses_by, statuses_of, IfTold, answer_of};
+ghost use Rattle.dsd_top.specs.Statuses.{IsReported, IsReportedText, IsAnswerOf, IsAnswered};
+ghost use Rattle.dsd_top.specs.Statuses.{IsCut, IsBadInput, IsNotBuilt, IsOver, IsCauseOf, Tells};
+ghost use Rattle.dsd_top.specs.Statuses.{status_of, IsBehindInput, from_script, from_input};
+ghost use Rattle.dsd_top.specs.Statuses.{from_read};
 ghost use Rattle.dsd_top.specs.declared.once.Fault.TheVariants as fault;
-ghost use Rattle.dsd_top.specs.Ports.{Rose, Appends, AppendsFront};
-ghost use Rattle.dsd_top.specs.Commands.{texts, request_of, command_of, notice_of, text_of, is_serve as begins_with_serve};
-ghost use Rattle.dsd_top.specs.Scripts.{start, InOrder};
-ghost use Rattle.dsd_top.specs.Reading.{IsFaultOf};
-ghost use Rattle.dsd_top.specs.TextScripts.{IsFaultOfText};
-ghost use Rattle.dsd_top.specs.Statuses.{IsStatus, statuses_by, statuses_of, IfTold, answer_of, IsReported, IsReportedText, IsAnswerOf, IsAnswered, IsCut, IsBadInput, IsNotBuilt, IsOver, IsCauseOf, Tells, status_of, from_script, from_input, from_read};
 
 use crate::forms::{Form, value_in};
-use crate::ports::{Host, Sink, Source};
-use crate::reports::report;
-use crate::runs::run_events;
-use crate::scripts::{ScriptEvent, ScriptFault, read_script};
-use crate::streams::{ReadFault, WriteFault, read_to_end, write_all};
-use crate::text_scripts::read_text_script;
 use crate::texts::text_to_end;
 use crate::values::{InputFault, values_to_end};
 use crate::words::{Command, Notice, Request, find_request, is_serve};
-use pv_value::{Blob, NoMemory};
+use out_ports::ports::{Host, Sink, Source};
+use out_ports::streams::{ReadFault, WriteFault, read_to_end, write_all};
+use pv_value::NoMemory;
+use sc_script::{Script, ScriptFault, read_script, read_text_script, report};
 use std::alloc::Global;
 use std::sync::Wait;
 use std::thread::Threads;
@@ -94,37 +97,35 @@ impl From<WriteFault> for Fault {
     }
 }
 
-// The report of the run of these events, in this form.
-fn report_of_run(alloc: Global, events: Vec<ScriptEvent>, form: Form) -> Result<Blob, NoMemory>
-    requires { InOrder start events.items }
-    ensures { IfOk result (λ bytes. bytes ≡ answer_of form events.items) }
+/// The report of the script's run, in this form.
+fn report_in(alloc: Global, script: Script, form: Form) -> Result<Vec<u8>, NoMemory>
+    ensures { IfOk result (λ out. out.items ≡ answer_of form script) }
 {
-    let run = run_events(alloc, events)?;
-    let value = report(alloc, &run)?;
+    let value = report(alloc, script)?;
     value_in(alloc, &value, form)
 }
 
-// What is written for a script.
-fn report_of_script(alloc: Global, bytes: &[u8]) -> Result<Blob, ScriptFault>
-    ensures answer { IfOk result (IsReported bytes.now) }
-    ensures fault { IfErr result (IsFaultOf bytes.now) }
+/// What is written for a script.
+fn report_of_script(alloc: Global, bytes: &[u8]) -> Result<Vec<u8>, ScriptFault>
+    ensures answer { IfOk result (λ out. IsReported bytes.now out.items) }
+    ensures fault { IfErr result (IsFaultOf (IsJudged bytes.now)) }
 {
-    let events = read_script(alloc, bytes)?;
-    Ok(report_of_run(alloc, events, Form::Written)?)
+    let script = read_script(alloc, bytes)?;
+    Ok(report_in(alloc, script, Form::Written)?)
 }
 
-// What is written for a script in text.
-fn report_of_text(alloc: Global, text: &[u8]) -> Result<Blob, ScriptFault>
-    ensures answer { IfOk result (IsReportedText text.now) }
-    ensures fault { IfErr result (IsFaultOfText text.now) }
+/// What is written for a script in text.
+fn report_of_text(alloc: Global, text: &[u8]) -> Result<Vec<u8>, ScriptFault>
+    ensures answer { IfOk result (λ out. IsReportedText text.now out.items) }
+    ensures fault { IfErr result (IsFaultOf (IsTextJudged text.now)) }
 {
-    let events = read_text_script(alloc, text)?;
-    Ok(report_of_run(alloc, events, Form::Printed)?)
+    let script = read_text_script(alloc, text)?;
+    Ok(report_in(alloc, script, Form::Printed)?)
 }
 
-// What the command makes of the input.
-fn answer(alloc: Global, command: Command, bytes: &[u8]) -> Result<Blob, Fault>
-    ensures answer { IfOk result (IsAnswerOf command bytes.now) }
+/// What the command makes of the input.
+fn answer(alloc: Global, command: Command, bytes: &[u8]) -> Result<Vec<u8>, Fault>
+    ensures answer { IfOk result (λ out. IsAnswerOf command bytes.now out.items) }
     ensures cause { IfErr result (IsCauseOf command bytes.now) }
 {
     match command {
@@ -136,7 +137,7 @@ fn answer(alloc: Global, command: Command, bytes: &[u8]) -> Result<Blob, Fault>
     }
 }
 
-// Reads the whole input, and writes what the command makes of it.
+/// Reads the whole input, and writes what the command makes of it.
 fn do_command<I: Source, O: Sink>(
     alloc: Global,
     command: Command,
@@ -145,30 +146,35 @@ fn do_command<I: Source, O: Sink>(
 ) -> Result<(), Fault>
     ensures known { IfErr result (λ f. Contains (statuses_by command) (status_of f)) }
     ensures ended { OnOk result (I.ended input.new ≡ true) }
-    ensures done { OnOk result (IfSome (I.left input.old) (λ bytes. IsAnswered command bytes (O.held out.old) (O.held out.new))) }
-    ensures fault { IfErr result (λ f. Tells command f (I.left input.old) (O.held out.old) (O.held out.new)) }
-    ensures read_failed { IsErrOf result fault.ReadFailed → Rose (I.faults input.old) (I.faults input.new) }
-    ensures write_failed { IsErrOf result fault.WriteFailed → Rose (O.faults out.old) (O.faults out.new) }
+    ensures ended_first { IfErr result (λ f. IsBehindInput f → I.ended input.new ≡ true) }
+    ensures done { OnOk result (IfSome (I.left input.old) (λ bytes.
+        IsAnswered command bytes (O.held out.old) (O.held out.new))) }
+    ensures fault { IfErr result (λ f.
+        Tells command f (I.left input.old) (O.held out.old) (O.held out.new)) }
+    ensures read_failed { IsErrOf result fault.ReadFailed →
+        Rose (I.faults input.old) (I.faults input.new) }
+    ensures write_failed { IsErrOf result fault.WriteFailed →
+        Rose (O.faults out.old) (O.faults out.new) }
 {
     let bytes = read_to_end(alloc, input)?;
     let answer = answer(alloc, command, &bytes)?;
-    write_all(out, answer.as_slice())?;
+    write_all(out, &answer)?;
     Ok(())
 }
 
-// Writes a line, and leaves what can't be written.
+/// Writes a line, and leaves what can't be written.
 fn say<E: Sink>(diag: &mut E, line: &str) {
     let _ = write_all(diag, line.as_bytes());
 }
 
-// Writes a line that names a place. Where memory is wanting for it, it is left out.
+/// Writes a line that names a place. Where memory is wanting for it, it is left out.
 fn say_place<E: Sink>(alloc: Global, diag: &mut E, what: &str, place: u64) {
     if let Ok(line) = format!(in alloc; "dsd: {what} at {place}\n") {
         say(diag, line.as_str());
     }
 }
 
-// Says why the status isn't 0.
+/// Says why the status isn't 0.
 fn tell<E: Sink>(alloc: Global, diag: &mut E, fault: Fault) {
     match fault {
         Fault::BadInput(n) => say_place(alloc, diag, "bad input", n),
@@ -181,7 +187,7 @@ fn tell<E: Sink>(alloc: Global, diag: &mut E, fault: Fault) {
     }
 }
 
-// Says why the status isn't 0, and answers it.
+/// Says why the status isn't 0, and answers it.
 fn refuse<E: Sink>(alloc: Global, diag: &mut E, fault: Fault) -> u8
     ensures { result ≡ status_of fault }
 {
@@ -189,7 +195,7 @@ fn refuse<E: Sink>(alloc: Global, diag: &mut E, fault: Fault) -> u8
     fault.status()
 }
 
-// Writes a notice, and answers the status.
+/// Writes a notice, and answers the status.
 fn show<O: Sink, E: Sink>(alloc: Global, notice: Notice, out: &mut O, diag: &mut E) -> u8
     ensures known { Contains (0 ∷ 4 ∷ []) result }
     ensures done { result ≡ 0 → Appends (O.held out.old) (O.held out.new) (text_of notice) }
@@ -202,11 +208,11 @@ fn show<O: Sink, E: Sink>(alloc: Global, notice: Notice, out: &mut O, diag: &mut
     }
 }
 
-/// Does what the words say, and answers the status: 0 where all input was read, or a notice asked for, and all output
-/// written, 1 where a value of the input is malformed, 2 where the words are none of the table's, 3 where the input
-/// failed, 4 where the output failed, 5 for want of memory, 6 where the input is longer than the command takes, 10 where
-/// the input goes past what is built. At every status but 0 one line on `diag` says why; a fault of `diag` changes
-/// nothing.
+/// Does what the words say, and answers the status: 0 where all input was read, or a notice asked
+/// for, and all output written, 1 where a value of the input is malformed, 2 where the words are
+/// none of the table's, 3 where the input failed, 4 where the output failed, 5 for want of memory,
+/// 6 where the input is longer than the command takes, 10 where the input goes past what is built.
+/// At every status but 0 one line on `diag` says why; a fault of `diag` changes nothing.
 pub fn dsd_once<I: Source, O: Sink, E: Sink, H: Host>(
     alloc: Global,
     words: &[String],
@@ -216,27 +222,37 @@ pub fn dsd_once<I: Source, O: Sink, E: Sink, H: Host>(
     host: &mut H,
 ) -> u8
     requires { begins_with_serve (texts words.now) ≡ false }
-
-    // Each status, and when it comes. Where the words are of the table, no count rose and no cause of 1, 6 or
-    // 10 stands, the status is 0, or 5 for want of memory.
+    // Each status, and when it comes. Where the words are of the table, no count rose and no cause
+    // of 1, 6 or 10 stands, the status is 0, or 5 for want of memory.
     ensures known { IsStatus result }
     ensures of_request { Contains (statuses_of (request_of (texts words.now))) result }
     ensures words { (result ≡ 2) ↔ (request_of (texts words.now) ≡ None) }
-    ensures ended { result ≡ 0 → IfSome (command_of (texts words.now)) (λ c. I.ended input.new ≡ true) }
-    ensures done { result ≡ 0 → IfTold (command_of (texts words.now)) (I.left input.old) (λ c bytes. IsAnswered c bytes (O.held out.old) (O.held out.new)) }
-    ensures bad_input { result ≡ 1 → IfTold (command_of (texts words.now)) (I.left input.old) IsBadInput }
-    ensures limit { result ≡ 6 → IfTold (command_of (texts words.now)) (I.left input.old) IsOver }
-    ensures not_built { result ≡ 10 → IfTold (command_of (texts words.now)) (I.left input.old) IsNotBuilt }
+    ensures done { result ≡ 0 → IfTold (command_of (texts words.now)) (I.left input.old)
+        (λ c bytes. IsAnswered c bytes (O.held out.old) (O.held out.new)) }
+    ensures bad_input { result ≡ 1
+        → IfTold (command_of (texts words.now)) (I.left input.old) IsBadInput }
+    ensures limit { result ≡ 6
+        → IfTold (command_of (texts words.now)) (I.left input.old) IsOver }
+    ensures not_built { result ≡ 10
+        → IfTold (command_of (texts words.now)) (I.left input.old) IsNotBuilt }
     ensures read_failed { result ≡ 3 → Rose (I.faults input.old) (I.faults input.new) }
     ensures write_failed { result ≡ 4 → Rose (O.faults out.old) (O.faults out.new) }
 
-    // A notice is written with no look at the input.
-    ensures shown { result ≡ 0 → IfSome (notice_of (texts words.now)) (λ n. Appends (O.held out.old) (O.held out.new) (text_of n)) }
-    ensures shown_front { result ≡ 4 → IfSome (notice_of (texts words.now)) (λ n. AppendsFront (O.held out.old) (O.held out.new) (text_of n)) }
-    ensures unread { IfSome (notice_of (texts words.now)) (λ n. input.new ≡ input.old) }
+    // A command reads the input to its end before anything else decides; what is no command leaves
+    // it unread.
+    ensures ended { result ≢ 3 → result ≢ 5
+        → IfSome (command_of (texts words.now)) (λ c. I.ended input.new ≡ true) }
+    ensures unread { command_of (texts words.now) ≡ None → input.new ≡ input.old }
+
+    // A notice is written.
+    ensures shown { result ≡ 0 → IfSome (notice_of (texts words.now))
+        (λ n. Appends (O.held out.old) (O.held out.new) (text_of n)) }
+    ensures shown_front { result ≡ 4 → IfSome (notice_of (texts words.now))
+        (λ n. AppendsFront (O.held out.old) (O.held out.new) (text_of n)) }
 
     // What stands after it.
-    ensures cut { result ≡ 4 → IfTold (command_of (texts words.now)) (I.left input.old) (λ c bytes. IsCut c bytes (O.held out.old) (O.held out.new)) }
+    ensures cut { result ≡ 4 → IfTold (command_of (texts words.now)) (I.left input.old)
+        (λ c bytes. IsCut c bytes (O.held out.old) (O.held out.new)) }
     ensures unwritten { result ≢ 0 → result ≢ 4 → O.held out.new ≡ O.held out.old }
     ensures same_host { host.new ≡ host.old }
 {
@@ -251,8 +267,8 @@ pub fn dsd_once<I: Source, O: Sink, E: Sink, H: Host>(
     }
 }
 
-/// Does what the words say, with threads and waits at hand, and answers the status, as [`dsd_once`]. No word that
-/// begins with `serve` is of the table.
+/// Does what the words say, with threads and waits at hand, and answers the status, as
+/// [`dsd_once`]. No word that begins with `serve` is of the table.
 pub fn dsd_main<Rt: Threads + Wait + Sync, I: Source, O: Sink, E: Sink, H: Host>(
     _rt: &Rt,
     alloc: Global,
@@ -265,26 +281,37 @@ pub fn dsd_main<Rt: Threads + Wait + Sync, I: Source, O: Sink, E: Sink, H: Host>
 where
     H::R: Send + Drop,
     H::W: Send + Drop,
-    // Each status, and when it comes. Where the words are of the table, no count rose and no cause of 1, 6 or
-    // 10 stands, the status is 0, or 5 for want of memory.
+    // Each status, and when it comes. Where the words are of the table, no count rose and no cause
+    // of 1, 6 or 10 stands, the status is 0, or 5 for want of memory.
     ensures known { IsStatus result }
     ensures of_request { Contains (statuses_of (request_of (texts words.now))) result }
     ensures words { (result ≡ 2) ↔ (request_of (texts words.now) ≡ None) }
-    ensures ended { result ≡ 0 → IfSome (command_of (texts words.now)) (λ c. I.ended input.new ≡ true) }
-    ensures done { result ≡ 0 → IfTold (command_of (texts words.now)) (I.left input.old) (λ c bytes. IsAnswered c bytes (O.held out.old) (O.held out.new)) }
-    ensures bad_input { result ≡ 1 → IfTold (command_of (texts words.now)) (I.left input.old) IsBadInput }
-    ensures limit { result ≡ 6 → IfTold (command_of (texts words.now)) (I.left input.old) IsOver }
-    ensures not_built { result ≡ 10 → IfTold (command_of (texts words.now)) (I.left input.old) IsNotBuilt }
+    ensures done { result ≡ 0 → IfTold (command_of (texts words.now)) (I.left input.old)
+        (λ c bytes. IsAnswered c bytes (O.held out.old) (O.held out.new)) }
+    ensures bad_input { result ≡ 1
+        → IfTold (command_of (texts words.now)) (I.left input.old) IsBadInput }
+    ensures limit { result ≡ 6
+        → IfTold (command_of (texts words.now)) (I.left input.old) IsOver }
+    ensures not_built { result ≡ 10
+        → IfTold (command_of (texts words.now)) (I.left input.old) IsNotBuilt }
     ensures read_failed { result ≡ 3 → Rose (I.faults input.old) (I.faults input.new) }
     ensures write_failed { result ≡ 4 → Rose (O.faults out.old) (O.faults out.new) }
 
-    // A notice is written with no look at the input.
-    ensures shown { result ≡ 0 → IfSome (notice_of (texts words.now)) (λ n. Appends (O.held out.old) (O.held out.new) (text_of n)) }
-    ensures shown_front { result ≡ 4 → IfSome (notice_of (texts words.now)) (λ n. AppendsFront (O.held out.old) (O.held out.new) (text_of n)) }
-    ensures unread { IfSome (notice_of (texts words.now)) (λ n. input.new ≡ input.old) }
+    // A command reads the input to its end before anything else decides; what is no command leaves
+    // it unread.
+    ensures ended { result ≢ 3 → result ≢ 5
+        → IfSome (command_of (texts words.now)) (λ c. I.ended input.new ≡ true) }
+    ensures unread { command_of (texts words.now) ≡ None → input.new ≡ input.old }
+
+    // A notice is written.
+    ensures shown { result ≡ 0 → IfSome (notice_of (texts words.now))
+        (λ n. Appends (O.held out.old) (O.held out.new) (text_of n)) }
+    ensures shown_front { result ≡ 4 → IfSome (notice_of (texts words.now))
+        (λ n. AppendsFront (O.held out.old) (O.held out.new) (text_of n)) }
 
     // What stands after it.
-    ensures cut { result ≡ 4 → IfTold (command_of (texts words.now)) (I.left input.old) (λ c bytes. IsCut c bytes (O.held out.old) (O.held out.new)) }
+    ensures cut { result ≡ 4 → IfTold (command_of (texts words.now)) (I.left input.old)
+        (λ c bytes. IsCut c bytes (O.held out.old) (O.held out.new)) }
     ensures unwritten { result ≢ 0 → result ≢ 4 → O.held out.new ≡ O.held out.old }
     ensures same_host { host.new ≡ host.old }
 {

@@ -1,6 +1,7 @@
 //! The program's words, and what they ask for.
 ghost use Rattle.std.specs.Prelude.{◌≡◌};
-ghost use Rattle.dsd_top.specs.Commands.{texts, request_of, named, text_of, is_serve as begins_with_serve};
+ghost use Rattle.dsd_top.specs.Commands.{texts, request_of, named, text_of};
+ghost use Rattle.dsd_top.specs.Commands.{is_serve as begins_with_serve};
 
 /// The answer to `--help`: the words, a line each.
 pub const USAGE: &str = "usage: dsd WORD, from standard input to standard output
@@ -62,7 +63,7 @@ impl Notice {
     }
 }
 
-// What one word asks for.
+/// What one word asks for.
 fn find_word(word: &str) -> Option<Request>
     ensures { result ≡ named word.now }
 {

@@ -6,11 +6,12 @@ use Rattle.std.specs.declared.cmp.Ordering.TheVariants.{Less, Equal, Greater}
 use Rattle.std.specs.List.{flat_map}
 use Rattle.pv_value.specs.Plain.{Plain}
 use Rattle.pv_value.specs.Order.{order}
-use Rattle.pv_value.specs.Laws.{order_turn}
+use Rattle.pv_value.specs.Lemmas.OrderLaws.{order_turn}
 use Rattle.hub_core.specs.State.{Want, TurnEvent, Batch, Actor, State, find_actor}
 use Rattle.hub_core.specs.Words.{actor_of}
 use Rattle.hub_core.specs.Spaces.{insert_by, insert_want, in_order, observer_of, wants_by}
-use Rattle.hub_core.specs.Machine.{Behaviour, After, done, is_worn, unchanged, arrive, is_system, packet_of, turn_of, turn_from, system_turn, connection_turn, run_events, plan_of}
+use Rattle.hub_core.specs.Machine.{Behaviour, After, done, is_worn, unchanged, arrive, is_system, packet_of, turn_of}
+use Rattle.hub_core.specs.Machine.{turn_from, system_turn, connection_turn, run_events, plan_of}
 use Rattle.hub_core.specs.declared.hub.Step.{Step}
 use Rattle.hub_core.specs.declared.hub.Step.TheVariants.{Arrive, Packet, Turn}
 use Rattle.hub_core.specs.declared.hub.Reply.TheVariants.{Worn, Barred}
@@ -22,7 +23,8 @@ turned : (a b : Plain) → order a b ≡ Greater → order b a ≡ Less
 turned a b e = order_turn b a ∙ ap ordering_reverse e
 
 -- a key that led still leads, where a greater one was put in
-leads_on : (key : Plain) (w : Want) (ws : List Want) → order key w.key ≡ Less → Leads key ws → Leads key (insert_want w ws)
+leads_on : (key : Plain) (w : Want) (ws : List Want) → order key w.key ≡ Less → Leads key ws
+    → Leads key (insert_want w ws)
 leads_on key w [] l h = l
 leads_on key w (x ∷ xs) l h = by (order w.key x.key)
   where
@@ -35,7 +37,8 @@ pub insert_keeps : InsertKeeps
 insert_keeps w [] a = (tt, tt)
 insert_keeps w (x ∷ xs) a = by w x xs a (insert_keeps w xs a.1) (order w.key x.key) refl
   where
-    by : (w x : Want) (xs : List Want) → Ascend (x ∷ xs) → Ascend (insert_want w xs) → (o : Ordering) → order w.key x.key ≡ o → Ascend (insert_by o w x xs (insert_want w xs))
+    by : (w x : Want) (xs : List Want) → Ascend (x ∷ xs) → Ascend (insert_want w xs) → (o : Ordering)
+        → order w.key x.key ≡ o → Ascend (insert_by o w x xs (insert_want w xs))
     by w x xs a ih Less e = (e, a)
     by w x xs a ih Equal e = a
     by w x xs a ih Greater e = (leads_on x.key w xs (turned w.key x.key e) a.0, ih)
@@ -63,7 +66,9 @@ still_packet s (Some x) es = λ h. absurd h
 still_turn_from : (B : Behaviour) (s : State) (x : Actor) (bs : List Batch) → IsStill s (turn_from B s x bs)
 still_turn_from B s x [] = λ _. refl
 still_turn_from B s x (b ∷ rest) =
-    still_if s (is_system x.number) (system_turn s x rest (run_events B x.number b.from (record { got = x.got; plan = plan_of s }) b.events)) (connection_turn s x b rest)
+    still_if s (is_system x.number)
+    (system_turn s x rest (run_events B x.number b.from (record { got = x.got; plan = plan_of s }) b.events))
+    (connection_turn s x b rest)
     (λ h. absurd h) (λ h. absurd h)
 
 still_turn : (B : Behaviour) (s : State) (x : Option Actor) → IsStill s (turn_of B s x)

@@ -1,5 +1,5 @@
 pub mod Ascending
-pub mod FirstTurns
+pub mod Crossings
 pub mod Groups
 pub mod Keeping
 pub mod Places

@@ -1,5 +1,6 @@
 -- Wants in their order, and what observes.
-use Rattle.std.proofs.Common.{◌≡◌, ℕ, ◌<◌, List, [], ◌∷◌, ◌++◌, Bool, true, false, cond, Some, None, length, get_or, refl, ap, ◌∙◌, arith}
+use Rattle.std.proofs.Common.{◌≡◌, ℕ, ◌<◌, List, [], ◌∷◌, ◌++◌, Bool, true, false, cond, Some, None, length, get_or}
+use Rattle.std.proofs.Common.{refl, ap, ◌∙◌, arith}
 use Rattle.std.specs.Prelude.{codes}
 use Rattle.std.proofs.lemmas.Bool.Decides.{nat_tests}
 use Rattle.pv_value.specs.Plain.{Plain, symbol, record_of, embedded, plains}
@@ -13,7 +14,8 @@ in_order-append ws [] us = refl
 in_order-append ws (v ∷ vs) us = in_order-append (insert_want v ws) vs us
 
 -- an observation has two fields
-pub no_observer : (s : List ℕ) (fs : List Plain) → (length fs ≡ 2 → ⊥) → observer_of (record_of (symbol s) (plains fs)) ≡ None
+pub no_observer : (s : List ℕ) (fs : List Plain) → (length fs ≡ 2 → ⊥) → observer_of (record_of (symbol s) (plains fs))
+    ≡ None
 no_observer s [] n = refl
 no_observer s (p ∷ []) n = refl
 no_observer s (p ∷ x ∷ []) n = absurd (n refl)
@@ -25,7 +27,8 @@ no_word (record_of (symbol s) fs) n = absurd (n s fs refl)
 no_word v n = refl
 
 -- an observer is no system actor
-low : (s : List ℕ) (p x : Plain) (r : Reference) → reference_of x ≡ Some r → r.at < 9 → observer_of (record_of (symbol s) (plains (p ∷ embedded x ∷ []))) ≡ None
+low : (s : List ℕ) (p x : Plain) (r : Reference) → reference_of x ≡ Some r → r.at < 9
+    → observer_of (record_of (symbol s) (plains (p ∷ embedded x ∷ []))) ≡ None
 low s p x r e l = by (is_word s (codes "Observe"))
   where
     none_at : observer_at p (reference_of x) ≡ None
@@ -35,8 +38,10 @@ low s p x r e l = by (is_word s (codes "Observe"))
     by true = none_at
     by false = refl
 
-pub low_observer : (s : List ℕ) (fs : List Plain) (x : Plain) (r : Reference) → length fs ≡ 2 → get_or fs 1 (embedded x) ≡ embedded x → reference_of x ≡ Some r → r.at < 9 → observer_of (record_of (symbol s) (plains fs)) ≡ None
+pub low_observer : (s : List ℕ) (fs : List Plain) (x : Plain) (r : Reference) → length fs ≡ 2 → get_or fs 1 (embedded x)
+    ≡ embedded x → reference_of x ≡ Some r → r.at < 9 → observer_of (record_of (symbol s) (plains fs)) ≡ None
 low_observer s [] x r n at e l = absurd (omega arith)
 low_observer s (p ∷ []) x r n at e l = absurd (omega arith)
-low_observer s (p ∷ q ∷ []) x r n at e l = ap (λ y. observer_of (record_of (symbol s) (plains (p ∷ y ∷ [])))) at ∙ low s p x r e l
+low_observer s (p ∷ q ∷ []) x r n at e l =
+    ap (λ y. observer_of (record_of (symbol s) (plains (p ∷ y ∷ [])))) at ∙ low s p x r e l
 low_observer s (p ∷ q ∷ y ∷ fs) x r n at e l = absurd (omega arith)

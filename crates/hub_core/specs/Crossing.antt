@@ -1,6 +1,8 @@
 -- References as clients write them and as the server keeps them. Syndicate Protocol, "wire references".
--- `#:[0 e]` in what a connection sends is its own object e; the server keeps `#:[a e]`, where a is the connection's actor,
--- and what goes back to it has `#:[1 e]`. In what the first path takes no reference stands inside a set or a dictionary.
+-- `#:[0 e]` in what a connection sends is its own object e; the server keeps `#:[a e]`, where a is the connection's
+-- actor,
+-- and what goes back to it has `#:[1 e]`. In what the first path takes no reference stands inside a set or a
+-- dictionary.
 use Rattle.std.specs.Prelude.{ℕ, pos, ◌^◌, ◌==◌, ◌&&◌, nat_lt, [], ◌∷◌, Option, Some, None, if◌then◌else◌}
 use Rattle.pv_value.specs.Plain.{Plain, integer, record_of, sequence, embedded, Plains, no_more, then_more, plains}
 use Rattle.hub_core.specs.Words.{number}

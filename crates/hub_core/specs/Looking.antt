@@ -1,5 +1,6 @@
 -- What is looked at, one after another, where a pattern is matched as it stands, as a value. It captures the same.
-use Rattle.std.specs.Prelude.{Bool, true, false, ◌&&◌, List, [], ◌++◌, Option, Some, None, option_and_then, if◌then◌else◌}
+use Rattle.std.specs.Prelude.{Bool, true, false, ◌&&◌, List, [], ◌++◌, Option, Some, None, option_and_then}
+use Rattle.std.specs.Prelude.{if◌then◌else◌}
 use Rattle.pv_value.specs.Plain.{Plain, record_of, sequence, dictionary, Plains, PlainPairs, no_pairs, then_pair}
 use Rattle.hub_core.specs.Patterns.{Group, in_record, in_sequence, in_dictionary, is_place}
 use Rattle.hub_core.specs.Matching.{item_under, value_under, is_of, both, captures}

@@ -1,9 +1,11 @@
 -- The machine: what a step makes of the state, and its reply.
-use Rattle.std.specs.Prelude.{ℕ, zero, suc, ◌+◌, ◌^◌, List, [], ◌∷◌, ◌++◌, Bool, ◌||◌, cond, nat_lt, nat_le, map, Option, Some, None}
+use Rattle.std.specs.Prelude.{ℕ, zero, suc, ◌+◌, ◌^◌, List, [], ◌∷◌, ◌++◌, Bool, ◌||◌, cond, nat_lt, nat_le, map}
+use Rattle.std.specs.Prelude.{Option, Some, None}
 use Rattle.pv_value.specs.Plain.{Plain}
 use Rattle.hub_core.specs.Words.{number, actor_of}
 use Rattle.hub_core.specs.Crossing.{crossed_in, crossed_out}
-use Rattle.hub_core.specs.State.{Want, Delivery, Event, Assert, Retract, TurnEvent, Batch, Actor, State, find_actor, replace, newcomer, take_in, take_all, values_of}
+use Rattle.hub_core.specs.State.{Want, Delivery, Event, Assert, Retract, TurnEvent, Batch, Actor, State, find_actor}
+use Rattle.hub_core.specs.State.{replace, newcomer, take_in, take_all, values_of}
 use Rattle.hub_core.specs.Plans.{Plan, put, change_wants, post}
 use Rattle.hub_core.specs.Spaces.{space_wants, is_space}
 use Rattle.hub_core.specs.declared.hub.Step.{Step}
@@ -35,7 +37,8 @@ plan_of s = record { next = s.next; rows = s.rows; out = [] }
 
 -- the plan of actor `from` is done, where the actors are as given before its events are posted
 abbrev pub after_plan : ℕ → ℕ → List Actor → Plan → State
-after_plan opened from actors p = record { next = p.next; opened = opened; rows = p.rows; actors = map (post from p.out) actors }
+after_plan opened from actors p =
+    record { next = p.next; opened = opened; rows = p.rows; actors = map (post from p.out) actors }
 
 abbrev pub commit : State → ℕ → List Actor → Plan → State
 commit s from actors p = after_plan s.opened from actors p
@@ -61,7 +64,8 @@ run_events B a from t [] = t
 run_events B a from t (e ∷ es) = run_events B a from (run_event B a from t e) es
 
 abbrev pub system_turn : State → Actor → List Batch → Running → After
-system_turn s x rest t = record { state = commit s x.number (replace (served x t.got rest) s.actors) t.plan; reply = Ran }
+system_turn s x rest t =
+    record { state = commit s x.number (replace (served x t.got rest) s.actors) t.plan; reply = Ran }
 
 -- ---- a connection's turn: the first batch is sent as one packet, its references as the client knows them
 
@@ -74,7 +78,13 @@ sent_event a e = record { oid = e.oid; event = out_event a e.event }
 
 abbrev pub connection_turn : State → Actor → Batch → List Batch → After
 connection_turn s x b rest = record {
-  state = record { next = s.next; opened = s.opened; rows = s.rows; actors = replace (served x (take_all b.from x.got b.events) rest) s.actors };
+  state = record {
+    next = s.next;
+    opened = s.opened;
+    rows = s.rows;
+    actors =
+        replace (served x (take_all b.from x.got b.events) rest) s.actors;
+  };
   reply = Sent (map (sent_event x.number) b.events);
 }
 
@@ -92,7 +102,8 @@ turn_of B s (Some x) = turn_from B s x x.inbox
 -- ---- a packet: each assertion makes a row at the connection's object 0, under its inbound handle
 
 abbrev pub admitted_event : ℕ → ℕ → Plan → Event → Plan
-admitted_event a space p (Assert v h) = put p a (record { key = number h; target = space; entity = 0; value = crossed_in a v })
+admitted_event a space p (Assert v h) =
+    put p a (record { key = number h; target = space; entity = 0; value = crossed_in a v })
 admitted_event a space p (Retract h) = p
 
 abbrev pub admitted : ℕ → ℕ → Plan → List TurnEvent → Plan
@@ -101,14 +112,21 @@ admitted a space p (e ∷ es) = admitted a space (admitted_event a space p e.eve
 
 abbrev pub packet_of : State → Option Actor → List TurnEvent → After
 packet_of s None es = unchanged s Gone
-packet_of s (Some x) es = record { state = commit s x.number s.actors (admitted x.number x.space (plan_of s) es); reply = Taken }
+packet_of s (Some x) es =
+    record { state = commit s x.number s.actors (admitted x.number x.space (plan_of s) es); reply = Taken }
 
 -- ---- steps
 
 -- a connection comes, with actor `space` as its object 0
 abbrev pub arrive : State → ℕ → After
 arrive s space = record {
-  state = record { next = s.next; opened = s.opened + 1; rows = s.rows; actors = s.actors ++ newcomer (actor_of (s.opened + 1)) space ∷ [] };
+  state = record {
+    next = s.next;
+    opened = s.opened + 1;
+    rows = s.rows;
+    actors =
+        s.actors ++ newcomer (actor_of (s.opened + 1)) space ∷ [];
+  };
   reply = Opened (s.opened + 1);
 }
 

@@ -1,9 +1,12 @@
 -- What a pattern captures of a value. Syndicate Protocol, "dataspace patterns".
-use Rattle.std.specs.Prelude.{ℕ, zero, suc, pos, Bool, true, false, List, [], ◌∷◌, ◌++◌, Option, Some, None, option_map, option_and_then, if◌then◌else◌}
+use Rattle.std.specs.Prelude.{ℕ, zero, suc, pos, Bool, true, false, List, [], ◌∷◌, ◌++◌, Option, Some, None, option_map}
+use Rattle.std.specs.Prelude.{option_and_then, if◌then◌else◌}
 use Rattle.std.specs.Ordering.{eq_by_cmp}
-use Rattle.pv_value.specs.Plain.{Plain, integer, record_of, sequence, dictionary, Plains, no_more, then_more, PlainPairs, no_pairs, then_pair}
+use Rattle.pv_value.specs.Plain.{Plain, integer, record_of, sequence, dictionary, Plains, no_more, then_more}
+use Rattle.pv_value.specs.Plain.{PlainPairs, no_pairs, then_pair}
 use Rattle.pv_value.specs.Order.{order}
-use Rattle.hub_core.specs.Patterns.{Group, in_record, in_sequence, in_dictionary, Pattern, discard, bind, literal, group, Fields, no_fields, then_field, pattern_of}
+use Rattle.hub_core.specs.Patterns.{Group, in_record, in_sequence, in_dictionary, Pattern, discard, bind, literal}
+use Rattle.hub_core.specs.Patterns.{group, Fields, no_fields, then_field, pattern_of}
 
 -- whether two values are one
 abbrev pub same : Plain → Plain → Bool

@@ -1,4 +1,5 @@
--- Turns as values: a sequence of events `[oid <A assertion handle>]` and `[oid <R handle>]`. Syndicate Protocol, "packets".
+-- Turns as values: a sequence of events `[oid <A assertion handle>]` and `[oid <R handle>]`. Syndicate Protocol,
+-- "packets".
 use Rattle.std.specs.Prelude.{List, [], ◌∷◌, map, codes}
 use Rattle.pv_value.specs.Plain.{Plain, sequence, plains}
 use Rattle.hub_core.specs.Words.{labelled, number}

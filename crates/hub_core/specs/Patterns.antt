@@ -1,6 +1,9 @@
--- Dataspace patterns: what they are, and which values write them. Syndicate Protocol, "dataspace patterns", the newer dialect.
-use Rattle.std.specs.Prelude.{ℕ, ◌^◌, pos, Bool, true, false, ◌&&◌, nat_lt, Option, Some, None, option_map, if◌then◌else◌, codes}
-use Rattle.pv_value.specs.Plain.{Plain, boolean, double, integer, string, byte_string, symbol, record_of, sequence, set_of, dictionary, embedded, no_more, then_more, PlainPairs, no_pairs, then_pair}
+-- Dataspace patterns: what they are, and which values write them. Syndicate Protocol, "dataspace patterns", the newer
+-- dialect.
+use Rattle.std.specs.Prelude.{ℕ, ◌^◌, pos, Bool, true, false, ◌&&◌, nat_lt, Option, Some, None, option_map}
+use Rattle.std.specs.Prelude.{if◌then◌else◌, codes}
+use Rattle.pv_value.specs.Plain.{Plain, boolean, double, integer, string, byte_string, symbol, record_of, sequence}
+use Rattle.pv_value.specs.Plain.{set_of, dictionary, embedded, no_more, then_more, PlainPairs, no_pairs, then_pair}
 use Rattle.hub_core.specs.Words.{is_word}
 
 -- what a group looks into: a record of this label, a sequence, a dictionary
@@ -49,7 +52,8 @@ abbrev pub group_of : Plain → Option Group
 group_of (record_of (symbol s) no_more) =
     if is_word s (codes "arr") then Some in_sequence
     else (if is_word s (codes "dict") then Some in_dictionary else None)
-group_of (record_of (symbol s) (then_more label no_more)) = if is_word s (codes "rec") then Some (in_record label) else None
+group_of (record_of (symbol s) (then_more label no_more)) =
+    if is_word s (codes "rec") then Some (in_record label) else None
 group_of v = None
 
 -- a group whose keys are of its kind

@@ -17,7 +17,9 @@ aimed target entity event = record { target = target; event = record { oid = ent
 abbrev pub put : Plan → ℕ → Want → Plan
 put p owner w = record {
   next = p.next + 1;
-  rows = p.rows ++ record { handle = p.next; owner = owner; key = w.key; target = w.target; entity = w.entity; value = w.value } ∷ [];
+  rows = p.rows
+      ++ record { handle = p.next; owner = owner; key = w.key; target = w.target; entity = w.entity; value = w.value }
+      ∷ [];
   out = p.out ++ aimed w.target w.entity (Assert w.value p.next) ∷ [];
 }
 
@@ -65,4 +67,11 @@ batch_of from (e ∷ es) = record { from = from; events = e ∷ es } ∷ []
 
 -- an actor gets the turn's events for it as one batch
 abbrev pub post : ℕ → List Out → Actor → Actor
-post from out x = record { number = x.number; space = x.space; got = x.got; inbox = x.inbox ++ batch_of from (events_at x.number out) }
+post from out x =
+    record {
+      number = x.number;
+      space = x.space;
+      got = x.got;
+      inbox =
+          x.inbox ++ batch_of from (events_at x.number out);
+    }

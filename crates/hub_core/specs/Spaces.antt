@@ -28,7 +28,13 @@ observer_of v = None
 abbrev pub want_for : Plain → Reference → Option (List Plain) → List Want
 want_for o r None = []
 want_for o r (Some cs) =
-    record { key = sequence (plains (o ∷ sequence (plains cs) ∷ [])); target = r.at; entity = r.entity; value = sequence (plains cs) } ∷ []
+    record {
+      key = sequence (plains (o ∷ sequence (plains cs) ∷ []));
+      target = r.at;
+      entity = r.entity;
+      value =
+          sequence (plains cs);
+    } ∷ []
 
 abbrev pub wants_by : Plain → Option Observer → List Plain → List Want
 wants_by o None vs = []

@@ -1,4 +1,5 @@
--- What the server's state is: plain lists of rows and of live actors. Rows, deliveries and wants are the code's own types.
+-- What the server's state is: plain lists of rows and of live actors. Rows, deliveries and wants are the code's own
+-- types.
 use Rattle.std.specs.Prelude.{ℕ, List, [], ◌∷◌, ◌++◌, cond, not, ◌==◌, map, Option, Some, None}
 use Rattle.std.specs.List.{filter}
 use Rattle.pv_value.specs.Plain.{Plain}

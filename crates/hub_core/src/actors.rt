@@ -22,7 +22,7 @@ pub struct Batch {
 
 impl Model for Batch {
     ghost use Rattle.std.specs.Coded.{codes};
-    ghost use Rattle.pv_value.specs.Coded.{plain_code};
+    ghost use Rattle.pv_value.specs.Lemmas.Coded.{plain_code};
     ghost use Rattle.hub_core.specs.State.{Batch as BatchOf};
 
     ghost Value = { BatchOf };
@@ -43,14 +43,19 @@ pub struct Actor {
 
 impl Model for Actor {
     ghost use Rattle.std.specs.Coded.{codes};
-    ghost use Rattle.pv_value.specs.Coded.{plain_code};
+    ghost use Rattle.pv_value.specs.Lemmas.Coded.{plain_code};
     ghost use Rattle.hub_core.specs.State.{Actor as ActorOf};
 
     ghost Value = { ActorOf };
 
     ghost coded = { Prim.hlevel (codes, plain_code) };
 
-    ghost view = { λ a. record { number = a.number; space = a.space; got = a.got.items; inbox = a.inbox.items } };
+    ghost view = { λ a. record {
+      number = a.number;
+      space = a.space;
+      got = a.got.items;
+      inbox = a.inbox.items;
+    } };
 }
 
 /// The events for one target, in order.
@@ -60,7 +65,7 @@ fn events_for(alloc: Global, target: u32, out: &[Out]) -> Result<Vec<TurnEvent>,
     let mut events = Vec::new(alloc);
     for o in out {
         if o.target == target {
-            events.push(o.event.copy(alloc)?)?;
+            events.push(o.event.copy()?)?;
         }
     }
     Ok(events)
@@ -90,9 +95,11 @@ impl Actor {
         Ok(())
     }
 
-    /// Takes the first batch out of the inbox, with what the actor has got, which is to be given back.
+    /// Takes the first batch out of the inbox, with what the actor has got, which is to be given
+    /// back.
     fn next_batch(&mut self, alloc: Global) -> Option<(u32, Vec<TurnEvent>, Vec<Delivery>)>
-        ensures { MatchOption result ((self.old.inbox ≡ []) × (self.new ≡ self.old)) (λ t. IsTaken self.old self.new t.0 t.1.items t.2.items) }
+        ensures { MatchOption result ((self.old.inbox ≡ []) × (self.new ≡ self.old))
+            (λ t. IsTaken self.old self.new t.0 t.1.items t.2.items) }
     {
         if self.inbox.is_empty() {
             return None;
@@ -176,7 +183,8 @@ pub fn take_batch(
     i: usize,
 ) -> Option<(u32, Vec<TurnEvent>, Vec<Delivery>)>
     requires { i < length actors.old.items }
-    ensures { MatchOption result (HasNone actors.old.items actors.new.items i) (λ t. IsTakenAt actors.old.items actors.new.items i t.0 t.1.items t.2.items) }
+    ensures { MatchOption result (HasNone actors.old.items actors.new.items i)
+        (λ t. IsTakenAt actors.old.items actors.new.items i t.0 t.1.items t.2.items) }
 {
     let actor = &mut actors[i];
     actor.next_batch(alloc)

@@ -16,7 +16,8 @@ pub struct Holding {
     pub value: Value,
 }
 
-/// What the last events leave: the handles that they retract, and the assertions that stand, in order.
+/// What the last events leave: the handles that they retract, and the assertions that stand, in
+/// order.
 #[derive(Drop)]
 struct Kept {
     retracted: Vec<u64>,
@@ -47,7 +48,9 @@ fn insert(holdings: &mut Vec<Holding>, holding: Holding) -> Result<(), NoMemory>
 impl Kept {
     /// What is left with one event before the others.
     fn event_before(&mut self, alloc: Global, event: &TurnEvent) -> Result<(), NoMemory>
-        ensures { OnOk result ((later : List EventOf) → IsKept later self.old → IsKept (event.now ∷ later) self.new) }
+        ensures { OnOk result
+            ((later : List EventOf) → IsKept later self.old
+            → IsKept (event.now ∷ later) self.new) }
     {
         match &event.event {
             Event::Assert(value, handle) => {
@@ -55,7 +58,7 @@ impl Kept {
                     let holding = Holding {
                         oid: event.oid,
                         handle: *handle,
-                        value: value.copy(alloc)?,
+                        value: value.copy()?,
                     };
                     insert(&mut self.holdings, holding)?;
                 }
@@ -67,7 +70,9 @@ impl Kept {
 
     /// What is left with a packet before the others.
     fn packet_before(&mut self, alloc: Global, events: &[TurnEvent]) -> Result<(), NoMemory>
-        ensures { OnOk result ((later : List EventOf) → IsKept later self.old → IsKept (events.now ++ later) self.new) }
+        ensures { OnOk result
+            ((later : List EventOf) → IsKept later self.old
+            → IsKept (events.now ++ later) self.new) }
     {
         let count = events.len();
         for done in 0..count {

@@ -2,7 +2,9 @@
 ghost use Rattle.std.specs.Prelude.{◌≡◌, ◌<◌, ◌≤◌, ◌-◌, ◌^◌, min, map, IfOk, OnOk, is_some};
 ghost use Rattle.hub_core.specs.Words.{actor_of};
 ghost use Rattle.hub_core.specs.State.{find_actor};
-ghost use Rattle.hub_core.specs.Machine.{spaces, opening, step as step_of, is_worn, arrive, packet_of, turn_of, plan_of, after_plan, admitted, admitted_event, sent_event};
+ghost use Rattle.hub_core.specs.Machine.{spaces, opening, step as step_of, is_worn, arrive};
+ghost use Rattle.hub_core.specs.Machine.{packet_of, turn_of, plan_of, after_plan, admitted};
+ghost use Rattle.hub_core.specs.Machine.{admitted_event, sent_event};
 ghost use Rattle.hub_core.specs.Replays.{pending, lowest};
 
 use crate::actors::{Actor, give_back, place_of, post_all, seat_at, take_batch};
@@ -65,14 +67,19 @@ pub struct Hub {
 
 impl Model for Hub {
     ghost use Rattle.std.specs.Coded.{codes};
-    ghost use Rattle.pv_value.specs.Coded.{plain_code};
+    ghost use Rattle.pv_value.specs.Lemmas.Coded.{plain_code};
     ghost use Rattle.hub_core.specs.State.{State};
 
     ghost Value = { State };
 
     ghost coded = { Prim.hlevel (codes, plain_code) };
 
-    ghost view = { λ h. record { next = h.next; opened = h.opened; rows = h.rows.items; actors = h.actors.items } };
+    ghost view = { λ h. record {
+      next = h.next;
+      opened = h.opened;
+      rows = h.rows.items;
+      actors = h.actors.items;
+    } };
 }
 
 /// A connection's events are assertions at its object 0, each under its inbound handle.
@@ -219,8 +226,12 @@ impl Hub {
 
     /// A connection's packet.
     fn packet(self, alloc: Global, connection: u32, turn: Turn) -> Result<(Hub, Reply), NoMemory>
-        ensures state { IfOk result (λ done. done.0 ≡ (packet_of self (find_actor (actor_of connection) self.actors) turn).state) }
-        ensures reply { IfOk result (λ done. done.1 ≡ (packet_of self (find_actor (actor_of connection) self.actors) turn).reply) }
+        ensures state { IfOk result
+            (λ done. done.0
+            ≡ (packet_of self (find_actor (actor_of connection) self.actors) turn).state) }
+        ensures reply { IfOk result
+            (λ done. done.1
+            ≡ (packet_of self (find_actor (actor_of connection) self.actors) turn).reply) }
     {
         let Some((actor, space)) = seat_at(&self.actors, connection) else {
             return Ok((self, Reply::Gone));
@@ -234,8 +245,10 @@ impl Hub {
     /// A system actor's turn.
     fn system_turn(mut self, alloc: Global, actor: u32) -> Result<(Hub, Reply), NoMemory>
         requires { actor < 17 }
-        ensures state { IfOk result (λ done. done.0 ≡ (turn_of spaces self (find_actor actor self.actors)).state) }
-        ensures reply { IfOk result (λ done. done.1 ≡ (turn_of spaces self (find_actor actor self.actors)).reply) }
+        ensures state { IfOk result
+            (λ done. done.0 ≡ (turn_of spaces self (find_actor actor self.actors)).state) }
+        ensures reply { IfOk result
+            (λ done. done.1 ≡ (turn_of spaces self (find_actor actor self.actors)).reply) }
     {
         let Some(i) = place_of(&self.actors, actor) else {
             return Ok((self, Reply::Gone));
@@ -255,8 +268,10 @@ impl Hub {
     /// A connection's turn.
     fn connection_turn(mut self, alloc: Global, actor: u32) -> Result<(Hub, Reply), NoMemory>
         requires { 17 ≤ actor }
-        ensures state { IfOk result (λ done. done.0 ≡ (turn_of spaces self (find_actor actor self.actors)).state) }
-        ensures reply { IfOk result (λ done. done.1 ≡ (turn_of spaces self (find_actor actor self.actors)).reply) }
+        ensures state { IfOk result
+            (λ done. done.0 ≡ (turn_of spaces self (find_actor actor self.actors)).state) }
+        ensures reply { IfOk result
+            (λ done. done.1 ≡ (turn_of spaces self (find_actor actor self.actors)).reply) }
     {
         let Some(i) = place_of(&self.actors, actor) else {
             return Ok((self, Reply::Gone));
@@ -312,8 +327,10 @@ impl Hub {
 
     /// An actor's turn.
     fn turn(self, alloc: Global, actor: u32) -> Result<(Hub, Reply), NoMemory>
-        ensures state { IfOk result (λ done. done.0 ≡ (turn_of spaces self (find_actor actor self.actors)).state) }
-        ensures reply { IfOk result (λ done. done.1 ≡ (turn_of spaces self (find_actor actor self.actors)).reply) }
+        ensures state { IfOk result
+            (λ done. done.0 ≡ (turn_of spaces self (find_actor actor self.actors)).state) }
+        ensures reply { IfOk result
+            (λ done. done.1 ≡ (turn_of spaces self (find_actor actor self.actors)).reply) }
     {
         if actor < FIRST_CONNECTION {
             self.system_turn(alloc, actor)

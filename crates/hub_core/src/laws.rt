@@ -1,5 +1,6 @@
 //! Laws of the definitions: each is the contract of a function that does nothing.
-ghost use Rattle.hub_core.specs.Ascending.{InsertKeeps, WantsAscend, NothingOfNothing, RefusalChangesNothing};
+ghost use Rattle.hub_core.specs.Ascending.{InsertKeeps, WantsAscend, NothingOfNothing};
+ghost use Rattle.hub_core.specs.Ascending.{RefusalChangesNothing};
 
 /// What a dataspace wants ascends strictly by key, and by nothing it wants nothing.
 pub fn wants_are_in_order()

@@ -1,6 +1,7 @@
 //! The machine of the server: rows, wants, turns and packets, as one pure state machine over steps.
 //!
-//! What contracts see of a [`Hub`] is the state of `specs/State.antt`, and [`Hub::step`] is the machine of
+//! What contracts see of a [`Hub`] is the state of `specs/State.antt`, and [`Hub::step`] is the
+//! machine of
 //! `specs/Machine.antt`.
 #![tactic(auto)]
 
@@ -14,7 +15,6 @@ mod laws;
 mod packets;
 mod patterns;
 mod plans;
-mod simple;
 mod spaces;
 mod tables;
 #[cfg(test)]
@@ -28,7 +28,6 @@ pub use hub::{Hub, Reply, Step};
 pub use laws::{refusals_change_nothing, wants_are_in_order};
 pub use packets::{Event, Turn, TurnEvent, turn_value};
 pub use patterns::{capture, is_pattern};
-pub use simple::turn_of;
 
 /// How deep a value may nest that is asserted.
 pub const VALUE_DEPTH: u32 = 48;

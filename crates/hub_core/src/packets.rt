@@ -34,7 +34,7 @@ impl Model for Turn {
     ghost use Rattle.std.specs.Prelude.{List};
     ghost use Rattle.hub_core.specs.declared.packets.TurnEvent.{TurnEvent};
     ghost use Rattle.std.specs.Coded.{codes};
-    ghost use Rattle.pv_value.specs.Coded.{plain_code};
+    ghost use Rattle.pv_value.specs.Lemmas.Coded.{plain_code};
 
     ghost Value = { List TurnEvent };
 
@@ -45,11 +45,11 @@ impl Model for Turn {
 
 impl Event {
     /// An equal event.
-    pub fn copy(&self, alloc: Global) -> Result<Event, NoMemory>
+    pub fn copy(&self) -> Result<Event, NoMemory>
         ensures { IfOk result (λ e. e ≡ self.now) }
     {
         match self {
-            Event::Assert(value, handle) => Ok(Event::Assert(value.copy(alloc)?, *handle)),
+            Event::Assert(value, handle) => Ok(Event::Assert(value.copy()?, *handle)),
             Event::Retract(handle) => Ok(Event::Retract(*handle)),
         }
     }
@@ -57,10 +57,10 @@ impl Event {
 
 impl TurnEvent {
     /// An equal event, aimed at the same object.
-    pub fn copy(&self, alloc: Global) -> Result<TurnEvent, NoMemory>
+    pub fn copy(&self) -> Result<TurnEvent, NoMemory>
         ensures { IfOk result (λ e. e ≡ self.now) }
     {
-        let event = self.event.copy(alloc)?;
+        let event = self.event.copy()?;
         Ok(TurnEvent {
             oid: self.oid,
             event,
@@ -116,7 +116,7 @@ impl Turn {
     {
         let mut events = Vec::new(alloc);
         for event in self.as_slice() {
-            events.push(event.copy(alloc)?)?;
+            events.push(event.copy()?)?;
         }
         Ok(Turn { events })
     }
@@ -126,29 +126,29 @@ impl Turn {
 pub fn turn_value(alloc: Global, turn: &Turn) -> Result<Value, NoMemory>
     ensures { IfOk result (λ v. v ≡ turn_value turn.now) }
 {
-    let mut items = Items::new(alloc);
+    let mut items = Vec::new(alloc);
     for event in turn.as_slice() {
         items.push(aimed_value(alloc, event)?)?;
     }
-    Ok(Value::sequence(items))
+    Ok(Value::sequence(Items::from_vec(alloc, items)?))
 }
 
 fn aimed_value(alloc: Global, event: &TurnEvent) -> Result<Value, NoMemory>
     ensures { IfOk result (λ v. v ≡ aimed_value event.now) }
 {
-    let mut items = Items::new(alloc);
+    let mut items = Vec::new(alloc);
     items.push(number(event.oid))?;
     items.push(event_value(alloc, &event.event)?)?;
-    Ok(Value::sequence(items))
+    Ok(Value::sequence(Items::from_vec(alloc, items)?))
 }
 
 fn event_value(alloc: Global, event: &Event) -> Result<Value, NoMemory>
     ensures { IfOk result (λ v. v ≡ event_value event.now) }
 {
-    let mut fields = Items::new(alloc);
+    let mut fields = Vec::new(alloc);
     match event {
         Event::Assert(value, handle) => {
-            fields.push(value.copy(alloc)?)?;
+            fields.push(value.copy()?)?;
             fields.push(number(*handle))?;
             labelled(alloc, "A", fields)
         }

@@ -2,9 +2,11 @@
 ghost use Rattle.std.specs.Prelude.{◌≡◌, IfOk, is_some, map, Option, Some, option_copied};
 ghost use Rattle.pv_value.specs.Plain.{plains, pairs};
 ghost use Rattle.pv_value.specs.View.{key_and_value};
-ghost use Rattle.hub_core.specs.Patterns.{pattern_of, is_literal, place_of, group_of, grouped, fields_of, fields_in, are_places};
+ghost use Rattle.hub_core.specs.Patterns.{pattern_of, is_literal, place_of, group_of, grouped};
+ghost use Rattle.hub_core.specs.Patterns.{fields_of, fields_in, are_places};
 ghost use Rattle.hub_core.specs.Matching.{captures, value_under};
-ghost use Rattle.hub_core.specs.Looking.{keys_of, fits, item_in, part_in, field_captures, places_in, behind, found_as};
+ghost use Rattle.hub_core.specs.Looking.{keys_of, fits, item_in, part_in, field_captures};
+ghost use Rattle.hub_core.specs.Looking.{places_in, behind, found_as};
 
 use crate::words::{is_word, number_in, worded};
 use pv_value::{Entry, Items, NoMemory, Node, Value};
@@ -120,13 +122,14 @@ fn fits(group: &Value, value: &Value) -> bool
     }
 }
 
-/// The captures of the pattern in the value, in order, where the one is a pattern and the other matches it.
+/// The captures of the pattern in the value, in order, where the one is a pattern and the other
+/// matches it.
 pub fn capture(alloc: Global, pattern: &Value, value: &Value) -> Result<Option<Items>, NoMemory>
     ensures { IfOk result (λ found. found ≡ captures pattern.now value.now) }
 {
-    let mut out = Items::new(alloc);
+    let mut out = Vec::new(alloc);
     if capture_into(alloc, &mut out, pattern, value)? {
-        Ok(Some(out))
+        Ok(Some(Items::from_vec(alloc, out)?))
     } else {
         Ok(None)
     }
@@ -136,11 +139,13 @@ pub fn capture(alloc: Global, pattern: &Value, value: &Value) -> Result<Option<I
 #[cycle(capture)]
 fn capture_into(
     alloc: Global,
-    out: &mut Items,
+    out: &mut Vec<Value>,
     pattern: &Value,
     value: &Value,
 ) -> Result<bool, NoMemory>
-    ensures { IfOk result (λ found. found_as found out.new ≡ behind out.old (captures pattern.now value.now)) }
+    ensures { IfOk result
+        (λ found. found_as found out.new.items
+        ≡ behind out.old.items (captures pattern.now value.now)) }
 {
     let Some((word, fields)) = worded(pattern) else {
         return Ok(false);
@@ -148,7 +153,7 @@ fn capture_into(
     match fields {
         [] => Ok(is_word(word, b"_")),
         [x] if is_word(word, b"bind") => {
-            out.push(value.copy(alloc)?)?;
+            out.push(value.copy()?)?;
             capture_into(alloc, out, x, value)
         }
         [x] => Ok(is_word(word, b"lit") && is_literal(x) && x == value),
@@ -165,11 +170,14 @@ fn capture_into(
 #[cycle(capture)]
 fn capture_fields(
     alloc: Global,
-    out: &mut Items,
+    out: &mut Vec<Value>,
     entries: &[Entry],
     value: &Value,
 ) -> Result<bool, NoMemory>
-    ensures { IfOk result (λ found. found_as found out.new ≡ behind out.old (field_captures (pairs (map key_and_value entries.now)) value.now)) }
+    ensures { IfOk result
+        (λ found. found_as found out.new.items
+        ≡ behind out.old.items
+        (field_captures (pairs (map key_and_value entries.now)) value.now)) }
 {
     for e in entries {
         let Some(part) = part_in(value, &e.key) else {

@@ -2,7 +2,8 @@
 ghost use Rattle.std.specs.Prelude.{◌≡◌, ◌==◌, not, IfOk, OnOk};
 ghost use Rattle.std.specs.List.{filter, find, list_any};
 ghost use Rattle.hub_core.specs.State.{take_in, take_all};
-ghost use Rattle.hub_core.specs.Plans.{has_key, is_for, put, drop_row, put_all, drop_all, missing, change_wants};
+ghost use Rattle.hub_core.specs.Plans.{has_key, is_for, put, drop_row, put_all, drop_all, missing};
+ghost use Rattle.hub_core.specs.Plans.{change_wants};
 ghost use Rattle.hub_core.specs.Found.{target_of};
 
 use crate::packets::{Event, TurnEvent};
@@ -21,7 +22,7 @@ pub struct Plan {
 
 impl Model for Plan {
     ghost use Rattle.std.specs.Coded.{codes};
-    ghost use Rattle.pv_value.specs.Coded.{plain_code};
+    ghost use Rattle.pv_value.specs.Lemmas.Coded.{plain_code};
     ghost use Rattle.hub_core.specs.Plans.{Plan as PlanOf};
 
     ghost Value = { PlanOf };
@@ -60,7 +61,7 @@ pub fn take_event(
                 handle: *handle,
                 from,
                 entity: event.oid,
-                value: value.copy(alloc)?,
+                value: value.copy()?,
             })?;
         }
         Event::Retract(handle) => forget(got, *handle),
@@ -130,7 +131,7 @@ impl Plan {
         if handle >= 1 << 63 {
             return Err(NoMemory);
         }
-        let event = Event::Assert(want.value.copy(alloc)?, handle);
+        let event = Event::Assert(want.value.copy()?, handle);
         self.out.push(Out {
             target: want.target,
             event: TurnEvent {
@@ -141,10 +142,10 @@ impl Plan {
         self.rows.push(Row {
             handle,
             owner,
-            key: want.key.copy(alloc)?,
+            key: want.key.copy()?,
             target: want.target,
             entity: want.entity,
-            value: want.value.copy(alloc)?,
+            value: want.value.copy()?,
         })?;
         self.next = handle + 1;
         Ok(())
@@ -152,7 +153,8 @@ impl Plan {
 
     /// The actor's row for a want goes, where there is one.
     pub fn drop_found(&mut self, owner: u32, want: &Want) -> Result<(), NoMemory>
-        ensures { OnOk result (self.new ≡ drop_row self.old (find (is_for owner want.now) self.old.rows)) }
+        ensures { OnOk result (self.new
+            ≡ drop_row self.old (find (is_for owner want.now) self.old.rows)) }
     {
         if let Some(found) = find_row(&self.rows, owner, want) {
             self.out.push(Out {

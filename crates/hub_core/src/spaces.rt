@@ -1,7 +1,9 @@
 //! What a dataspace wants by the values that it has got.
-ghost use Rattle.std.specs.Prelude.{◌≡◌, IfOk, OnOk, MatchOption, Some, None, IfSome, ◌≤◌, ◌∷◌, [], length};
+ghost use Rattle.std.specs.Prelude.{◌≡◌, IfOk, OnOk, MatchOption, Some, None, IfSome, ◌≤◌, ◌∷◌, []};
+ghost use Rattle.std.specs.Prelude.{length};
 ghost use Rattle.hub_core.specs.State.{values_of};
-ghost use Rattle.hub_core.specs.Spaces.{is_space, observer_of as observer_in, wants_by, insert_want, in_order, want_for};
+ghost use Rattle.hub_core.specs.Spaces.{is_space, observer_of as observer_in, wants_by};
+ghost use Rattle.hub_core.specs.Spaces.{insert_want, in_order, want_for};
 ghost use Rattle.hub_core.specs.Machine.{spaces};
 ghost use Rattle.hub_core.specs.Found.{IsWantPlace, Stands, inserted_at};
 
@@ -16,10 +18,12 @@ use std::cmp::Ordering;
 /// Only objects of the actors from this one on are told: those of watchers and connections.
 const FIRST_OBSERVER: u32 = 9;
 
-/// The pattern of an observation, and the object of a watcher or of a connection that is to be told.
+/// The pattern of an observation, and the object of a watcher or of a connection that is to be
+/// told.
 #[tactic(auto, using(crate::proofs::Wants::no_word, crate::proofs::Wants::no_observer))]
 fn observer_of(value: &Value) -> Option<(&Value, Reference)>
-    ensures { MatchOption result (observer_in value.now ≡ None) (λ t. observer_in value.now ≡ Some (record { pattern = t.0.now; at = t.1 })) }
+    ensures { MatchOption result (observer_in value.now ≡ None)
+        (λ t. observer_in value.now ≡ Some (record { pattern = t.0.now; at = t.1 })) }
 {
     let (word, fields) = worded(value)?;
     if fields.len() != 2 {
@@ -49,11 +53,11 @@ fn want_of(
     ensures { IfOk result (λ want. want_for observation.now at (Some found) ≡ want ∷ []) }
 {
     let value = Value::sequence(found);
-    let mut key = Items::new(alloc);
-    key.push(observation.copy(alloc)?)?;
-    key.push(value.copy(alloc)?)?;
+    let mut key = Vec::new(alloc);
+    key.push(observation.copy()?)?;
+    key.push(value.copy()?)?;
     Ok(Want {
-        key: Value::sequence(key),
+        key: Value::sequence(Items::from_vec(alloc, key)?),
         target: at.at,
         entity: at.entity,
         value,
@@ -101,7 +105,10 @@ fn add_wants(
     observation: &Value,
     got: &[Delivery],
 ) -> Result<(), NoMemory>
-    ensures { OnOk result (wants.new.items ≡ in_order wants.old.items (wants_by observation.now (observer_in observation.now) (values_of got.now))) }
+    ensures { OnOk result
+        (wants.new.items
+        ≡ in_order wants.old.items
+        (wants_by observation.now (observer_in observation.now) (values_of got.now))) }
 {
     let Some((pattern, at)) = observer_of(observation) else {
         return Ok(());
@@ -115,7 +122,8 @@ fn add_wants(
     Ok(())
 }
 
-/// What the actor wants by what it has got: each key once, ascending. Only dataspaces want anything.
+/// What the actor wants by what it has got: each key once, ascending. Only dataspaces want
+/// anything.
 pub(crate) fn wants(alloc: Global, actor: u32, got: &[Delivery]) -> Result<Vec<Want>, NoMemory>
     ensures { IfOk result (λ ws. ws.items ≡ spaces.want actor (values_of got.now)) }
 {

@@ -3,7 +3,8 @@
 use crate::packets::TurnEvent;
 use pv_value::Value;
 
-/// An assertion: who makes it, under which key, at which object of which actor, and what. A connection's rows
+/// An assertion: who makes it, under which key, at which object of which actor, and what. A
+/// connection's rows
 /// have its inbound handle as their key, a system actor's the key of its want.
 #[derive(Drop)]
 pub struct Row {

@@ -1,17 +1,17 @@
-use crate::{Event, Turn, TurnEvent, capture, is_pattern, turn_of, turn_value};
-use pv_value::{Items, Text, Value};
+use crate::{Event, Turn, TurnEvent, capture, is_pattern};
+use pv_value::{Text, Value};
 use std::alloc::Global;
 use std::test::Fail;
 
 /// `<word>`
 fn worded(alloc: Global, word: &str) -> Result<Value, Fail> {
     let label = Value::symbol(Text::from_str(alloc, word)?);
-    Ok(Value::record(alloc, label, Items::new(alloc))?)
+    Ok(Value::record(alloc, label, Vec::new(alloc))?)
 }
 
 /// `<word value>`
 fn record(alloc: Global, word: &str, value: Value) -> Result<Value, Fail> {
-    let mut fields = Items::new(alloc);
+    let mut fields = Vec::new(alloc);
     fields.push(value)?;
     let label = Value::symbol(Text::from_str(alloc, word)?);
     Ok(Value::record(alloc, label, fields)?)
@@ -54,14 +54,5 @@ fn some_records_are_no_patterns(rt: HostRuntime) -> Result<(), Fail> {
     assert!(rt; !is_pattern(&worded(alloc, "bind")?));
     assert!(rt; !is_pattern(&record(alloc, "lit", worded(alloc, "x")?)?));
     assert!(rt; !is_pattern(&Value::integer(0)));
-    Ok(())
-}
-
-#[test]
-fn a_turn_is_read_from_its_value(rt: HostRuntime) -> Result<(), Fail> {
-    let alloc = rt.alloc();
-    let value = turn_value(alloc, &five(alloc, 1)?)?;
-    assert_eq!(rt; turn_of(alloc, value)?.map(|turn| turn.len()), Some(1));
-    assert!(rt; turn_of(alloc, Value::boolean(false))?.is_none());
     Ok(())
 }

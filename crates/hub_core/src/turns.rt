@@ -19,7 +19,7 @@ pub struct Running {
 
 impl Model for Running {
     ghost use Rattle.std.specs.Coded.{codes};
-    ghost use Rattle.pv_value.specs.Coded.{plain_code};
+    ghost use Rattle.pv_value.specs.Lemmas.Coded.{plain_code};
     ghost use Rattle.hub_core.specs.Machine.{Running as RunningOf};
 
     ghost Value = { RunningOf };

@@ -3,7 +3,7 @@ ghost use Rattle.std.specs.Prelude.{◌≡◌, ℤ, pos, List, ℕ, IfOk, MatchO
 ghost use Rattle.pv_value.specs.Plain.{Plain};
 ghost use Rattle.hub_core.specs.Words.{is_word, labelled, number, number_in, HasNoWord};
 
-use pv_value::{Items, NoMemory, Node, Text, Value};
+use pv_value::{NoMemory, Node, Text, Value};
 use std::alloc::Global;
 
 /// Whether a symbol's text is this word.
@@ -27,8 +27,8 @@ pub(crate) fn worded(value: &Value) -> Option<(&Text, &[Value])>
 }
 
 /// The record with this word as its label.
-pub(crate) fn labelled(alloc: Global, word: &str, fields: Items) -> Result<Value, NoMemory>
-    ensures { IfOk result (λ v. v ≡ labelled word.now fields) }
+pub(crate) fn labelled(alloc: Global, word: &str, fields: Vec<Value>) -> Result<Value, NoMemory>
+    ensures { IfOk result (λ v. v ≡ labelled word.now fields.items) }
 {
     Value::record(alloc, Value::symbol(Text::from_str(alloc, word)?), fields)
 }

@@ -1,5 +1,7 @@
 -- Counts that are cut off, and bytes that are no count: what reading a count says of them, and the other way round.
-use Rattle.std.proofs.Common.{◌≡◌, ℕ, nat_lt, eqb, zero, suc, ◌+◌, ◌-◌, ◌*◌, ◌/◌, ◌%◌, ◌^◌, ◌<◌, ◌≤◌, ◌≢◌, Bool, true, false, cond, List, [], ◌∷◌, ◌++◌, Result, Ok, Err, refl, sym, ap, ◌∙◌, append_assoc, inl, inr, ◌⊎◌, arith}
+use Rattle.std.proofs.Common.{◌≡◌, ℕ, nat_lt, eqb, zero, suc, ◌+◌, ◌-◌, ◌*◌, ◌/◌, ◌%◌, ◌^◌, ◌<◌, ◌≤◌, ◌≢◌, Bool, true}
+use Rattle.std.proofs.Common.{false, cond, List, [], ◌∷◌, ◌++◌, Result, Ok, Err, refl, sym, ap, ◌∙◌, append_assoc, inl}
+use Rattle.std.proofs.Common.{inr, ◌⊎◌, arith}
 use Rattle.std.proofs.Math.Nat.{pow-succ'}
 use Rattle.std.proofs.lemmas.Bool.{ltb-true, ltb-false, eqb-true, eqb-false}
 use Rattle.std.proofs.lemmas.List.{append-nil}
@@ -8,21 +10,24 @@ use Rattle.pv_binary.specs.Reading.{with_higher, varint_at}
 use Rattle.pv_binary.specs.Fronts.{IsCountFront, IsNoCount, IsCounted}
 use Rattle.pv_binary.specs.declared.faults.BinKind.{BinKind}
 use Rattle.pv_binary.specs.declared.faults.BinKind.TheVariants.{Truncated, LongVarint}
-use Rattle.pv_binary.proofs.Binds.{parts}
+use Rattle.pv_read.specs.Lemmas.Binds.{parts}
 use Rattle.pv_binary.proofs.Numbers.{power_some}
 use Rattle.pv_binary.proofs.Varints.{IsBytes, varint_last, varint_step, varint_sound, varint_again}
 
 -- ---- the bytes of a count
 
-varint_form : (n : ℕ) → ((n < 128) × (varint n ≡ n ∷ [])) ⊎ ((128 ≤ n) × (varint n ≡ (n % 128 + 128) ∷ varint (n / 128)))
+varint_form : (n : ℕ) → ((n < 128) × (varint n ≡ n ∷ []))
+    ⊎ ((128 ≤ n) × (varint n ≡ (n % 128 + 128) ∷ varint (n / 128)))
 varint_form n = by (nat_lt n 128) refl
   where
-    by : (t : Bool) → nat_lt n 128 ≡ t → ((n < 128) × (varint n ≡ n ∷ [])) ⊎ ((128 ≤ n) × (varint n ≡ (n % 128 + 128) ∷ varint (n / 128)))
+    by : (t : Bool) → nat_lt n 128 ≡ t → ((n < 128) × (varint n ≡ n ∷ []))
+        ⊎ ((128 ≤ n) × (varint n ≡ (n % 128 + 128) ∷ varint (n / 128)))
     by true e = inl (ltb-true n 128 e, varint_last n (ltb-true n 128 e))
     by false e = inr (ltb-false n 128 e, varint_step n (ltb-false n 128 e))
 
 -- a count that begins with a byte that is not its last
-begins_long : (n b : ℕ) (d x : List ℕ) → 128 ≤ b → varint n ++ x ≡ b ∷ d → (128 ≤ n) × (n % 128 + 128 ≡ b) × (varint (n / 128) ++ x ≡ d)
+begins_long : (n b : ℕ) (d x : List ℕ) → 128 ≤ b → varint n ++ x ≡ b ∷ d → (128 ≤ n) × (n % 128 + 128 ≡ b)
+    × (varint (n / 128) ++ x ≡ d)
 begins_long n b d x l e =
     elim (varint_form n) [
       | inl h ↦
@@ -72,20 +77,24 @@ cut_more k b bs u l h =
 not_nil : (x : ℕ) (xs : List ℕ) → x ∷ xs ≡ [] → ⊥
 not_nil x xs e = cc
 
-cut_high : (k b : ℕ) (bs : List ℕ) (o : Result (ℕ × List ℕ) BinKind) → b < 256 → 128 ≤ b → (o ≡ Err Truncated → CutAt k bs) → with_higher b o ≡ Err Truncated → CutAt (suc k) (b ∷ bs)
+cut_high : (k b : ℕ) (bs : List ℕ) (o : Result (ℕ × List ℕ) BinKind) → b < 256 → 128 ≤ b
+    → (o ≡ Err Truncated → CutAt k bs) → with_higher b o ≡ Err Truncated → CutAt (suc k) (b ∷ bs)
 cut_high k b bs (Err f) u l g e = cut_more k b bs u l (g (cc))
 cut_high k b bs (Ok h) u l g e = by (eqb h.0 0) e
   where
-    by : (t : Bool) → cond {A = Result (ℕ × List ℕ) BinKind} t (Err LongVarint) (Ok (b - 128 + 128 * h.0, h.1)) ≡ Err Truncated → CutAt (suc k) (b ∷ bs)
+    by : (t : Bool) → cond {A = Result (ℕ × List ℕ) BinKind} t (Err LongVarint) (Ok (b - 128 + 128 * h.0, h.1))
+        ≡ Err Truncated → CutAt (suc k) (b ∷ bs)
     by true w = cc
     by false w = cc
 
-cut_cases : (k b : ℕ) (bs : List ℕ) (o : Result (ℕ × List ℕ) BinKind) (t : Bool) → nat_lt b 128 ≡ t → b < 256 → (o ≡ Err Truncated → CutAt k bs)
+cut_cases : (k b : ℕ) (bs : List ℕ) (o : Result (ℕ × List ℕ) BinKind) (t : Bool) → nat_lt b 128 ≡ t → b < 256
+    → (o ≡ Err Truncated → CutAt k bs)
     → cond {A = Result (ℕ × List ℕ) BinKind} t (Ok (b, bs)) (with_higher b o) ≡ Err Truncated → CutAt (suc k) (b ∷ bs)
 cut_cases k b bs o true d u g e = cc
 cut_cases k b bs o false d u g e = cut_high k b bs o u (ltb-false b 128 d) g e
 
-cut_last : (b : ℕ) (bs : List ℕ) (t : Bool) → cond {A = Result (ℕ × List ℕ) BinKind} t (Ok (1, bs)) (Err LongVarint) ≡ Err Truncated → CutAt 0 (b ∷ bs)
+cut_last : (b : ℕ) (bs : List ℕ) (t : Bool) → cond {A = Result (ℕ × List ℕ) BinKind} t (Ok (1, bs)) (Err LongVarint)
+    ≡ Err Truncated → CutAt 0 (b ∷ bs)
 cut_last b bs true e = cc
 cut_last b bs false e = cc
 
@@ -123,7 +132,8 @@ none_zero k s = (0 ∷ [], s, refl, λ n a z d. (from n a d, more n a d))
     more : (n : ℕ) → 1 ≤ n → (d : List ℕ) → 0 ∷ [] ≡ varint n ++ d → ⊥
     more n a d e = let w : n ≡ 0 = begins_short n 0 [] d (omega arith) (sym e) in omega arith
 
-none_last : (b : ℕ) (bs : List ℕ) (t : Bool) → eqb b 1 ≡ t → cond {A = Result (ℕ × List ℕ) BinKind} t (Ok (1, bs)) (Err LongVarint) ≡ Err LongVarint → NoneFrom 1 0 (b ∷ bs)
+none_last : (b : ℕ) (bs : List ℕ) (t : Bool) → eqb b 1 ≡ t
+    → cond {A = Result (ℕ × List ℕ) BinKind} t (Ok (1, bs)) (Err LongVarint) ≡ Err LongVarint → NoneFrom 1 0 (b ∷ bs)
 none_last b bs true d e = cc
 none_last b bs false d e = (b ∷ [], bs, refl, λ n a z c. (from n a z c, more n a z c))
   where
@@ -147,17 +157,22 @@ none_zero_at k bs s m e is =
     let w : bs ≡ 0 ∷ s = is ∙ rw (e, varint_last 0 (omega arith)) in
     rw w (none_zero k s)
 
-none_high : (k least b : ℕ) (bs : List ℕ) (o : Result (ℕ × List ℕ) BinKind) → 128 ≤ b → ((m : ℕ) (s : List ℕ) → o ≡ Ok (m, s) → bs ≡ varint m ++ s) → (o ≡ Err LongVarint → NoneFrom 1 k bs)
+none_high : (k least b : ℕ) (bs : List ℕ) (o : Result (ℕ × List ℕ) BinKind) → 128 ≤ b
+    → ((m : ℕ) (s : List ℕ) → o ≡ Ok (m, s) → bs ≡ varint m ++ s) → (o ≡ Err LongVarint → NoneFrom 1 k bs)
     → with_higher b o ≡ Err LongVarint → NoneFrom least (suc k) (b ∷ bs)
 none_high k least b bs (Err f) l is g e = none_more k least b bs l (g (cc))
 none_high k least b bs (Ok h) l is g e = by (eqb h.0 0) refl e
   where
-    by : (t : Bool) → eqb h.0 0 ≡ t → cond {A = Result (ℕ × List ℕ) BinKind} t (Err LongVarint) (Ok (b - 128 + 128 * h.0, h.1)) ≡ Err LongVarint → NoneFrom least (suc k) (b ∷ bs)
+    by : (t : Bool) → eqb h.0 0 ≡ t
+        → cond {A = Result (ℕ × List ℕ) BinKind} t (Err LongVarint) (Ok (b - 128 + 128 * h.0, h.1)) ≡ Err LongVarint
+        → NoneFrom least (suc k) (b ∷ bs)
     by true t w = none_more k least b bs l (none_zero_at k bs h.1 h.0 (eqb-true h.0 0 t) (is h.0 h.1 refl))
     by false t w = cc
 
-none_cases : (k least b : ℕ) (bs : List ℕ) (o : Result (ℕ × List ℕ) BinKind) (t : Bool) → nat_lt b 128 ≡ t → ((m : ℕ) (s : List ℕ) → o ≡ Ok (m, s) → bs ≡ varint m ++ s) → (o ≡ Err LongVarint → NoneFrom 1 k bs)
-    → cond {A = Result (ℕ × List ℕ) BinKind} t (Ok (b, bs)) (with_higher b o) ≡ Err LongVarint → NoneFrom least (suc k) (b ∷ bs)
+none_cases : (k least b : ℕ) (bs : List ℕ) (o : Result (ℕ × List ℕ) BinKind) (t : Bool) → nat_lt b 128 ≡ t
+    → ((m : ℕ) (s : List ℕ) → o ≡ Ok (m, s) → bs ≡ varint m ++ s) → (o ≡ Err LongVarint → NoneFrom 1 k bs)
+    → cond {A = Result (ℕ × List ℕ) BinKind} t (Ok (b, bs)) (with_higher b o) ≡ Err LongVarint
+    → NoneFrom least (suc k) (b ∷ bs)
 none_cases k least b bs o true d is g e = cc
 none_cases k least b bs o false d is g e = none_high k least b bs o (ltb-false b 128 d) is g e
 
@@ -165,11 +180,16 @@ none_at : (k : ℕ) (bytes : List ℕ) → IsBytes bytes → varint_at k bytes �
 none_at zero [] all e = cc
 none_at (suc k) [] all e = cc
 none_at zero (b ∷ bs) all e = none_last b bs (eqb b 1) refl e
-none_at (suc k) (b ∷ bs) all e = none_cases k 1 b bs (varint_at k bs) (nat_lt b 128) refl (λ m s d. (varint_sound k bs m s all.1 d).0) (none_at k bs all.1) e
+none_at (suc k) (b ∷ bs) all e =
+    none_cases k 1 b bs (varint_at k bs) (nat_lt b 128) refl (λ m s d. (varint_sound k bs m s all.1 d).0)
+    (none_at k bs all.1) e
 
-none_first : (k : ℕ) (bytes : List ℕ) → IsBytes bytes → varint_at (suc k) bytes ≡ Err LongVarint → NoneFrom 0 (suc k) bytes
+none_first : (k : ℕ) (bytes : List ℕ) → IsBytes bytes → varint_at (suc k) bytes ≡ Err LongVarint
+    → NoneFrom 0 (suc k) bytes
 none_first k [] all e = cc
-none_first k (b ∷ bs) all e = none_cases k 0 b bs (varint_at k bs) (nat_lt b 128) refl (λ m s d. (varint_sound k bs m s all.1 d).0) (none_at k bs all.1) e
+none_first k (b ∷ bs) all e =
+    none_cases k 0 b bs (varint_at k bs) (nat_lt b 128) refl (λ m s d. (varint_sound k bs m s all.1 d).0)
+    (none_at k bs all.1) e
 
 -- ---- a count's three answers
 
@@ -179,28 +199,36 @@ count_cut bytes all e = let h = cut_at 9 bytes all e in (h.0, h.1, h.3, h.4, h.5
 pub count_none : (bytes : List ℕ) → IsBytes bytes → varint_at 9 bytes ≡ Err LongVarint → IsNoCount bytes
 count_none bytes all e = let h = none_first 8 bytes all e in (h.0, h.1, h.2, λ n d l. h.3 n (omega arith) l d)
 
-pub counted_from_read : (bytes : List ℕ) (n : ℕ) (s : List ℕ) → IsBytes bytes → varint_at 9 bytes ≡ Ok (n, s) → IsCounted bytes n s
+pub counted_from_read : (bytes : List ℕ) (n : ℕ) (s : List ℕ) → IsBytes bytes → varint_at 9 bytes ≡ Ok (n, s)
+    → IsCounted bytes n s
 counted_from_read bytes n s all e = let h = varint_sound 9 bytes n s all e in (h.2, h.0)
 
 -- reading a count has no other fault
-other_high : (b : ℕ) (o : Result (ℕ × List ℕ) BinKind) (f : BinKind) → (o ≡ Err f → (f ≡ Truncated) ⊎ (f ≡ LongVarint)) → with_higher b o ≡ Err f → (f ≡ Truncated) ⊎ (f ≡ LongVarint)
+other_high : (b : ℕ) (o : Result (ℕ × List ℕ) BinKind) (f : BinKind) → (o ≡ Err f → (f ≡ Truncated) ⊎ (f ≡ LongVarint))
+    → with_higher b o ≡ Err f → (f ≡ Truncated) ⊎ (f ≡ LongVarint)
 other_high b (Err k) f g e = g e
 other_high b (Ok h) f g e = by (eqb h.0 0) e
   where
-    by : (t : Bool) → cond {A = Result (ℕ × List ℕ) BinKind} t (Err LongVarint) (Ok (b - 128 + 128 * h.0, h.1)) ≡ Err f → (f ≡ Truncated) ⊎ (f ≡ LongVarint)
+    by : (t : Bool) → cond {A = Result (ℕ × List ℕ) BinKind} t (Err LongVarint) (Ok (b - 128 + 128 * h.0, h.1)) ≡ Err f
+        → (f ≡ Truncated) ⊎ (f ≡ LongVarint)
     by true w = inr (cc)
     by false w = cc
 
-other_cases : (b : ℕ) (bs : List ℕ) (o : Result (ℕ × List ℕ) BinKind) (t : Bool) (f : BinKind) → (o ≡ Err f → (f ≡ Truncated) ⊎ (f ≡ LongVarint))
-    → cond {A = Result (ℕ × List ℕ) BinKind} t (Ok (b, bs)) (with_higher b o) ≡ Err f → (f ≡ Truncated) ⊎ (f ≡ LongVarint)
+other_cases : (b : ℕ) (bs : List ℕ) (o : Result (ℕ × List ℕ) BinKind) (t : Bool) (f : BinKind)
+    → (o ≡ Err f → (f ≡ Truncated) ⊎ (f ≡ LongVarint))
+    → cond {A = Result (ℕ × List ℕ) BinKind} t (Ok (b, bs)) (with_higher b o) ≡ Err f → (f ≡ Truncated)
+    ⊎ (f ≡ LongVarint)
 other_cases b bs o true f g e = cc
 other_cases b bs o false f g e = other_high b o f g e
 
-other_last : (bs : List ℕ) (t : Bool) (f : BinKind) → cond {A = Result (ℕ × List ℕ) BinKind} t (Ok (1, bs)) (Err LongVarint) ≡ Err f → (f ≡ Truncated) ⊎ (f ≡ LongVarint)
+other_last : (bs : List ℕ) (t : Bool) (f : BinKind)
+    → cond {A = Result (ℕ × List ℕ) BinKind} t (Ok (1, bs)) (Err LongVarint) ≡ Err f → (f ≡ Truncated)
+    ⊎ (f ≡ LongVarint)
 other_last bs true f e = cc
 other_last bs false f e = inr (cc)
 
-pub count_fault : (k : ℕ) (bytes : List ℕ) (f : BinKind) → varint_at k bytes ≡ Err f → (f ≡ Truncated) ⊎ (f ≡ LongVarint)
+pub count_fault : (k : ℕ) (bytes : List ℕ) (f : BinKind) → varint_at k bytes ≡ Err f → (f ≡ Truncated)
+    ⊎ (f ≡ LongVarint)
 count_fault k [] f e = inl (cc)
 count_fault zero (b ∷ bs) f e = other_last bs (eqb b 1) f e
 count_fault (suc k) (b ∷ bs) f e = other_cases b bs (varint_at k bs) (nat_lt b 128) f (count_fault k bs f) e
@@ -230,13 +258,15 @@ no_rest (x ∷ r) d e = cc
 front_not_read : (bytes : List ℕ) → IsCountFront bytes → (n : ℕ) (s : List ℕ) → IsCounted bytes n s → ⊥
 front_not_read bytes h n s c =
     let a : varint_at 9 (varint h.0 ++ []) ≡ Ok (h.0, []) = varint_again 8 h.0 [] h.2 in
-    let is : varint h.0 ++ [] ≡ varint n ++ (s ++ h.1) = append-nil (varint h.0) ∙ h.4 ∙ ap (λ (x : List ℕ). x ++ h.1) c.1 ∙ append_assoc (varint n) s h.1 in
+    let is : varint h.0 ++ [] ≡ varint n ++ (s ++ h.1) =
+    append-nil (varint h.0) ∙ h.4 ∙ ap (λ (x : List ℕ). x ++ h.1) c.1 ∙ append_assoc (varint n) s h.1 in
     let b : varint_at 9 (varint n ++ (s ++ h.1)) ≡ Ok (n, s ++ h.1) = varint_again 8 n (s ++ h.1) c.0 in
     let p = parts h.0 n [] (s ++ h.1) (sym a ∙ ap (varint_at 9) is ∙ b) in
     h.3 (no_rest s h.1 (sym p.1))
 
 front_not_none : (bytes : List ℕ) → IsCountFront bytes → IsNoCount bytes → ⊥
-front_not_none bytes h c = (c.3 h.0 (c.1 ++ h.1) h.2).0 (h.4 ∙ ap (λ (x : List ℕ). x ++ h.1) c.2 ∙ append_assoc c.0 c.1 h.1)
+front_not_none bytes h c =
+    (c.3 h.0 (c.1 ++ h.1) h.2).0 (h.4 ∙ ap (λ (x : List ℕ). x ++ h.1) c.2 ∙ append_assoc c.0 c.1 h.1)
 
 none_not_read : (bytes : List ℕ) → IsNoCount bytes → (n : ℕ) (s : List ℕ) → IsCounted bytes n s → ⊥
 none_not_read bytes c n s h =

@@ -1,12 +1,14 @@
 -- The eight bytes of a double.
-use Rattle.std.proofs.Common.{◌≡◌, ℕ, zero, suc, ◌^◌, ◌<◌, Bool, true, false, cond, eqb, List, [], ◌∷◌, ◌++◌, length, get_or, Result, Ok, Err, refl, subst, sym, ap, ◌∙◌, lit<, arith}
+use Rattle.std.proofs.Common.{◌≡◌, ℕ, zero, suc, ◌^◌, ◌<◌, Bool, true, false, cond, eqb, List, [], ◌∷◌, ◌++◌, length}
+use Rattle.std.proofs.Common.{get_or, Result, Ok, Err, refl, subst, sym, ap, ◌∙◌, lit<, arith}
 use Rattle.std.specs.Int.{w64, to_be_bytes, from_be_bytes}
 use Rattle.std.proofs.lemmas.Bool.{eqb-true}
 use Rattle.std.proofs.lemmas.Nat.{be_bytes_8, from_be_bytes-to_be_bytes_8}
-use Rattle.pv_binary.specs.Reading.{◌>>=◌, split_at, double_at}
+use Rattle.pv_read.specs.Results.{◌>>=◌}
+use Rattle.pv_binary.specs.Reading.{split_at, double_at}
 use Rattle.pv_binary.specs.declared.faults.BinKind.{BinKind}
 use Rattle.pv_binary.specs.declared.faults.BinKind.TheVariants.{BadTag}
-use Rattle.pv_binary.proofs.Binds.{ok_pair, parts, bind_ok}
+use Rattle.pv_read.specs.Lemmas.Binds.{ok_pair, parts, bind_ok}
 use Rattle.pv_binary.proofs.Bytes.{worth, worth_small, length-high}
 use Rattle.pv_binary.proofs.Varints.{IsBytes, IsBytes-append, split_again, split_sound}
 
@@ -15,7 +17,8 @@ each_byte [] h i = lit< tt
 each_byte (b ∷ bs) h zero = h.0
 each_byte (b ∷ bs) h (suc i) = each_byte bs h.1 i
 
-worth_8 : (b0 b1 b2 b3 b4 b5 b6 b7 : ℕ) → from_be_bytes w64 (b0 ∷ b1 ∷ b2 ∷ b3 ∷ b4 ∷ b5 ∷ b6 ∷ b7 ∷ []) ≡ worth (b0 ∷ b1 ∷ b2 ∷ b3 ∷ b4 ∷ b5 ∷ b6 ∷ b7 ∷ [])
+worth_8 : (b0 b1 b2 b3 b4 b5 b6 b7 : ℕ) → from_be_bytes w64 (b0 ∷ b1 ∷ b2 ∷ b3 ∷ b4 ∷ b5 ∷ b6 ∷ b7 ∷ [])
+    ≡ worth (b0 ∷ b1 ∷ b2 ∷ b3 ∷ b4 ∷ b5 ∷ b6 ∷ b7 ∷ [])
 worth_8 b0 b1 b2 b3 b4 b5 b6 b7 = omega arith
 
 from_bytes : (bs : List ℕ) → length bs ≡ 8 → from_be_bytes w64 bs ≡ worth bs
@@ -47,14 +50,16 @@ double_from bs s r n q all l is e =
     (subst (λ m. m < 2 ^ 64) (sym v) small, ap (λ (x : List ℕ). 8 ∷ x) (is ∙ (λ i. sym t i ++ k i)), rw (← k) both.1)
 
 double_cases : (b : ℕ) (bs : List ℕ) (t : Bool) (n : ℕ) (r : List ℕ) → eqb b 8 ≡ t → IsBytes bs
-    → cond {A = Result (ℕ × List ℕ) BinKind} t (split_at 8 bs >>= λ s. Ok (from_be_bytes w64 s.0, s.1)) (Err BadTag) ≡ Ok (n, r) → IsDouble (b ∷ bs) n r
+    → cond {A = Result (ℕ × List ℕ) BinKind} t (split_at 8 bs >>= λ s. Ok (from_be_bytes w64 s.0, s.1)) (Err BadTag)
+    ≡ Ok (n, r) → IsDouble (b ∷ bs) n r
 double_cases b bs false n r d all e = cc
 double_cases b bs true n r d all e =
     let x = bind_ok (split_at 8 bs) _ _ e in
     let h = split_sound 8 bs x.0.0 x.0.1 x.1 in
     subst (λ c. IsDouble (c ∷ bs) n r) (sym (eqb-true b 8 d)) (double_from bs x.0.0 x.0.1 n r all h.0 h.1 x.2)
 
-pub double_sound : (bytes : List ℕ) (n : ℕ) (r : List ℕ) → IsBytes bytes → double_at bytes ≡ Ok (n, r) → (n < 2 ^ 64) × (bytes ≡ 8 ∷ (to_be_bytes w64 n ++ r)) × IsBytes r
+pub double_sound : (bytes : List ℕ) (n : ℕ) (r : List ℕ) → IsBytes bytes → double_at bytes ≡ Ok (n, r) → (n < 2 ^ 64)
+    × (bytes ≡ 8 ∷ (to_be_bytes w64 n ++ r)) × IsBytes r
 unfolding double_at
 double_sound [] n r all e = cc
 double_sound (b ∷ bs) n r all e = double_cases b bs (eqb b 8) n r refl all.1 e

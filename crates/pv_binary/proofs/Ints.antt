@@ -1,5 +1,7 @@
 -- Two's complement in as few bytes as will do, of at most 16.
-use Rattle.std.proofs.Common.{◌≡◌, ℕ, nat_lt, eqb, zero, suc, ◌+◌, ◌-◌, ◌*◌, ◌%◌, ◌^◌, ◌<◌, ◌≤◌, Bool, true, false, cond, not, ◌&&◌, ◌||◌, List, [], ◌∷◌, ◌++◌, length, replicate, ℤ, refl, sym, ap, ◌∙◌, subst, length-append, lit<, append_assoc, Result, Ok, Err, arith}
+use Rattle.std.proofs.Common.{◌≡◌, ℕ, nat_lt, eqb, zero, suc, ◌+◌, ◌-◌, ◌*◌, ◌%◌, ◌^◌, ◌<◌, ◌≤◌, Bool, true, false}
+use Rattle.std.proofs.Common.{cond, not, ◌&&◌, ◌||◌, List, [], ◌∷◌, ◌++◌, length, replicate, ℤ, refl, sym, ap, ◌∙◌}
+use Rattle.std.proofs.Common.{subst, length-append, lit<, append_assoc, Result, Ok, Err, arith}
 use Rattle.std.proofs.lemmas.Bool.{eqb-true}
 use Rattle.std.specs.Int.{w128, bytes_high_first, to_be_bytes, from_be_bytes, cast_unsigned, cast_signed}
 use Rattle.std.proofs.Math.Nat.{mod-eq_of_lt}
@@ -9,10 +11,11 @@ use Rattle.std.proofs.lemmas.Int.{ints, of_z-to_z, to_z-of_z}
 use Rattle.std.proofs.lemmas.List.{length-replicate}
 use Rattle.std.proofs.lemmas.Bool.{le-ltb, ltb-false}
 use Rattle.pv_binary.specs.Numbers.{repeats_sign, minimal, int_bytes, varint, counted}
-use Rattle.pv_binary.specs.Reading.{sign, pad, int_value, is_minimal, varint_at, split_at, int_at, ◌>>=◌}
+use Rattle.pv_read.specs.Results.{◌>>=◌}
+use Rattle.pv_binary.specs.Reading.{sign, pad, int_value, is_minimal, varint_at, split_at, int_at}
 use Rattle.pv_binary.specs.declared.faults.BinKind.{BinKind}
 use Rattle.pv_binary.specs.declared.faults.BinKind.TheVariants.{TooWide, LongInteger}
-use Rattle.pv_binary.proofs.Binds.{parts, bind_ok}
+use Rattle.pv_read.specs.Lemmas.Binds.{parts, bind_ok}
 use Rattle.pv_binary.proofs.Varints.{IsBytes, varint_sound, varint_again, split_again, split_sound, counted_from}
 use Rattle.pv_binary.proofs.Bytes.{worth, worth_small, bytes_of_worth, worth_of_bytes, length-high}
 
@@ -73,7 +76,8 @@ sign_of_repeat b c s e = by (nat_lt c 128) refl e
         right true false h = cc
         right false false h = cc
 
-sign_minimal_more : (b c : ℕ) (s : List ℕ) (t : Bool) → repeats_sign b c ≡ t → sign (minimal (c ∷ s)) ≡ sign (c ∷ s) → sign (cond t (minimal (c ∷ s)) (b ∷ c ∷ s)) ≡ sign (b ∷ c ∷ s)
+sign_minimal_more : (b c : ℕ) (s : List ℕ) (t : Bool) → repeats_sign b c ≡ t → sign (minimal (c ∷ s)) ≡ sign (c ∷ s)
+    → sign (cond t (minimal (c ∷ s)) (b ∷ c ∷ s)) ≡ sign (b ∷ c ∷ s)
 sign_minimal_more b c s true e h = h ∙ sym (ap (λ d. sign (d ∷ c ∷ s)) (sign_of_repeat b c s e) ∙ sign_own c (c ∷ s))
 sign_minimal_more b c s false e h = refl
 
@@ -90,7 +94,8 @@ sign_minimal (b ∷ c ∷ s) = sign_minimal_more b c s (repeats_sign b c) refl (
 abbrev Padded : List ℕ → List ℕ → Type 0
 Padded s m = (j : ℕ) × (j + length m ≡ length s) × (replicate j (sign s) ++ m ≡ s)
 
-padded_more : (b c : ℕ) (s : List ℕ) (t : Bool) → repeats_sign b c ≡ t → Padded (c ∷ s) (minimal (c ∷ s)) → Padded (b ∷ c ∷ s) (cond t (minimal (c ∷ s)) (b ∷ c ∷ s))
+padded_more : (b c : ℕ) (s : List ℕ) (t : Bool) → repeats_sign b c ≡ t → Padded (c ∷ s) (minimal (c ∷ s))
+    → Padded (b ∷ c ∷ s) (cond t (minimal (c ∷ s)) (b ∷ c ∷ s))
 padded_more b c s true e h =
     let g = sign_of_repeat b c s e in
     let k : sign (b ∷ c ∷ s) ≡ sign (c ∷ s) = ap (λ d. sign (d ∷ c ∷ s)) g ∙ sign_own c (c ∷ s) in
@@ -113,7 +118,9 @@ pad_minimal s l =
     (λ i. replicate (j i) (sign_minimal s i) ++ minimal s) ∙ h.2
 
 -- what `from_be_bytes` reads at 16 bytes
-pub worth_16 : (b0 b1 b2 b3 b4 b5 b6 b7 b8 b9 b10 b11 b12 b13 b14 b15 : ℕ) → from_be_bytes w128 (b0 ∷ b1 ∷ b2 ∷ b3 ∷ b4 ∷ b5 ∷ b6 ∷ b7 ∷ b8 ∷ b9 ∷ b10 ∷ b11 ∷ b12 ∷ b13 ∷ b14 ∷ b15 ∷ []) ≡ worth (b0 ∷ b1 ∷ b2 ∷ b3 ∷ b4 ∷ b5 ∷ b6 ∷ b7 ∷ b8 ∷ b9 ∷ b10 ∷ b11 ∷ b12 ∷ b13 ∷ b14 ∷ b15 ∷ [])
+pub worth_16 : (b0 b1 b2 b3 b4 b5 b6 b7 b8 b9 b10 b11 b12 b13 b14 b15 : ℕ)
+    → from_be_bytes w128 (b0 ∷ b1 ∷ b2 ∷ b3 ∷ b4 ∷ b5 ∷ b6 ∷ b7 ∷ b8 ∷ b9 ∷ b10 ∷ b11 ∷ b12 ∷ b13 ∷ b14 ∷ b15 ∷ [])
+    ≡ worth (b0 ∷ b1 ∷ b2 ∷ b3 ∷ b4 ∷ b5 ∷ b6 ∷ b7 ∷ b8 ∷ b9 ∷ b10 ∷ b11 ∷ b12 ∷ b13 ∷ b14 ∷ b15 ∷ [])
 worth_16 b0 b1 b2 b3 b4 b5 b6 b7 b8 b9 b10 b11 b12 b13 b14 b15 = omega arith
 
 from_bytes : (bs : List ℕ) → length bs ≡ 16 → from_be_bytes w128 bs ≡ worth bs
@@ -133,8 +140,10 @@ from_bytes (b0 ∷ b1 ∷ b2 ∷ b3 ∷ b4 ∷ b5 ∷ b6 ∷ b7 ∷ b8 ∷ b9 �
 from_bytes (b0 ∷ b1 ∷ b2 ∷ b3 ∷ b4 ∷ b5 ∷ b6 ∷ b7 ∷ b8 ∷ b9 ∷ b10 ∷ b11 ∷ b12 ∷ []) l = absurd (omega arith)
 from_bytes (b0 ∷ b1 ∷ b2 ∷ b3 ∷ b4 ∷ b5 ∷ b6 ∷ b7 ∷ b8 ∷ b9 ∷ b10 ∷ b11 ∷ b12 ∷ b13 ∷ []) l = absurd (omega arith)
 from_bytes (b0 ∷ b1 ∷ b2 ∷ b3 ∷ b4 ∷ b5 ∷ b6 ∷ b7 ∷ b8 ∷ b9 ∷ b10 ∷ b11 ∷ b12 ∷ b13 ∷ b14 ∷ []) l = absurd (omega arith)
-from_bytes (b0 ∷ b1 ∷ b2 ∷ b3 ∷ b4 ∷ b5 ∷ b6 ∷ b7 ∷ b8 ∷ b9 ∷ b10 ∷ b11 ∷ b12 ∷ b13 ∷ b14 ∷ b15 ∷ []) l = worth_16 b0 b1 b2 b3 b4 b5 b6 b7 b8 b9 b10 b11 b12 b13 b14 b15
-from_bytes (b0 ∷ b1 ∷ b2 ∷ b3 ∷ b4 ∷ b5 ∷ b6 ∷ b7 ∷ b8 ∷ b9 ∷ b10 ∷ b11 ∷ b12 ∷ b13 ∷ b14 ∷ b15 ∷ c ∷ bs) l = absurd (omega arith)
+from_bytes (b0 ∷ b1 ∷ b2 ∷ b3 ∷ b4 ∷ b5 ∷ b6 ∷ b7 ∷ b8 ∷ b9 ∷ b10 ∷ b11 ∷ b12 ∷ b13 ∷ b14 ∷ b15 ∷ []) l =
+    worth_16 b0 b1 b2 b3 b4 b5 b6 b7 b8 b9 b10 b11 b12 b13 b14 b15
+from_bytes (b0 ∷ b1 ∷ b2 ∷ b3 ∷ b4 ∷ b5 ∷ b6 ∷ b7 ∷ b8 ∷ b9 ∷ b10 ∷ b11 ∷ b12 ∷ b13 ∷ b14 ∷ b15 ∷ c ∷ bs) l =
+    absurd (omega arith)
 
 -- ---- there and back
 
@@ -151,16 +160,23 @@ sign_small (c ∷ s) = by (nat_lt c 128)
     by false = lit< tt
 
 length_pad : (s : List ℕ) → length s ≤ 16 → length (pad s) ≡ 16
-length_pad s l = omega (arith, length-append (replicate (16 - length s) (sign s)) s, length-replicate (16 - length s) (sign s))
+length_pad s l = omega (
+  arith,
+  length-append (replicate (16 - length s) (sign s)) s,
+  length-replicate (16 - length s) (sign s),
+)
 
 pub int_bytes_again : (s : List ℕ) → IsBytes s → length s ≤ 16 → minimal s ≡ s → int_bytes (int_value s) ≡ s
 unfolding int_bytes int_value
 int_bytes_again s all l e =
     let bytes = bytes_replicate (16 - length s) (sign s) s (sign_small s) all in
-    let small : worth (pad s) < 256 ^ 16 = subst (λ k. worth (pad s) < 256 ^ k) (length_pad s l) (worth_small (pad s) bytes) in
-    let be : to_be_bytes w128 (worth (pad s)) ≡ pad s = subst (λ k. bytes_high_first k (worth (pad s)) ≡ pad s) (length_pad s l) (bytes_of_worth (pad s) bytes) in
+    let small : worth (pad s) < 256 ^ 16 =
+    subst (λ k. worth (pad s) < 256 ^ k) (length_pad s l) (worth_small (pad s) bytes) in
+    let be : to_be_bytes w128 (worth (pad s)) ≡ pad s =
+    subst (λ k. bytes_high_first k (worth (pad s)) ≡ pad s) (length_pad s l) (bytes_of_worth (pad s) bytes) in
     ap (λ n. minimal (to_be_bytes w128 (cast_unsigned w128 (cast_signed w128 n)))) (from_bytes (pad s) (length_pad s l))
-    ∙ ap (λ n. minimal (to_be_bytes w128 n)) (of_z-to_z w128 (worth (pad s)) small) ∙ ap minimal be ∙ minimal_pad (16 - length s) s e
+    ∙ ap (λ n. minimal (to_be_bytes w128 n)) (of_z-to_z w128 (worth (pad s)) small) ∙ ap minimal be
+    ∙ minimal_pad (16 - length s) s e
 
 below_all : (z : ℤ) → FitsSigned w128 z → cast_unsigned w128 z < 256 ^ 16
 below_all z f = omega (arith, ints)
@@ -173,7 +189,9 @@ unfolding int_bytes int_value
 int_value_again z f =
     let n = cast_unsigned w128 z in
     let bs = to_be_bytes w128 n in
-    ap (cast_signed w128) (ap (from_be_bytes w128) (pad_minimal bs (length-high 16 n)) ∙ from_bytes bs (length-high 16 n) ∙ worth_of_bytes 16 n ∙ keeps n (256 ^ 16) (below_all z f)) ∙ to_z-of_z w128 z f
+    ap (cast_signed w128) (ap (from_be_bytes w128) (pad_minimal bs (length-high 16 n))
+    ∙ from_bytes bs (length-high 16 n) ∙ worth_of_bytes 16 n ∙ keeps n (256 ^ 16) (below_all z f))
+    ∙ to_z-of_z w128 z f
 
 -- ---- the test
 
@@ -181,7 +199,8 @@ off : (t : Bool) → not t ≡ true → t ≡ false
 off true e = cc
 off false e = refl
 
-test_more : (b c : ℕ) (s : List ℕ) (t : Bool) → repeats_sign b c ≡ t → is_minimal (minimal (c ∷ s)) ≡ true → is_minimal (cond t (minimal (c ∷ s)) (b ∷ c ∷ s)) ≡ true
+test_more : (b c : ℕ) (s : List ℕ) (t : Bool) → repeats_sign b c ≡ t → is_minimal (minimal (c ∷ s)) ≡ true
+    → is_minimal (cond t (minimal (c ∷ s)) (b ∷ c ∷ s)) ≡ true
 test_more b c s true e h = h
 test_more b c s false e h = rw e
 
@@ -207,7 +226,8 @@ short s = let h = padded s in omega (arith, h.1)
 
 pub int_bytes_short : (z : ℤ) → length (int_bytes z) ≤ 16
 unfolding int_bytes
-int_bytes_short z = let bs = to_be_bytes w128 (cast_unsigned w128 z) in omega (arith, short bs, length-high 16 (cast_unsigned w128 z))
+int_bytes_short z = let bs = to_be_bytes w128 (cast_unsigned w128 z) in
+    omega (arith, short bs, length-high 16 (cast_unsigned w128 z))
 
 pub int_bytes_minimal : (z : ℤ) → is_minimal (int_bytes z) ≡ true
 unfolding int_bytes
@@ -217,8 +237,10 @@ pub int_value_fits : (s : List ℕ) → IsBytes s → length s ≤ 16 → FitsSi
 unfolding int_value
 int_value_fits s all l =
     let bytes = bytes_replicate (16 - length s) (sign s) s (sign_small s) all in
-    let small : worth (pad s) < 256 ^ 16 = subst (λ k. worth (pad s) < 256 ^ k) (length_pad s l) (worth_small (pad s) bytes) in
-    subst (λ n. FitsSigned w128 (cast_signed w128 n)) (sym (from_bytes (pad s) (length_pad s l))) (fits_all (worth (pad s)) small)
+    let small : worth (pad s) < 256 ^ 16 =
+    subst (λ k. worth (pad s) < 256 ^ k) (length_pad s l) (worth_small (pad s) bytes) in
+    subst (λ n. FitsSigned w128 (cast_signed w128 n)) (sym (from_bytes (pad s) (length_pad s l)))
+    (fits_all (worth (pad s)) small)
 
 -- ---- an integer behind its count
 
@@ -226,7 +248,8 @@ int_value_fits s all l =
 abbrev IsInt : List ℕ → ℤ → List ℕ → Type 0
 IsInt bytes z r = (bytes ≡ counted (int_bytes z) ++ r) × IsBytes r × FitsSigned w128 z
 
-int_from : (bytes s r : List ℕ) (t : Bool) (z : ℤ) (q : List ℕ) → is_minimal s ≡ t → bytes ≡ counted s ++ r → IsBytes r → IsBytes s → length s ≤ 16
+int_from : (bytes s r : List ℕ) (t : Bool) (z : ℤ) (q : List ℕ) → is_minimal s ≡ t → bytes ≡ counted s ++ r → IsBytes r
+    → IsBytes s → length s ≤ 16
     → cond {A = Result (ℤ × List ℕ) BinKind} t (Ok (int_value s, r)) (Err LongInteger) ≡ Ok (z, q) → IsInt bytes z q
 int_from bytes s r false z q d is all some l e = cc
 int_from bytes s r true z q d is all some l e =
@@ -236,8 +259,12 @@ int_from bytes s r true z q d is all some l e =
     let m : int_bytes z ≡ s = ap int_bytes (sym p) ∙ int_bytes_again s some l (minimal_from_test s d) in
     (rw (m, ← h) is, rw (← h) all, rw (← p) (int_value_fits s some l))
 
-int_wide : (bytes : List ℕ) (n : ℕ) (more : List ℕ) (t : Bool) (z : ℤ) (q : List ℕ) → nat_lt 16 n ≡ t → (bytes ≡ varint n ++ more) × IsBytes more × (n < 2 * 128 ^ 9)
-    → cond {A = Result (ℤ × List ℕ) BinKind} t (Err TooWide) (split_at n more >>= λ s. cond {A = Result (ℤ × List ℕ) BinKind} (is_minimal s.0) (Ok (int_value s.0, s.1)) (Err LongInteger)) ≡ Ok (z, q) → IsInt bytes z q
+int_wide : (bytes : List ℕ) (n : ℕ) (more : List ℕ) (t : Bool) (z : ℤ) (q : List ℕ) → nat_lt 16 n ≡ t
+    → (bytes ≡ varint n ++ more) × IsBytes more × (n < 2 * 128 ^ 9)
+    → cond {A = Result (ℤ × List ℕ) BinKind} t (Err TooWide)
+    (split_at n more >>= λ s.
+    cond {A = Result (ℤ × List ℕ) BinKind} (is_minimal s.0) (Ok (int_value s.0, s.1)) (Err LongInteger)) ≡ Ok (z, q)
+    → IsInt bytes z q
 int_wide bytes n more true z q d w e = cc
 int_wide bytes n more false z q d w e =
     let l : n ≤ 16 = ltb-false 16 n d in
@@ -246,7 +273,8 @@ int_wide bytes n more false z q d w e =
     let k : length x.0.0 ≤ 16 = subst (λ j. j ≤ 16) (sym (split_sound n more x.0.0 x.0.1 x.1).0) l in
     int_from bytes x.0.0 x.0.1 (is_minimal x.0.0) z q refl h.0 h.1 h.2 k x.2
 
-pub int_sound : (bytes : List ℕ) (z : ℤ) (r : List ℕ) → IsBytes bytes → int_at bytes ≡ Ok (z, r) → (bytes ≡ counted (int_bytes z) ++ r) × IsBytes r × FitsSigned w128 z
+pub int_sound : (bytes : List ℕ) (z : ℤ) (r : List ℕ) → IsBytes bytes → int_at bytes ≡ Ok (z, r)
+    → (bytes ≡ counted (int_bytes z) ++ r) × IsBytes r × FitsSigned w128 z
 unfolding int_at
 int_sound bytes z r all e =
     let x = bind_ok (varint_at 9 bytes) _ _ e in
@@ -257,5 +285,13 @@ unfolding int_at
 int_again z r f =
     let s = int_bytes z in
     let l = int_bytes_short z in
-    let a : varint_at 9 (varint (length s) ++ (s ++ r)) ≡ Ok (length s, s ++ r) = varint_again 8 (length s) (s ++ r) (omega (arith, l)) in
-    rw (append_assoc (varint (length s)) s r, a, le-ltb 16 (length s) l, split_again s r, int_bytes_minimal z, int_value_again z f)
+    let a : varint_at 9 (varint (length s) ++ (s ++ r)) ≡ Ok (length s, s ++ r) =
+    varint_again 8 (length s) (s ++ r) (omega (arith, l)) in
+    rw (
+      append_assoc (varint (length s)) s r,
+      a,
+      le-ltb 16 (length s) l,
+      split_again s r,
+      int_bytes_minimal z,
+      int_value_again z f,
+    )

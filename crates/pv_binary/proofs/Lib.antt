@@ -1,14 +1,14 @@
-pub mod Binds
 pub mod Bytes
 pub mod Complete
 pub mod Counts
 pub mod Cuts
 pub mod Doubles
+pub mod Elements
 pub mod Exact
 pub mod Ints
-pub mod Items
 pub mod Numbers
 pub mod OneOfThree
+pub mod Paths
 pub mod Sound
 pub mod Stops
 pub mod TagBytes

@@ -1,10 +1,12 @@
 -- One byte of a number in bytes of seven bits.
-use Rattle.std.proofs.Common.{◌≡◌, ℕ, zero, suc, ◌+◌, ◌-◌, ◌*◌, ◌^◌, lit≤, lit<, ◌<◌, ◌/◌, ◌%◌, ◌≤◌, List, [], ◌∷◌, ◌++◌, refl, append_assoc, sub-one, arith}
+use Rattle.std.proofs.Common.{◌≡◌, ℕ, zero, suc, ◌+◌, ◌-◌, ◌*◌, ◌^◌, lit≤, lit<, ◌<◌, ◌/◌, ◌%◌, ◌≤◌, List, [], ◌∷◌}
+use Rattle.std.proofs.Common.{◌++◌, refl, append_assoc, sub-one, arith}
 use Rattle.std.proofs.Math.Nat.{pow-succ'}
 use Rattle.std.proofs.lemmas.Bool.{le-ltb}
 use Rattle.pv_binary.specs.Numbers.{varint_in}
 
-pub varint_more : (k n : ℕ) (out new all : List ℕ) → 128 ≤ n → n ≤ k → out ++ varint_in k n ≡ all → new ≡ out ++ (n % 128 + 128) ∷ [] → (j : ℕ) × (n / 128 ≤ j) × (new ++ varint_in j (n / 128) ≡ all)
+pub varint_more : (k n : ℕ) (out new all : List ℕ) → 128 ≤ n → n ≤ k → out ++ varint_in k n ≡ all → new ≡ out
+    ++ (n % 128 + 128) ∷ [] → (j : ℕ) × (n / 128 ≤ j) × (new ++ varint_in j (n / 128) ≡ all)
 varint_more zero n out new all h l e is = absurd (omega arith)
 varint_more (suc k) n out new all h l e is =
     (k, omega arith, rw (is, append_assoc) (rw (le-ltb n 128 h) at e))

@@ -2,8 +2,9 @@
 use Rattle.std.proofs.Common.{◌≡◌, ℕ, Bool, true, false, cond, eqb, refl}
 use Rattle.std.proofs.lemmas.Bool.{eqb-true}
 use Rattle.pv_binary.specs.Tags.{tag_of}
-use Rattle.pv_binary.specs.declared.tags.Tag.{Tag}
-use Rattle.pv_binary.specs.declared.tags.Tag.TheVariants.{False, True, Embedded, Double, Integer, String, ByteString, Symbol, Record, Sequence, Set, Dictionary, Other}
+use Rattle.pv_binary.specs.declared.tag.Tag.{Tag}
+use Rattle.pv_binary.specs.declared.tag.Tag.TheVariants.{False, True, Embedded, Double, Integer, String, ByteString}
+use Rattle.pv_binary.specs.declared.tag.Tag.TheVariants.{Symbol, Record, Sequence, Set, Dictionary, Other}
 
 -- the byte is the tag's
 abbrev pub IsByteOf : Tag → ℕ → Type 0

@@ -1,17 +1,16 @@
 -- The reader's clauses, from what it computes, and the uniqueness of spellings.
-use Rattle.std.proofs.Common.{◌≡◌, ℕ, zero, suc, max, ◌++◌, ◌-◌, ◌<◌, ◌≤◌, List, [], ◌∷◌, length, get_or, take, drop, Ok, Err, sym, ap, ◌∙◌, subst, length-append, length-drop, arith}
+use Rattle.std.proofs.Common.{◌≡◌, ℕ, zero, suc, max, ◌++◌, ◌-◌, ◌<◌, ◌≤◌, List, [], ◌∷◌, length, get_or, take, drop}
+use Rattle.std.proofs.Common.{Ok, Err, sym, ap, ◌∙◌, subst, length-append, length-drop, arith}
 use Rattle.std.proofs.Math.Seq.{take-append_seam}
 use Rattle.std.proofs.lemmas.List.{take-append-drop, append_cancel_right}
 use Rattle.pv_value.specs.Plain.{Plain}
 use Rattle.pv_value.specs.Depth.{depth}
-use Rattle.pv_binary.specs.declared.faults.BinFault.{BinFault}
-use Rattle.pv_binary.specs.declared.faults.BinFault.TheVariants.{Bad, NoMemory}
+use Rattle.pv_read.specs.Results.{Fault}
+use Rattle.pv_binary.specs.declared.faults.BinKind.{BinKind}
 use Rattle.pv_binary.specs.Reading.{value_at}
-use Rattle.pv_binary.specs.Results.{Fails}
 use Rattle.pv_binary.specs.Spells.{Spells}
-use Rattle.pv_binary.specs.Reads.{BeginsWith, IsFound, IsBad}
-use Rattle.pv_binary.specs.declared.TheConstants.{READ_DEPTH}
-use Rattle.pv_binary.proofs.Binds.{parts}
+use Rattle.pv_binary.specs.Reads.{BeginsWith}
+use Rattle.pv_read.specs.Lemmas.Binds.{parts}
 use Rattle.pv_binary.proofs.Varints.{IsBytes}
 use Rattle.pv_binary.proofs.Sound.{value_sound}
 use Rattle.pv_binary.proofs.Complete.{again}
@@ -20,7 +19,8 @@ pub are_bytes : (bytes : List ℕ) → ((i : ℕ) → get_or bytes i 0 < 256) �
 are_bytes [] h = tt
 are_bytes (b ∷ bs) h = (h 0, are_bytes bs (λ i. h (suc i)))
 
-pub found_law : (total d : ℕ) (bytes : List ℕ) (v : Plain) (rest : List ℕ) → IsBytes bytes → value_at total d bytes ≡ Ok (v, rest) → (length rest ≤ length bytes) × Spells (take (length bytes - length rest) bytes) v × (depth v ≤ d)
+pub found_law : (total d : ℕ) (bytes : List ℕ) (v : Plain) (rest : List ℕ) → IsBytes bytes → value_at total d bytes
+    ≡ Ok (v, rest) → (length rest ≤ length bytes) × Spells (take (length bytes - length rest) bytes) v × (depth v ≤ d)
 found_law total d bytes v rest all e =
     let f = value_sound total d bytes v rest all e in
     let l = ap length f.is in
@@ -30,25 +30,23 @@ found_law total d bytes v rest all e =
     let u : take (length bytes - length rest) bytes ≡ f.front = ap (λ m. take m bytes) (sym n) ∙ t in
     (omega arith, subst (λ b. Spells b v) (sym u) f.spells, f.shallow)
 
-pub only_law : (total d : ℕ) (bytes : List ℕ) (n : ℕ) (v : Plain) → Spells (take n bytes) v → depth v ≤ d → value_at total d bytes ≡ Ok (v, drop n bytes)
-only_law total d bytes n v s l = subst (λ b. value_at total d b ≡ Ok (v, drop n bytes)) (take-append-drop n bytes) ((again v total d (take n bytes) s l).reads (drop n bytes))
+pub only_law : (total d : ℕ) (bytes : List ℕ) (n : ℕ) (v : Plain) → Spells (take n bytes) v → depth v ≤ d
+    → value_at total d bytes ≡ Ok (v, drop n bytes)
+only_law total d bytes n v s l =
+    subst (λ b. value_at total d b ≡ Ok (v, drop n bytes)) (take-append-drop n bytes)
+    ((again v total d (take n bytes) s l).reads (drop n bytes))
 
-pub same_read : (total d : ℕ) (bytes : List ℕ) (n : ℕ) (v w : Plain) (rest : List ℕ) → n ≤ length bytes → Spells (take n bytes) v → depth v ≤ d → value_at total d bytes ≡ Ok (w, rest) → (w ≡ v) × (length bytes - length rest ≡ n)
+pub same_read : (total d : ℕ) (bytes : List ℕ) (n : ℕ) (v w : Plain) (rest : List ℕ) → n ≤ length bytes
+    → Spells (take n bytes) v → depth v ≤ d → value_at total d bytes ≡ Ok (w, rest) → (w ≡ v)
+    × (length bytes - length rest ≡ n)
 same_read total d bytes n v w rest l s deep e =
     let p = parts v w (drop n bytes) rest (sym (only_law total d bytes n v s deep) ∙ e) in
     (sym p.0, omega (arith, length-drop n bytes, ap length p.1))
 
--- a fault, where something is spelled so, is want of memory
-module _ (bytes : List ℕ) where
-  pub err_found : (e : BinFault) → Fails e (value_at (length bytes) READ_DEPTH bytes) → (n : ℕ) (v : Plain) → BeginsWith bytes n v → IsFound (Err e) v n
-  err_found NoMemory f n v b = tt
-  err_found (Bad kind place) f n v b =
-      let e = only_law (length bytes) READ_DEPTH bytes n v b.1 b.2 in
-      cc
-
-  pub err_bad : (e : BinFault) → Fails e (value_at (length bytes) READ_DEPTH bytes) → IsBad (Err e) bytes
-  err_bad NoMemory f = tt
-  err_bad (Bad kind place) f = λ n v b. err_found (Bad kind place) f n v b
+-- a fault comes only where nothing is spelled so
+pub none_begins : (bytes : List ℕ) (f : Fault BinKind) → value_at (length bytes) 64 bytes ≡ Err f → (n : ℕ) (v : Plain)
+    → BeginsWith bytes n v → ⊥
+none_begins bytes f e n v b = let w = sym (only_law (length bytes) 64 bytes n v b.1 b.2) ∙ e in cc
 
 front_same : (a b x y : List ℕ) → a ++ x ≡ b ++ y → x ≡ y → a ≡ b
 front_same a b x y e p = append_cancel_right a b y (ap (λ r. a ++ r) (sym p) ∙ e)

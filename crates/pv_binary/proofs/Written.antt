@@ -2,7 +2,9 @@
 use Rattle.std.proofs.Common.{◌≡◌, ℕ, true, false, List, [], ◌∷◌, ◌++◌, refl, ap, arith}
 use Rattle.std.specs.List.{concat}
 use Rattle.std.proofs.lemmas.List.Sorted.{IsPermutation-refl}
-use Rattle.pv_value.specs.Plain.{Plain, boolean, double, integer, string, byte_string, symbol, record_of, sequence, set_of, dictionary, embedded, Plains, no_more, then_more, PlainPairs, no_pairs, then_pair}
+use Rattle.pv_value.specs.Plain.{Plain, boolean, double, integer, string, byte_string, symbol, record_of, sequence}
+use Rattle.pv_value.specs.Plain.{set_of, dictionary, embedded, Plains, no_more, then_more, PlainPairs, no_pairs}
+use Rattle.pv_value.specs.Plain.{then_pair}
 use Rattle.pv_value.specs.WellFormed.{IsWellFormed, AreWellFormed, ArePairsWellFormed}
 use Rattle.pv_binary.specs.Written.{written, written_all, written_pairs}
 use Rattle.pv_binary.specs.Spells.{Spells, Pieces, PairPieces}
@@ -32,13 +34,30 @@ mutual
   spelled (string s) h = (h.0, omega arith, refl)
   spelled (byte_string s) h = (omega arith, refl)
   spelled (symbol s) h = (h.0, omega arith, refl)
-  spelled (record_of l fs) h =
-      (written l, pieces_of fs, spelled l h.0, all_spelled fs h.1, ap (λ bs. 0xb4 ∷ (written l ++ (bs ++ 0x84 ∷ []))) (pieces_joined fs))
+  spelled (record_of l fs) h = (
+    written l,
+    pieces_of fs,
+    spelled l h.0,
+    all_spelled fs h.1,
+    ap (λ bs. 0xb4 ∷ (written l ++ (bs ++ 0x84 ∷ []))) (pieces_joined fs),
+  )
   spelled (sequence xs) h = (pieces_of xs, all_spelled xs h, ap (λ bs. 0xb5 ∷ (bs ++ 0x84 ∷ [])) (pieces_joined xs))
-  spelled (set_of xs) h =
-      (pieces_of xs, pieces_of xs, all_spelled xs h.1, IsPermutation-refl (pieces_of xs), h.0, ap (λ bs. 0xb6 ∷ (bs ++ 0x84 ∷ [])) (pieces_joined xs))
-  spelled (dictionary ps) h =
-      (pair_pieces_of ps, pair_pieces_of ps, pairs_spelled ps h.1, IsPermutation-refl (pair_pieces_of ps), h.0, ap (λ bs. 0xb7 ∷ (bs ++ 0x84 ∷ [])) (pair_pieces_joined ps))
+  spelled (set_of xs) h = (
+    pieces_of xs,
+    pieces_of xs,
+    all_spelled xs h.1,
+    IsPermutation-refl (pieces_of xs),
+    h.0,
+    ap (λ bs. 0xb6 ∷ (bs ++ 0x84 ∷ [])) (pieces_joined xs),
+  )
+  spelled (dictionary ps) h = (
+    pair_pieces_of ps,
+    pair_pieces_of ps,
+    pairs_spelled ps h.1,
+    IsPermutation-refl (pair_pieces_of ps),
+    h.0,
+    ap (λ bs. 0xb7 ∷ (bs ++ 0x84 ∷ [])) (pair_pieces_joined ps),
+  )
   spelled (embedded x) h = (written x, spelled x h, refl)
 
   pub all_spelled : (xs : Plains) → AreWellFormed xs → Pieces (pieces_of xs) xs
@@ -47,4 +66,5 @@ mutual
 
   pub pairs_spelled : (ps : PlainPairs) → ArePairsWellFormed ps → PairPieces (pair_pieces_of ps) ps
   pairs_spelled no_pairs h = tt
-  pairs_spelled (then_pair k v ps) h = ((written k, written v, spelled k h.0, spelled v h.1, refl), pairs_spelled ps h.2)
+  pairs_spelled (then_pair k v ps) h =
+      ((written k, written v, spelled k h.0, spelled v h.1, refl), pairs_spelled ps h.2)

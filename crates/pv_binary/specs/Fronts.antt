@@ -1,18 +1,21 @@
--- Where bytes that spell no value stop: in the midst of a value, or at a fault. By tags, counts and levels alone.
--- Preserves binary specification; the faults and their places are the project's own.
-use Rattle.std.specs.Prelude.{◌≡◌, ◌≢◌, ℕ, zero, suc, ◌+◌, ◌^◌, ◌<◌, ◌≤◌, ◌⊎◌, Bool, true, false, not, IsTrue, IsFalse, List, [], ◌∷◌, ◌++◌, length, map}
+-- Where bytes that spell no value stop: in the midst of a value, or at a fault. By tags, counts and levels, and by the
+-- values that are there: a String's, Symbol's or integer's bytes count once they are all there, and elements that
+-- repeat at the end of their set or dictionary. Preserves binary specification; the faults and their places are the
+-- project's own.
+use Rattle.std.specs.Prelude.{◌≡◌, ◌≢◌, ℕ, zero, suc, ◌+◌, ◌^◌, ◌<◌, ◌≤◌, ◌⊎◌, Bool, true, false, not, IsTrue, IsFalse}
+use Rattle.std.specs.Prelude.{List, [], ◌∷◌, ◌++◌, length, map, slice_index, if◌then◌else◌}
 use Rattle.std.specs.Str.{IsUtf8}
 use Rattle.std.specs.List.{concat}
 use Rattle.pv_value.specs.Plain.{Plain, plains}
 use Rattle.pv_value.specs.Depth.{deepest}
 use Rattle.pv_value.specs.Sets.{AreDistinct}
+use Rattle.pv_read.specs.Results.{Fault}
 use Rattle.pv_binary.specs.Numbers.{varint}
 use Rattle.pv_binary.specs.Tags.{tag_of}
 use Rattle.pv_binary.specs.Spells.{Pieces}
 use Rattle.pv_binary.specs.Reading.{is_compound, is_minimal}
-use Rattle.pv_binary.specs.declared.TheConstants.{READ_DEPTH}
-use Rattle.pv_binary.specs.declared.tags.Tag.{Tag}
-use Rattle.pv_binary.specs.declared.tags.Tag.TheVariants as tag
+use Rattle.pv_binary.specs.declared.tag.Tag.{Tag}
+use Rattle.pv_binary.specs.declared.tag.Tag.TheVariants as tag
 use Rattle.pv_binary.specs.declared.faults.BinKind.{BinKind}
 use Rattle.pv_binary.specs.declared.faults.BinKind.TheVariants as kind
 
@@ -37,13 +40,14 @@ pub record IsOpen (o : Open) (outer : List Open) (front : List ℕ) : Type 0 whe
   pub place : o.place ≡ length front
   pub compound : IsTrue (is_compound (tag_at o))
   pub unfilled : IsUnfilled (tag_at o) o.values
-  pub level : length outer < READ_DEPTH
-  pub shallow : deepest (plains o.values) + suc (length outer) ≤ READ_DEPTH
+  pub level : length outer < 64
+  pub shallow : deepest (plains o.values) + suc (length outer) ≤ 64
 
 -- the bytes are the tags of these compounds, the innermost first in the list, each with its values behind it
 abbrev pub Opens : List ℕ → List Open → Type 0
 Opens b [] = b ≡ []
-Opens b (o ∷ outer) = (front : List ℕ) × (ps : List (List ℕ)) × Opens front outer × IsOpen o outer front × Pieces ps (plains o.values) × (b ≡ front ++ o.byte ∷ concat ps)
+Opens b (o ∷ outer) = (front : List ℕ) × (ps : List (List ℕ)) × Opens front outer × IsOpen o outer front
+    × Pieces ps (plains o.values) × (b ≡ front ++ o.byte ∷ concat ps)
 
 abbrev pub is_even : ℕ → Bool
 is_even zero = true
@@ -86,7 +90,8 @@ IsCountFront c = (n : ℕ) × (d : List ℕ) × (n < 2 ^ 64) × (d ≢ []) × (v
 
 -- a front of the bytes is neither such a count, nor begins one, nor goes on from one
 abbrev pub IsNoCount : List ℕ → Type 0
-IsNoCount s = (c : List ℕ) × (r : List ℕ) × (s ≡ c ++ r) × ((n : ℕ) (d : List ℕ) → n < 2 ^ 64 → (varint n ≡ c ++ d → ⊥) × (c ≡ varint n ++ d → ⊥))
+IsNoCount s = (c : List ℕ) × (r : List ℕ) × (s ≡ c ++ r)
+    × ((n : ℕ) (d : List ℕ) → n < 2 ^ 64 → (varint n ≡ c ++ d → ⊥) × (c ≡ varint n ++ d → ⊥))
 
 -- the bytes begin with the count n, behind which s follows
 abbrev pub IsCounted : List ℕ → ℕ → List ℕ → Type 0
@@ -99,7 +104,8 @@ IsCutCounted bytes = IsCountFront bytes ⊎ ((n : ℕ) × (s : List ℕ) × IsCo
 
 abbrev pub IsCut : Tag → List ℕ → Type 0
 IsCut tag.Double bytes = (bytes ≡ []) ⊎ ((s : List ℕ) × (bytes ≡ 8 ∷ s) × (length s < 8))
-IsCut tag.Integer bytes = IsCountFront bytes ⊎ ((n : ℕ) × (s : List ℕ) × IsCounted bytes n s × (length s < n) × (n ≤ 16))
+IsCut tag.Integer bytes =
+    IsCountFront bytes ⊎ ((n : ℕ) × (s : List ℕ) × IsCounted bytes n s × (length s < n) × (n ≤ 16))
 IsCut tag.String bytes = IsCutCounted bytes
 IsCut tag.ByteString bytes = IsCutCounted bytes
 IsCut tag.Symbol bytes = IsCutCounted bytes
@@ -108,10 +114,12 @@ IsCut t bytes = ⊥
 -- ---- faults of an atom; the bytes stand behind the tag
 
 abbrev pub IsBadText : List ℕ → Type 0
-IsBadText bytes = (n : ℕ) × (s : List ℕ) × (r : List ℕ) × IsCounted bytes n (s ++ r) × (length s ≡ n) × (IsUtf8 s → ⊥)
+IsBadText bytes = (n : ℕ) × (s : List ℕ) × (r : List ℕ) × IsCounted bytes n (s ++ r) × (length s ≡ n)
+    × (IsUtf8 s → ⊥)
 
 abbrev pub IsLongInteger : List ℕ → Type 0
-IsLongInteger bytes = (n : ℕ) × (s : List ℕ) × (r : List ℕ) × IsCounted bytes n (s ++ r) × (length s ≡ n) × (n ≤ 16) × IsFalse (is_minimal s)
+IsLongInteger bytes = (n : ℕ) × (s : List ℕ) × (r : List ℕ) × IsCounted bytes n (s ++ r) × (length s ≡ n) × (n ≤ 16)
+    × IsFalse (is_minimal s)
 
 abbrev pub IsWideInteger : List ℕ → Type 0
 IsWideInteger bytes = (n : ℕ) × (s : List ℕ) × IsCounted bytes n s × (16 < n)
@@ -128,23 +136,44 @@ AtomFault tag.Symbol bytes kind.LongVarint = IsNoCount bytes
 AtomFault tag.Symbol bytes kind.BadUtf8 = IsBadText bytes
 AtomFault t bytes k = ⊥
 
--- ---- fronts and faults of the whole
+-- ---- fronts of the whole
 
--- the bytes end where a tag is due, or inside the atom behind the open compounds; the place is their number, or the atom's
-pub data EndsAt : List ℕ → List ℕ → ℕ → Type 0 where
-  at_tag : (front : List ℕ) → EndsAt front [] (length front)
-  inside_atom : (front : List ℕ) (t : ℕ) (bytes : List ℕ) → IsCut (tag_of t) bytes → EndsAt front (t ∷ bytes) (length front)
+-- the bytes end where a tag is due, or inside the atom behind the open compounds; cut is the place of such an atom
+pub data EndsAt : List ℕ → List ℕ → List ℕ → Type 0 where
+  at_tag : (front : List ℕ) → EndsAt front [] []
+  inside_atom : (front : List ℕ) (t : ℕ) (bytes : List ℕ) → IsCut (tag_of t) bytes
+      → EndsAt front (t ∷ bytes) (length front ∷ [])
 
--- the bytes begin a value and end before it does; path lists the places of the compounds that are open
-abbrev pub Front : List ℕ → List ℕ → ℕ → Type 0
-Front b path place = (front : List ℕ) × (tail : List ℕ) × (open_ : List Open) × (b ≡ front ++ tail) × Opens front open_ × EndsAt front tail place × (path ≡ map (λ (o : Open). o.place) open_)
+-- the bytes begin a value and end before it does; path lists the places of all values that are open, the innermost
+-- first, an atom that is cut off among them
+abbrev pub Front : List ℕ → List ℕ → Type 0
+Front b path = (front : List ℕ) × (tail : List ℕ) × (open_ : List Open) × (cut : List ℕ) × (b ≡ front ++ tail)
+    × Opens front open_ × EndsAt front tail cut × (path ≡ cut ++ map (λ (o : Open). o.place) open_)
+
+-- where the end of the bytes is told: behind them where a tag is due, as where no value is open or the innermost one is
+-- a compound, and else at the innermost value
+abbrev pub truncated_place : List ℕ → List ℕ → ℕ
+truncated_place bytes [] = length bytes
+truncated_place bytes (place ∷ outer) = if is_compound (tag_of (slice_index bytes place)) then length bytes else place
+
+-- the fault of a front
+abbrev pub truncated : List ℕ → List ℕ → Fault BinKind
+truncated bytes path = record { kind = kind.Truncated; place = truncated_place bytes path }
+
+-- ---- faults of the whole
 
 -- what stands behind the open compounds is a fault, at this place
 pub data FaultAt : List ℕ → List Open → List ℕ → BinKind → ℕ → Type 0 where
-  too_deep : (front : List ℕ) (os : List Open) (t : ℕ) (r : List ℕ) → IsTrue (is_compound (tag_of t)) → length os ≡ READ_DEPTH → FaultAt front os (t ∷ r) kind.TooDeep (length front)
-  bad_tag : (front : List ℕ) (os : List Open) (t : ℕ) (r : List ℕ) → tag_of t ≡ tag.Other → (t ≡ 0x84 → IsFalse (may_end os)) → FaultAt front os (t ∷ r) kind.BadTag (length front)
-  bad_atom : (front : List ℕ) (os : List Open) (t : ℕ) (r : List ℕ) (k : BinKind) → AtomFault (tag_of t) r k → FaultAt front os (t ∷ r) k (length front)
-  repeated : (front : List ℕ) (o : Open) (os : List Open) (r : List ℕ) → IsTrue (may_end (o ∷ os)) → Repeats (tag_at o) o.values → FaultAt front (o ∷ os) (0x84 ∷ r) kind.Duplicate o.place
+  too_deep : (front : List ℕ) (os : List Open) (t : ℕ) (r : List ℕ) → IsTrue (is_compound (tag_of t)) → length os ≡ 64
+      → FaultAt front os (t ∷ r) kind.TooDeep (length front)
+  bad_tag : (front : List ℕ) (os : List Open) (t : ℕ) (r : List ℕ) → tag_of t ≡ tag.Other
+      → (t ≡ 0x84 → IsFalse (may_end os)) → FaultAt front os (t ∷ r) kind.BadTag (length front)
+  bad_atom : (front : List ℕ) (os : List Open) (t : ℕ) (r : List ℕ) (k : BinKind) → AtomFault (tag_of t) r k
+      → FaultAt front os (t ∷ r) k (length front)
+  repeated : (front : List ℕ) (o : Open) (os : List Open) (r : List ℕ) → IsTrue (may_end (o ∷ os))
+      → Repeats (tag_at o) o.values → FaultAt front (o ∷ os) (0x84 ∷ r) kind.Duplicate o.place
 
-abbrev pub Stands : List ℕ → BinKind → ℕ → Type 0
-Stands b k place = (front : List ℕ) × (tail : List ℕ) × (os : List Open) × (b ≡ front ++ tail) × Opens front os × FaultAt front os tail k place
+-- the bytes begin no value, since this fault stands in them
+abbrev pub Stands : List ℕ → Fault BinKind → Type 0
+Stands b f = (front : List ℕ) × (tail : List ℕ) × (os : List Open) × (b ≡ front ++ tail) × Opens front os
+    × FaultAt front os tail f.kind f.place

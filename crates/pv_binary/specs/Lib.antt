@@ -1,12 +1,10 @@
-pub mod Ascending
-pub mod DictionaryFrom
 pub mod Fronts
+pub mod Kinds
+pub mod Lemmas
 pub mod Numbers
 pub mod OneOfThree
 pub mod Reading
 pub mod Reads
-pub mod Results
-pub mod SetFrom
 pub mod Spells
 pub mod Tags
 pub mod Written

@@ -1,5 +1,6 @@
 -- Numbers in bytes: counts and integers. Preserves binary specification, sections "Varints" and "SignedInteger".
-use Rattle.std.specs.Prelude.{ℕ, zero, suc, ◌+◌, ◌/◌, ◌%◌, ℤ, Bool, ◌&&◌, ◌||◌, ◌==◌, nat_lt, not, List, [], ◌∷◌, ◌++◌, length, if◌then◌else◌}
+use Rattle.std.specs.Prelude.{ℕ, zero, suc, ◌+◌, ◌/◌, ◌%◌, ℤ, Bool, ◌&&◌, ◌||◌, ◌==◌, nat_lt, not, List, [], ◌∷◌, ◌++◌}
+use Rattle.std.specs.Prelude.{length, if◌then◌else◌}
 use Rattle.std.specs.Int.{w128, to_be_bytes, cast_unsigned}
 
 -- a number in bytes of seven bits, the lowest first; each but the last has its top bit set. k is at least the number

@@ -1,34 +1,22 @@
--- What reading gives: a value and the bytes after it, or the first fault from the left and its place.
-use Rattle.std.specs.Prelude.{replicate, ℤ, ℕ, zero, suc, ◌+◌, ◌-◌, ◌*◌, Bool, true, false, ◌&&◌, ◌==◌, nat_lt, not, List, [], ◌∷◌, ◌++◌, length, take, drop, map, if◌then◌else◌, Result, Ok, Err}
+-- What reading gives: a value and the bytes after it, or the first fault from the left and its place. The bytes are
+-- those of the Preserves binary specification, its table of tags and its sections "Varints" and "SignedInteger".
+use Rattle.std.specs.Prelude.{replicate, ℤ, ℕ, zero, suc, ◌+◌, ◌-◌, ◌*◌, Bool, true, false, ◌==◌, nat_lt, not}
+use Rattle.std.specs.Prelude.{List, [], ◌∷◌, ◌++◌, length, take, drop, if◌then◌else◌, Option, Result, Ok, Err}
 use Rattle.std.specs.Str.{is_utf8}
 use Rattle.std.specs.Int.{w64, w128, from_be_bytes, cast_signed}
-use Rattle.std.specs.List.{list_any}
-use Rattle.std.specs.declared.cmp.Ordering.{Ordering}
-use Rattle.std.specs.Ordering.{eq_by_cmp, then_cmp, on}
-use Rattle.std.specs.BTreeSet.{insert_key}
-use Rattle.pv_value.specs.Plain.{Plain, boolean, double, integer, string, byte_string, symbol, record_of, sequence, set_of, dictionary, embedded, plains, pairs}
-use Rattle.pv_value.specs.Order.{order}
+use Rattle.std.specs.Option.{ok_or}
+use Rattle.pv_value.specs.Plain.{Plain, boolean, double, integer, string, byte_string, symbol}
+use Rattle.pv_value.specs.Plain.{record_of, sequence, embedded, plains}
+use Rattle.pv_value.specs.Sets.{set_from, dictionary_from}
+use Rattle.pv_read.specs.Results.{Fault, ◌>>=◌, within}
+use Rattle.pv_read.specs.Elements.{elements_at}
 use Rattle.pv_binary.specs.Numbers.{repeats_sign}
 use Rattle.pv_binary.specs.Tags.{tag_of}
-use Rattle.pv_binary.specs.declared.tags.Tag.{Tag}
-use Rattle.pv_binary.specs.declared.tags.Tag.TheVariants as tag
+use Rattle.pv_binary.specs.declared.tag.Tag.{Tag}
+use Rattle.pv_binary.specs.declared.tag.Tag.TheVariants as tag
 use Rattle.pv_binary.specs.declared.faults.BinKind.{BinKind}
-use Rattle.pv_binary.specs.declared.faults.BinKind.TheVariants.{Truncated, BadTag, LongVarint, LongInteger, TooWide, BadUtf8, Duplicate, TooDeep}
-
--- a fault, and the offset at which it stands
-pub record Fault : Type 0 where
-  pub kind : BinKind
-  pub place : ℕ
-
-infixl 10 ◌>>=◌
-abbrev pub ◌>>=◌ : {A B E : Type 0} → Result A E → (A → Result B E) → Result B E
-(Ok x) >>= f = f x
-(Err e) >>= f = Err e
-
--- a fault of the value whose tag stands at this place
-abbrev pub within : {A : Type 0} → ℕ → Result A BinKind → Result A Fault
-within place (Ok x) = Ok x
-within place (Err k) = Err (record { kind = k; place = place })
+use Rattle.pv_binary.specs.declared.faults.BinKind.TheVariants.{Truncated, BadTag, LongVarint, LongInteger}
+use Rattle.pv_binary.specs.declared.faults.BinKind.TheVariants.{TooWide, BadUtf8, Duplicate, TooDeep}
 
 -- ---- numbers and what stands behind a count
 
@@ -85,51 +73,38 @@ unfoldable pub double_at : List ℕ → Result (ℕ × List ℕ) BinKind
 double_at [] = Err Truncated
 double_at (b ∷ bytes) = if b == 8 then (split_at 8 bytes >>= λ s. Ok (from_be_bytes w64 s.0, s.1)) else Err BadTag
 
--- ---- sets and dictionaries
-
--- the same in ascending order, each once
-abbrev pub ascending_by : {A : Type 0} → (A → A → Ordering) → List A → List A
-ascending_by before [] = []
-ascending_by before (x ∷ xs) = insert_key before (ascending_by before xs) x
-
-abbrev pub all_differ : List Plain → Bool
-all_differ [] = true
-all_differ (x ∷ xs) = not (list_any (eq_by_cmp order x) xs) && all_differ xs
-
-unfoldable pub set_from : List Plain → Result Plain BinKind
-set_from xs = if all_differ xs then Ok (set_of (plains (ascending_by order xs))) else Err Duplicate
-
--- pairs in order: by key, and then by value
-abbrev pub pair_order : Plain × Plain → Plain × Plain → Ordering
-pair_order = then_cmp (on (λ p. p.0) order) (on (λ p. p.1) order)
-
-unfoldable pub dictionary_from : List (Plain × Plain) → Result Plain BinKind
-dictionary_from ps = if all_differ (map (λ p. p.0) ps) then Ok (dictionary (pairs (ascending_by pair_order ps))) else Err Duplicate
-
 -- ---- values
 
 -- the bytes end where a tag is due
-abbrev pub no_tag : {A : Type 0} → ℕ → Result A Fault
-no_tag total = Err (record { kind = Truncated; place = total })
+abbrev pub no_tag : ℕ → Fault BinKind
+no_tag total = record { kind = Truncated; place = total }
 
--- values up to the end, each read by inner; k is the number of bytes
-abbrev pub items_at : ℕ → (List ℕ → Result (Plain × List ℕ) Fault) → ℕ → List ℕ → Result (List Plain × List ℕ) Fault
-items_at total inner zero bytes = no_tag total
-items_at total inner (suc k) [] = no_tag total
-items_at total inner (suc k) (b ∷ bytes) =
-    if b == 0x84 then Ok ([], bytes)
-    else (inner (b ∷ bytes) >>= λ x. items_at total inner k x.1 >>= λ xs. Ok (x.0 ∷ xs.0, xs.1))
+-- reading a value
+abbrev pub Inner : Type 0
+Inner = List ℕ → Result (Plain × List ℕ) (Fault BinKind)
 
--- keys and values by turns up to the end
-abbrev pub pairs_at : ℕ → (List ℕ → Result (Plain × List ℕ) Fault) → ℕ → List ℕ → Result (List (Plain × Plain) × List ℕ) Fault
-pairs_at total inner zero bytes = no_tag total
-pairs_at total inner (suc k) [] = no_tag total
-pairs_at total inner (suc k) (b ∷ bytes) =
-    if b == 0x84 then Ok ([], bytes)
-    else (inner (b ∷ bytes) >>= λ x. inner x.1 >>= λ y. pairs_at total inner k y.1 >>= λ ps. Ok ((x.0, y.0) ∷ ps.0, ps.1))
+-- an entry: its key, and then its value
+abbrev pub entry_at : Inner → List ℕ → Result ((Plain × Plain) × List ℕ) (Fault BinKind)
+entry_at inner bytes = inner bytes >>= λ k. inner k.1 >>= λ v. Ok ((k.0, v.0), v.1)
+
+-- elements up to the end; k is at least the number of the bytes
+abbrev pub up_to_end : {A : Type 0} → ℕ → (List ℕ → Result (A × List ℕ) (Fault BinKind)) → ℕ → List ℕ
+    → Result (List A × List ℕ) (Fault BinKind)
+up_to_end total element k bytes = elements_at (λ b. b) 0x84 (no_tag total) element k bytes
+
+-- values, and entries
+abbrev pub items_at : ℕ → Inner → List ℕ → Result (List Plain × List ℕ) (Fault BinKind)
+items_at total inner bytes = up_to_end total inner (length bytes) bytes
+
+abbrev pub pairs_at : ℕ → Inner → List ℕ → Result (List (Plain × Plain) × List ℕ) (Fault BinKind)
+pairs_at total inner bytes = up_to_end total (entry_at inner) (length bytes) bytes
+
+-- what elements or entries make; none where two elements or two keys are equal
+abbrev pub made_at : ℕ → Option Plain → Result Plain (Fault BinKind)
+made_at place made = within place (ok_or made Duplicate)
 
 -- what stands behind the tag of an atom at this place
-unfoldable pub atom_at : ℕ → Tag → List ℕ → Result (Plain × List ℕ) Fault
+unfoldable pub atom_at : ℕ → Tag → List ℕ → Result (Plain × List ℕ) (Fault BinKind)
 atom_at place tag.False bytes = Ok (boolean false, bytes)
 atom_at place tag.True bytes = Ok (boolean true, bytes)
 atom_at place tag.Double bytes = within place (double_at bytes >>= λ s. Ok (double s.0, s.1))
@@ -140,12 +115,16 @@ atom_at place tag.Symbol bytes = within place (text_at bytes >>= λ s. Ok (symbo
 atom_at place t bytes = within place (Err BadTag)
 
 -- what stands behind the tag of a compound at this place, whose values inner reads
-unfoldable pub compound_at : ℕ → ℕ → (List ℕ → Result (Plain × List ℕ) Fault) → Tag → List ℕ → Result (Plain × List ℕ) Fault
+unfoldable pub compound_at : ℕ → ℕ → Inner → Tag → List ℕ → Result (Plain × List ℕ) (Fault BinKind)
 compound_at total place inner tag.Embedded bytes = inner bytes >>= λ x. Ok (embedded x.0, x.1)
-compound_at total place inner tag.Record bytes = inner bytes >>= λ l. items_at total inner (length l.1) l.1 >>= λ fs. Ok (record_of l.0 (plains fs.0), fs.1)
-compound_at total place inner tag.Sequence bytes = items_at total inner (length bytes) bytes >>= λ xs. Ok (sequence (plains xs.0), xs.1)
-compound_at total place inner tag.Set bytes = items_at total inner (length bytes) bytes >>= λ xs. within place (set_from xs.0) >>= λ v. Ok (v, xs.1)
-compound_at total place inner tag.Dictionary bytes = pairs_at total inner (length bytes) bytes >>= λ ps. within place (dictionary_from ps.0) >>= λ v. Ok (v, ps.1)
+compound_at total place inner tag.Record bytes =
+    inner bytes >>= λ l. items_at total inner l.1 >>= λ fs. Ok (record_of l.0 (plains fs.0), fs.1)
+compound_at total place inner tag.Sequence bytes =
+    items_at total inner bytes >>= λ xs. Ok (sequence (plains xs.0), xs.1)
+compound_at total place inner tag.Set bytes =
+    items_at total inner bytes >>= λ xs. made_at place (set_from xs.0) >>= λ v. Ok (v, xs.1)
+compound_at total place inner tag.Dictionary bytes =
+    pairs_at total inner bytes >>= λ ps. made_at place (dictionary_from ps.0) >>= λ v. Ok (v, ps.1)
 compound_at total place inner t bytes = within place (Err BadTag)
 
 -- whether a tag opens a level of nesting
@@ -158,12 +137,12 @@ is_compound tag.Dictionary = true
 is_compound t = false
 
 -- a value behind its tag; deeper reads what a compound holds, where one more level may be opened
-unfoldable pub behind : ℕ → Tag → List ℕ → (Tag → List ℕ → Result (Plain × List ℕ) Fault) → Result (Plain × List ℕ) Fault
+unfoldable pub behind : ℕ → Tag → List ℕ → (Tag → Inner) → Result (Plain × List ℕ) (Fault BinKind)
 behind place t bytes deeper = if is_compound t then deeper t bytes else atom_at place t bytes
 
 -- a value that nests at most d deep, where the bytes are the last of total bytes
-unfoldable pub value_at : ℕ → ℕ → List ℕ → Result (Plain × List ℕ) Fault
-value_at total d [] = no_tag total
+unfoldable pub value_at : ℕ → ℕ → List ℕ → Result (Plain × List ℕ) (Fault BinKind)
+value_at total d [] = Err (no_tag total)
 value_at total zero (b ∷ bytes) =
     let place = total - length (b ∷ bytes) in
     behind place (tag_of b) bytes (λ t rest. within place (Err TooDeep))

@@ -1,44 +1,20 @@
--- What the bytes begin with, and what `read` says of it.
-use Rattle.std.specs.Prelude.{◌≡◌, ℕ, ◌≤◌, List, length, take, Result, Ok, Err}
+-- What bytes begin with, and what stops the reading of a value. The bound on nesting is the project's own.
+use Rattle.std.specs.Prelude.{◌≡◌, ℕ, ◌≤◌, ◌⊎◌, List, length, take, drop}
 use Rattle.pv_value.specs.Plain.{Plain}
 use Rattle.pv_value.specs.Depth.{depth}
+use Rattle.pv_read.specs.Results.{Fault}
 use Rattle.pv_binary.specs.Spells.{Spells}
-use Rattle.pv_binary.specs.Fronts.{Front, Stands}
-use Rattle.pv_binary.specs.declared.TheConstants.{READ_DEPTH}
+use Rattle.pv_binary.specs.Fronts.{Front, truncated, Stands}
 use Rattle.pv_binary.specs.declared.faults.BinKind.{BinKind}
-use Rattle.pv_binary.specs.declared.faults.BinKind.TheVariants.{Truncated}
-use Rattle.pv_binary.specs.declared.faults.BinFault.{BinFault}
-use Rattle.pv_binary.specs.declared.faults.BinFault.TheVariants.{Bad, NoMemory}
 
 -- the first n bytes spell v, which nests no deeper than is read
 abbrev pub BeginsWith : List ℕ → ℕ → Plain → Type 0
-BeginsWith bytes n v = (n ≤ length bytes) × Spells (take n bytes) v × (depth v ≤ READ_DEPTH)
+BeginsWith bytes n v = (n ≤ length bytes) × Spells (take n bytes) v × (depth v ≤ 64)
 
--- unless memory ran out, the answer is this value in this many bytes
-abbrev pub IsFound : Result (Plain × ℕ) BinFault → Plain → ℕ → Type 0
-IsFound (Ok x) v n = (x.0 ≡ v) × (x.1 ≡ n)
-IsFound (Err NoMemory) v n = Unit {0}
-IsFound (Err (Bad kind place)) v n = ⊥
+-- the bytes begin with v, after which more is left; LeadsOver of pv_read says it of values one behind another
+abbrev pub Leads : List ℕ → Plain → List ℕ → Type 0
+Leads bytes v more = (n : ℕ) × BeginsWith bytes n v × (more ≡ drop n bytes)
 
--- a fault comes only where the bytes begin with no value
-abbrev pub IsBad : Result (Plain × ℕ) BinFault → List ℕ → Type 0
-IsBad (Ok x) bytes = Unit {0}
-IsBad (Err NoMemory) bytes = Unit {0}
-IsBad (Err (Bad kind place)) bytes = (n : ℕ) (v : Plain) → BeginsWith bytes n v → ⊥
-
--- what stops the reading of a value at this place: the bytes end within it, or a fault of this kind
-abbrev pub Stops : List ℕ → BinKind → ℕ → Type 0
-Stops bytes Truncated place = (path : List ℕ) × Front bytes path place
-Stops bytes kind place = Stands bytes kind place
-
--- a fault that is named stops the reading at the place that is named
-abbrev pub IsExact : Result (Plain × ℕ) BinFault → List ℕ → Type 0
-IsExact (Ok x) bytes = Unit {0}
-IsExact (Err NoMemory) bytes = Unit {0}
-IsExact (Err (Bad kind place)) bytes = Stops bytes kind place
-
--- unless memory ran out, the answer is this fault at this place
-abbrev pub IsFault : Result (Plain × ℕ) BinFault → BinKind → ℕ → Type 0
-IsFault (Ok x) kind place = ⊥
-IsFault (Err NoMemory) kind place = Unit {0}
-IsFault (Err (Bad k p)) kind place = (k ≡ kind) × (p ≡ place)
+-- what stops the reading of a value: the bytes end within it, or a fault stands
+abbrev pub Stops : List ℕ → Fault BinKind → Type 0
+Stops bytes f = ((path : List ℕ) × Front bytes path × (f ≡ truncated bytes path)) ⊎ Stands bytes f

@@ -1,7 +1,8 @@
 -- What the first byte of a value announces: Preserves binary specification, the table of tags.
 use Rattle.std.specs.Prelude.{ℕ, ◌==◌, if◌then◌else◌}
-use Rattle.pv_binary.specs.declared.tags.Tag.{Tag}
-use Rattle.pv_binary.specs.declared.tags.Tag.TheVariants.{False, True, Embedded, Double, Integer, String, ByteString, Symbol, Record, Sequence, Set, Dictionary, Other}
+use Rattle.pv_binary.specs.declared.tag.Tag.{Tag}
+use Rattle.pv_binary.specs.declared.tag.Tag.TheVariants.{False, True, Embedded, Double, Integer, String, ByteString}
+use Rattle.pv_binary.specs.declared.tag.Tag.TheVariants.{Symbol, Record, Sequence, Set, Dictionary, Other}
 
 abbrev pub tag_of : ℕ → Tag
 tag_of b =

@@ -2,7 +2,9 @@
 -- Preserves binary specification; a set's elements and a dictionary's entries may stand in any order there.
 use Rattle.std.specs.Prelude.{ℕ, true, false, List, [], ◌∷◌, ◌++◌}
 use Rattle.std.specs.Int.{w64, to_be_bytes}
-use Rattle.pv_value.specs.Plain.{Plain, boolean, double, integer, string, byte_string, symbol, record_of, sequence, set_of, dictionary, embedded, Plains, no_more, then_more, PlainPairs, no_pairs, then_pair}
+use Rattle.pv_value.specs.Plain.{Plain, boolean, double, integer, string, byte_string, symbol, record_of, sequence}
+use Rattle.pv_value.specs.Plain.{set_of, dictionary, embedded, Plains, no_more, then_more, PlainPairs, no_pairs}
+use Rattle.pv_value.specs.Plain.{then_pair}
 use Rattle.pv_binary.specs.Numbers.{counted, int_bytes}
 
 abbrev mutual

@@ -1,11 +1,14 @@
 //! Reading atoms. Nothing here takes memory.
 ghost use Rattle.std.specs.Prelude.{◌≡◌, ◌≤◌, ◌<◌, ◌*◌, ◌^◌, length, IfOk};
-ghost use Rattle.pv_binary.specs.Reading.{sign, pad, is_minimal, int_value, int_at, varint_at, split_at, counted_at, text_at, double_at};
-ghost use Rattle.pv_binary.specs.Results.{Answers};
 ghost use Rattle.std.specs.Int.{w64, from_be_bytes};
+ghost use Rattle.pv_read.specs.Answers.{Answers};
+ghost use Rattle.pv_binary.specs.Reading.{sign, pad, is_minimal, int_value, int_at, varint_at};
+ghost use Rattle.pv_binary.specs.Reading.{split_at, counted_at, text_at, double_at};
 
 use crate::faults::BinKind;
+use crate::tags::DOUBLE_BYTES;
 use crate::writing::repeats_sign;
+use simdutf8::compat::from_utf8;
 
 /// The double behind its tag: the 8, and the eight bytes of its bits.
 #[tactic(auto, unfolding(crate::specs::Reading::double_at))]
@@ -15,7 +18,7 @@ pub(crate) fn read_double(bytes: &[u8]) -> Result<(u64, &[u8]), BinKind>
     let Some((count, rest)) = bytes.split_first() else {
         return Err(BinKind::Truncated);
     };
-    if *count != 8 {
+    if *count != DOUBLE_BYTES {
         return Err(BinKind::BadTag);
     }
     let (bits, rest) = split(rest, 8)?;
@@ -28,7 +31,7 @@ pub(crate) fn read_text(bytes: &[u8]) -> Result<(&str, &[u8]), BinKind>
     ensures { Answers (λ x. (x.0.now, x.1.now)) result (text_at bytes.now) }
 {
     let (text, rest) = read_counted(bytes)?;
-    let Ok(text) = std::str::from_utf8(text) else {
+    let Ok(text) = from_utf8(text) else {
         return Err(BinKind::BadUtf8);
     };
     Ok((text, rest))

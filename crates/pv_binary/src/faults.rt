@@ -1,25 +1,23 @@
 //! Why bytes give no value.
+ghost use Rattle.std.specs.Prelude.{◌≡◌};
+ghost use Rattle.pv_binary.specs.Kinds.{kind_number};
 
-use pv_value::NoMemory;
-use std::alloc::{AllocError, AllocFailed};
-use thiserror::Error;
+use pv_read::ReadFault;
 
 /// Why bytes give no value.
-#[derive(Debug, Drop, Error)]
-pub enum BinFault {
-    /// A fault, and the offset of the tag of the innermost value in which it lies.
-    #[error("{0:?} at {1}")]
-    Bad(BinKind, usize),
-    #[error("out of memory")]
-    NoMemory,
-}
+///
+/// The place of a fault is the offset of the tag of the innermost value in which it lies. For
+/// `BadTag` that is the bad byte itself, or the 87 behind which another byte than 08 stands. For
+/// `Truncated` it is the tag of the atom that is cut off, or, where a tag is due, the end of the
+/// bytes.
+pub type BinFault = ReadFault<BinKind>;
 
 /// The faults of the binary form; the numbers are those that an error packet shows.
 #[derive(Clone, Copy, Debug, PartialEq, Eq)]
 pub enum BinKind {
     /// The bytes end before the value does.
     Truncated = 1,
-    /// A byte that begins no value stands where a value is due.
+    /// A byte that begins no value stands where one is due, or another byte than 08 behind an 87.
     BadTag = 2,
     /// A count that isn't in its shortest form, or is 2^64 or more.
     LongVarint = 3,
@@ -35,35 +33,11 @@ pub enum BinKind {
     TooDeep = 8,
 }
 
-impl From<NoMemory> for BinFault {
-    ghost use Rattle.std.specs.Prelude.{◌≡◌};
-    ghost use Rattle.pv_binary.specs.declared.faults.BinFault.TheVariants.{NoMemory as no_memory};
-
-    ghost from_gives = { λ _ e. e ≡ no_memory };
-
-    fn from(_: NoMemory) -> BinFault {
-        BinFault::NoMemory
-    }
-}
-
-impl From<AllocError> for BinFault {
-    ghost use Rattle.std.specs.Prelude.{◌≡◌};
-    ghost use Rattle.pv_binary.specs.declared.faults.BinFault.TheVariants.{NoMemory as no_memory};
-
-    ghost from_gives = { λ _ e. e ≡ no_memory };
-
-    fn from(_: AllocError) -> BinFault {
-        BinFault::NoMemory
-    }
-}
-
-impl<T: Drop> From<AllocFailed<T>> for BinFault {
-    ghost use Rattle.std.specs.Prelude.{◌≡◌};
-    ghost use Rattle.pv_binary.specs.declared.faults.BinFault.TheVariants.{NoMemory as no_memory};
-
-    ghost from_gives = { λ _ e. e ≡ no_memory };
-
-    fn from(_: AllocFailed<T>) -> BinFault {
-        BinFault::NoMemory
+impl BinKind {
+    /// The number that an error packet shows.
+    pub fn number(self) -> u8
+        ensures { result ≡ kind_number self }
+    {
+        self as u8
     }
 }

@@ -2,12 +2,11 @@
 #![tactic(auto)]
 
 mod atoms;
-#[cfg(test)]
-mod fault_tests;
 mod faults;
 mod laws;
 mod reading;
-mod tags;
+mod tag;
+pub mod tags;
 #[cfg(test)]
 mod tests;
 mod writing;
@@ -15,7 +14,7 @@ mod writing;
 pub use faults::{BinFault, BinKind};
 pub use laws::{one_of_three, spellings_are_unique};
 pub use reading::read;
-pub use writing::write;
+pub use writing::{write, write_into};
 
 /// How deep a value that is read may nest.
 pub const READ_DEPTH: u32 = 64;

@@ -1,19 +1,23 @@
 //! Reading values.
-ghost use Rattle.std.specs.Prelude.{◌≡◌, ◌≤◌, ℕ, List, take, length, map, IfOk};
+ghost use Rattle.std.specs.Prelude.{◌≡◌, ℕ, List, length, map, IfOk, Option};
 ghost use Rattle.pv_value.specs.Plain.{Plain};
+ghost use Rattle.pv_value.specs.Sets.{IsMade};
 ghost use Rattle.pv_value.specs.View.{key_and_value};
-ghost use Rattle.pv_binary.specs.Reading.{within, no_tag, atom_at, set_from, dictionary_from, items_at, pairs_at, compound_at, value_at};
-ghost use Rattle.pv_binary.specs.Results.{Gives, placed};
-ghost use Rattle.pv_binary.specs.Reads.{BeginsWith, IsFound, IsBad, IsExact, IsFault};
-ghost use Rattle.pv_binary.specs.Fronts.{Front, Stands};
+ghost use Rattle.pv_read.specs.Answers.{Gives, IsAnswer, IsExact, IsFault};
+ghost use Rattle.pv_read.specs.Results.{Fault, within};
+ghost use Rattle.pv_binary.specs.Fronts.{Front, truncated, Stands};
+ghost use Rattle.pv_binary.specs.Reading.{no_tag, atom_at, made_at, items_at, pairs_at};
+ghost use Rattle.pv_binary.specs.Reading.{compound_at, value_at};
+ghost use Rattle.pv_binary.specs.Reads.{BeginsWith, Stops};
 ghost use Rattle.pv_binary.specs.declared.faults.BinKind.{BinKind};
-ghost use Rattle.pv_binary.specs.declared.faults.BinKind.TheVariants.{Truncated};
 
 use crate::READ_DEPTH;
 use crate::atoms::{read_counted, read_double, read_int, read_text};
 use crate::faults::{BinFault, BinKind};
-use crate::tags::{END, Tag};
-use pv_value::{Blob, Items, Pairs, SetFault, Text, Value};
+use crate::tag::Tag;
+use crate::tags::END;
+use pv_read::at;
+use pv_value::{Blob, Entry, Items, SetFault, Text, Value};
 use std::alloc::Global;
 
 /// The value that the bytes begin with, and how many bytes spell it. Bytes may follow.
@@ -21,22 +25,25 @@ pub fn read(alloc: Global, bytes: &[u8]) -> Result<(Value, usize), BinFault>
     // What is read is spelled so.
     ensures found { IfOk result (λ x. BeginsWith bytes.now x.1 x.0) }
     // What is spelled so is read, unless memory runs out.
-    ensures only { (n : ℕ) (v : Plain) → BeginsWith bytes.now n v → IsFound result v n }
+    ensures only { (n : ℕ) (v : Plain) → BeginsWith bytes.now n v
+        → IsAnswer {Y = Plain × ℕ} (λ x. (x.0, x.1)) result (v, n) }
     // A fault comes only where nothing is spelled so.
-    ensures bad { IsBad result bytes.now }
+    ensures bad { IsExact result (λ f. (n : ℕ) (v : Plain) → BeginsWith bytes.now n v → ⊥) }
 
-    // A fault that is answered stands there: the bytes end within a value, or what follows can be no part of one.
-    ensures exact { IsExact result bytes.now }
+    // A fault that is answered stands there: the bytes end within a value, or what follows can be
+    // no part of one.
+    ensures exact { IsExact result (Stops bytes.now) }
     // A fault that stands is answered, unless memory runs out.
-    ensures only_fault { (kind : BinKind) (place : ℕ) → Stands bytes.now kind place → IsFault result kind place }
-    ensures only_front { (path : List ℕ) (place : ℕ) → Front bytes.now path place → IsFault result Truncated place }
+    ensures only_fault { (f : Fault BinKind) → Stands bytes.now f → IsFault result f }
+    ensures only_front { (path : List ℕ) → Front bytes.now path
+        → IsFault result (truncated bytes.now path) }
 {
     let (value, rest) = read_value(alloc, bytes, bytes.len(), READ_DEPTH)?;
     Ok((value, bytes.len() - rest.len()))
 }
 
-/// The value that the bytes begin with, which nests at most `budget` deep, and the bytes after it. The bytes
-/// are the last of `total`, which tells the place of a fault.
+/// The value that the bytes begin with, which nests at most `budget` deep, and the bytes after it.
+/// The bytes are the last of `total`, which tells the place of a fault.
 #[cycle(read)]
 #[tactic(auto, unfolding(crate::specs::Reading::value_at, crate::specs::Reading::behind))]
 fn read_value(
@@ -98,16 +105,6 @@ fn read_atom(
     }
 }
 
-/// A fault of the value whose tag stands at this place.
-fn at<T>(place: usize, read: Result<T, BinKind>) -> Result<T, BinFault>
-    ensures { result ≡ placed place read }
-{
-    match read {
-        Ok(x) => Ok(x),
-        Err(kind) => Err(BinFault::Bad(kind, place)),
-    }
-}
-
 /// What stands behind the tag of a compound, which holds values that nest at most `budget` deep.
 #[cycle(read)]
 #[tactic(auto, unfolding(crate::specs::Reading::compound_at))]
@@ -119,7 +116,8 @@ fn read_compound(
     place: usize,
     budget: u32,
 ) -> Result<(Value, &[u8]), BinFault>
-    ensures { Gives (λ x. (x.0, x.1.now)) result (compound_at total place (value_at total budget) tag bytes.now) }
+    ensures { Gives (λ x. (x.0, x.1.now)) result
+        (compound_at total place (value_at total budget) tag bytes.now) }
 {
     match tag {
         Tag::Embedded => {
@@ -133,15 +131,15 @@ fn read_compound(
         }
         Tag::Sequence => {
             let (items, rest) = read_items(alloc, bytes, total, budget)?;
-            Ok((Value::sequence(items), rest))
+            Ok((Value::sequence(Items::from_vec(alloc, items)?), rest))
         }
         Tag::Set => {
             let (items, rest) = read_items(alloc, bytes, total, budget)?;
-            Ok((set_of(alloc, items, place)?, rest))
+            Ok((made(place, Value::set(alloc, items))?, rest))
         }
         Tag::Dictionary => {
-            let (pairs, rest) = read_pairs(alloc, bytes, total, budget)?;
-            Ok((dictionary_of(alloc, pairs, place)?, rest))
+            let (entries, rest) = read_pairs(alloc, bytes, total, budget)?;
+            Ok((made(place, Value::dict(alloc, entries))?, rest))
         }
         _ => Err(BinFault::Bad(BinKind::BadTag, place)),
     }
@@ -154,10 +152,11 @@ fn read_items(
     bytes: &[u8],
     total: usize,
     budget: u32,
-) -> Result<(Items, &[u8]), BinFault>
-    ensures { Gives (λ x. (x.0, x.1.now)) result (items_at total (value_at total budget) (length bytes.now) bytes.now) }
+) -> Result<(Vec<Value>, &[u8]), BinFault>
+    ensures { Gives (λ x. (x.0.items, x.1.now)) result
+        (items_at total (value_at total budget) bytes.now) }
 {
-    let mut items = Items::new(alloc);
+    let mut items = Vec::new(alloc);
     let mut rest = bytes;
     for _ in 0..bytes.len() {
         let Some((byte, after)) = rest.split_first() else {
@@ -180,43 +179,33 @@ fn read_pairs(
     bytes: &[u8],
     total: usize,
     budget: u32,
-) -> Result<(Pairs, &[u8]), BinFault>
-    ensures { Gives (λ x. (x.0, x.1.now)) result (pairs_at total (value_at total budget) (length bytes.now) bytes.now) }
+) -> Result<(Vec<Entry>, &[u8]), BinFault>
+    ensures { Gives (λ x. (map key_and_value x.0.items, x.1.now)) result
+        (pairs_at total (value_at total budget) bytes.now) }
 {
-    let mut pairs = Pairs::new(alloc);
+    let mut entries = Vec::new(alloc);
     let mut rest = bytes;
     for _ in 0..bytes.len() {
         let Some((byte, after)) = rest.split_first() else {
             return Err(BinFault::Bad(BinKind::Truncated, total));
         };
         if *byte == END {
-            return Ok((pairs, after));
+            return Ok((entries, after));
         }
         let (key, after) = read_value(alloc, rest, total, budget)?;
         let (value, after) = read_value(alloc, after, total, budget)?;
-        pairs.push(key, value)?;
+        entries.push(Entry { key, value })?;
         rest = after;
     }
     Err(BinFault::Bad(BinKind::Truncated, total))
 }
 
-/// The set of these elements, whose tag stands at this place.
-fn set_of(alloc: Global, items: Items, place: usize) -> Result<Value, BinFault>
-    ensures { Gives (λ v. v) result (within place (set_from items)) }
+/// What the elements or entries of a compound make, whose tag stands at this place.
+fn made(place: usize, made: Result<Value, SetFault>) -> Result<Value, BinFault>
+    ensures { (o : Option Plain) → IsMade made o → Gives (λ v. v) result (made_at place o) }
 {
-    match Value::set(alloc, items) {
-        Ok(set) => Ok(set),
-        Err(SetFault::NoMemory) => Err(BinFault::NoMemory),
-        Err(SetFault::Duplicate(_)) => Err(BinFault::Bad(BinKind::Duplicate, place)),
-    }
-}
-
-/// The dictionary of these entries, whose tag stands at this place.
-fn dictionary_of(alloc: Global, pairs: Pairs, place: usize) -> Result<Value, BinFault>
-    ensures { Gives (λ v. v) result (within place (dictionary_from pairs)) }
-{
-    match Value::dict(alloc, pairs) {
-        Ok(dictionary) => Ok(dictionary),
+    match made {
+        Ok(value) => Ok(value),
         Err(SetFault::NoMemory) => Err(BinFault::NoMemory),
         Err(SetFault::Duplicate(_)) => Err(BinFault::Bad(BinKind::Duplicate, place)),
     }

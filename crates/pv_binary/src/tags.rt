@@ -1,57 +1,30 @@
-//! What the first byte of a value announces.
-ghost use Rattle.std.specs.Prelude.{◌≡◌};
-ghost use Rattle.pv_binary.specs.Tags.{tag_of};
-ghost use Rattle.pv_binary.specs.Reading.{is_compound};
+//! The bytes that begin values, and the one that ends a compound: Preserves binary specification,
+//! the table of tags.
 
-/// The byte that ends a compound.
+pub const FALSE: u8 = 0x80;
+
+pub const TRUE: u8 = 0x81;
+/// It ends a record, a sequence, a set or a dictionary.
 pub const END: u8 = 0x84;
 
-/// What the first byte of a value announces.
-#[derive(Clone, Copy)]
-pub enum Tag {
-    False,
-    True,
-    Embedded,
-    Double,
-    Integer,
-    String,
-    ByteString,
-    Symbol,
-    Record,
-    Sequence,
-    Set,
-    Dictionary,
-    Other,
-}
+pub const EMBEDDED: u8 = 0x86;
+/// A double; the number of its bytes, `DOUBLE_BYTES`, stands behind it.
+pub const DOUBLE: u8 = 0x87;
 
-impl Tag {
-    pub fn of(byte: u8) -> Tag
-        ensures { result ≡ tag_of byte }
-    {
-        match byte {
-            0x80 => Tag::False,
-            0x81 => Tag::True,
-            0x86 => Tag::Embedded,
-            0x87 => Tag::Double,
-            0xb0 => Tag::Integer,
-            0xb1 => Tag::String,
-            0xb2 => Tag::ByteString,
-            0xb3 => Tag::Symbol,
-            0xb4 => Tag::Record,
-            0xb5 => Tag::Sequence,
-            0xb6 => Tag::Set,
-            0xb7 => Tag::Dictionary,
-            _ => Tag::Other,
-        }
-    }
+pub const DOUBLE_BYTES: u8 = 8;
 
-    /// Whether it opens a level of nesting.
-    pub fn is_compound(self) -> bool
-        ensures { result ≡ is_compound self }
-    {
-        match self {
-            Tag::Embedded | Tag::Record | Tag::Sequence | Tag::Set | Tag::Dictionary => true,
-            _ => false,
-        }
-    }
-}
+pub const INTEGER: u8 = 0xb0;
+
+pub const STRING: u8 = 0xb1;
+
+pub const BYTE_STRING: u8 = 0xb2;
+
+pub const SYMBOL: u8 = 0xb3;
+
+pub const RECORD: u8 = 0xb4;
+
+pub const SEQUENCE: u8 = 0xb5;
+
+pub const SET: u8 = 0xb6;
+
+pub const DICTIONARY: u8 = 0xb7;

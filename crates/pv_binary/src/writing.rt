@@ -1,15 +1,22 @@
 //! Writing values.
 ghost use Rattle.std.specs.Prelude.{◌≡◌, ◌++◌, ◌∷◌, [], map, IfOk, OnOk};
 ghost use Rattle.std.specs.Int.{w64, to_be_bytes};
+ghost use Rattle.std.specs.Io.{StartsWith};
 ghost use Rattle.pv_value.specs.Plain.{plains, pairs};
 ghost use Rattle.pv_value.specs.View.{key_and_value};
 ghost use Rattle.pv_binary.specs.Numbers.{varint, repeats_sign, minimal, int_bytes, counted};
 ghost use Rattle.pv_binary.specs.Written.{written, written_all, written_pairs};
 ghost use Rattle.pv_binary.specs.Spells.{Spells};
 
-use crate::tags::END;
+use crate::tags;
 use pv_value::{Blob, Entry, NoMemory, Node, Value};
 use std::alloc::Global;
+
+/// How many bytes spell a double.
+const DOUBLE_SIZE: usize = 10;
+
+/// The most bytes of a tag and a count.
+const MOST_BEFORE_BYTES: usize = 11;
 
 /// The written spelling of a value: sets and dictionaries in ascending order.
 pub fn write(alloc: Global, v: &Value) -> Result<Blob, NoMemory>
@@ -18,82 +25,92 @@ pub fn write(alloc: Global, v: &Value) -> Result<Blob, NoMemory>
 {
     let _ = &v.node;
     let mut out = Vec::new(alloc);
-    push_value(&mut out, v)?;
-    Ok(Blob::from_vec(out))
+    write_into(&mut out, v)?;
+    let spelling = Blob::from_vec(out)?;
+    Ok(spelling)
 }
 
-#[cycle(push)]
-fn push_value(out: &mut Vec<u8>, v: &Value) -> Result<(), NoMemory>
-    ensures { OnOk result (out.new.items ≡ out.old.items ++ written v.now) }
+/// Appends the written spelling of a value. Where memory runs out, a part of it may stand there.
+#[cycle(write)]
+pub fn write_into(out: &mut Vec<u8>, v: &Value) -> Result<(), NoMemory>
+    ensures written { OnOk result (out.new.items ≡ out.old.items ++ written v.now) }
+    ensures front { StartsWith out.new.items out.old.items }
 {
     match &v.node {
-        Node::Bool(false) => push_byte(out, 0x80),
-        Node::Bool(true) => push_byte(out, 0x81),
+        Node::Bool(false) => push_byte(out, tags::FALSE),
+        Node::Bool(true) => push_byte(out, tags::TRUE),
         Node::Double(bits) => push_double(out, *bits),
         Node::Int(n) => push_int(out, *n),
-        Node::Str(text) => push_counted(out, 0xb1, text.as_bytes()),
-        Node::Bytes(bytes) => push_counted(out, 0xb2, bytes.as_slice()),
-        Node::Sym(text) => push_counted(out, 0xb3, text.as_bytes()),
+        Node::Str(text) => push_counted(out, tags::STRING, text.as_bytes()),
+        Node::Bytes(bytes) => push_counted(out, tags::BYTE_STRING, bytes.as_slice()),
+        Node::Sym(text) => push_counted(out, tags::SYMBOL, text.as_bytes()),
         Node::Rec(rec) => {
-            push_byte(out, 0xb4)?;
-            push_value(out, &rec.label)?;
+            push_byte(out, tags::RECORD)?;
+            write_into(out, &rec.label)?;
             push_all(out, rec.fields.as_slice())
         }
         Node::Seq(items) => {
-            push_byte(out, 0xb5)?;
+            push_byte(out, tags::SEQUENCE)?;
             push_all(out, items.as_slice())
         }
         Node::Set(set) => {
-            push_byte(out, 0xb6)?;
+            push_byte(out, tags::SET)?;
             push_all(out, set.as_slice())
         }
         Node::Dict(entries) => {
-            push_byte(out, 0xb7)?;
+            push_byte(out, tags::DICTIONARY)?;
             push_entries(out, entries.as_slice())
         }
         Node::Emb(inside) => {
-            push_byte(out, 0x86)?;
-            push_value(out, inside)
+            push_byte(out, tags::EMBEDDED)?;
+            write_into(out, inside)
         }
     }
 }
 
 /// Values, and the end.
-#[cycle(push)]
+#[cycle(write)]
 fn push_all(out: &mut Vec<u8>, items: &[Value]) -> Result<(), NoMemory>
-    ensures { OnOk result (out.new.items ≡ out.old.items ++ (written_all (plains items.now) ++ 0x84 ∷ [])) }
+    ensures all { OnOk result
+        (out.new.items ≡ out.old.items ++ (written_all (plains items.now) ++ 0x84 ∷ [])) }
+    ensures front { StartsWith out.new.items out.old.items }
 {
     for x in items {
-        push_value(out, x)?;
+        write_into(out, x)?;
     }
-    push_byte(out, END)
+    push_byte(out, tags::END)
 }
 
 /// Keys and values by turns, and the end.
-#[cycle(push)]
+#[cycle(write)]
 fn push_entries(out: &mut Vec<u8>, entries: &[Entry]) -> Result<(), NoMemory>
-    ensures { OnOk result (out.new.items ≡ out.old.items ++ (written_pairs (pairs (map key_and_value entries.now)) ++ 0x84 ∷ [])) }
+    ensures all { OnOk result (out.new.items ≡
+        out.old.items ++ (written_pairs (pairs (map key_and_value entries.now)) ++ 0x84 ∷ [])) }
+    ensures front { StartsWith out.new.items out.old.items }
 {
     for e in entries {
-        push_value(out, &e.key)?;
-        push_value(out, &e.value)?;
+        write_into(out, &e.key)?;
+        write_into(out, &e.value)?;
     }
-    push_byte(out, END)
+    push_byte(out, tags::END)
 }
 
 fn push_double(out: &mut Vec<u8>, bits: u64) -> Result<(), NoMemory>
-    ensures { OnOk result (out.new.items ≡ out.old.items ++ 0x87 ∷ 8 ∷ to_be_bytes w64 bits) }
+    ensures all { OnOk result (out.new.items ≡ out.old.items ++ 0x87 ∷ 8 ∷ to_be_bytes w64 bits) }
+    ensures front { StartsWith out.new.items out.old.items }
 {
-    push_byte(out, 0x87)?;
-    push_byte(out, 8)?;
+    out.reserve(DOUBLE_SIZE)?;
+    push_byte(out, tags::DOUBLE)?;
+    push_byte(out, tags::DOUBLE_BYTES)?;
     push_bytes(out, &bits.to_be_bytes())
 }
 
 fn push_int(out: &mut Vec<u8>, n: i128) -> Result<(), NoMemory>
-    ensures { OnOk result (out.new.items ≡ out.old.items ++ 0xb0 ∷ counted (int_bytes n)) }
+    ensures all { OnOk result (out.new.items ≡ out.old.items ++ 0xb0 ∷ counted (int_bytes n)) }
+    ensures front { StartsWith out.new.items out.old.items }
 {
     let bytes = n.to_be_bytes();
-    push_counted(out, 0xb0, without_sign_bytes(&bytes))
+    push_counted(out, tags::INTEGER, without_sign_bytes(&bytes))
 }
 
 /// Two's complement without bytes that only repeat the sign.
@@ -122,8 +139,10 @@ pub(crate) fn repeats_sign(b: u8, next: u8) -> bool
 
 /// A tag, a count, and as many bytes.
 fn push_counted(out: &mut Vec<u8>, tag: u8, bytes: &[u8]) -> Result<(), NoMemory>
-    ensures { OnOk result (out.new.items ≡ out.old.items ++ tag ∷ counted bytes.now) }
+    ensures all { OnOk result (out.new.items ≡ out.old.items ++ tag ∷ counted bytes.now) }
+    ensures front { StartsWith out.new.items out.old.items }
 {
+    out.reserve(bytes.len().saturating_add(MOST_BEFORE_BYTES))?;
     push_byte(out, tag)?;
     push_varint(out, bytes.len() as u64)?;
     push_bytes(out, bytes)
@@ -131,7 +150,8 @@ fn push_counted(out: &mut Vec<u8>, tag: u8, bytes: &[u8]) -> Result<(), NoMemory
 
 /// A number in bytes of seven bits, the lowest first.
 fn push_varint(out: &mut Vec<u8>, n: u64) -> Result<(), NoMemory>
-    ensures { OnOk result (out.new.items ≡ out.old.items ++ varint n) }
+    ensures all { OnOk result (out.new.items ≡ out.old.items ++ varint n) }
+    ensures front { StartsWith out.new.items out.old.items }
 {
     let mut rest = n;
     while rest >= 128 {
@@ -142,14 +162,16 @@ fn push_varint(out: &mut Vec<u8>, n: u64) -> Result<(), NoMemory>
 }
 
 fn push_bytes(out: &mut Vec<u8>, bytes: &[u8]) -> Result<(), NoMemory>
-    ensures { OnOk result (out.new.items ≡ out.old.items ++ bytes.now) }
+    ensures all { OnOk result (out.new.items ≡ out.old.items ++ bytes.now) }
+    ensures front { StartsWith out.new.items out.old.items }
 {
     out.extend_from_slice(bytes)?;
     Ok(())
 }
 
 fn push_byte(out: &mut Vec<u8>, byte: u8) -> Result<(), NoMemory>
-    ensures { OnOk result (out.new.items ≡ out.old.items ++ byte ∷ []) }
+    ensures all { OnOk result (out.new.items ≡ out.old.items ++ byte ∷ []) }
+    ensures front { StartsWith out.new.items out.old.items }
 {
     out.push(byte)?;
     Ok(())

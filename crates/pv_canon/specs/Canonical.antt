@@ -6,7 +6,9 @@ use Rattle.std.specs.declared.cmp.Ordering.{Ordering}
 use Rattle.std.specs.Ordering.{is_lt, then_cmp, on, nat_cmp}
 use Rattle.std.specs.Cmp.Lexicographic.{slice_cmp}
 use Rattle.std.specs.List.{concat}
-use Rattle.pv_value.specs.Plain.{Plain, boolean, double, integer, string, byte_string, symbol, record_of, sequence, set_of, dictionary, embedded, Plains, no_more, then_more, PlainPairs, no_pairs, then_pair}
+use Rattle.pv_value.specs.Plain.{Plain, boolean, double, integer, string, byte_string, symbol, record_of, sequence}
+use Rattle.pv_value.specs.Plain.{set_of, dictionary, embedded, Plains, no_more, then_more, PlainPairs, no_pairs}
+use Rattle.pv_value.specs.Plain.{then_pair}
 use Rattle.pv_binary.specs.Written.{written}
 
 -- one more element, in front of the first that does not come before it
@@ -23,9 +25,9 @@ sorted_by order (x ∷ xs) = insert_by order x (sorted_by order xs)
 abbrev pub byte_order : List ℕ → List ℕ → Ordering
 byte_order = slice_cmp nat_cmp
 
--- entries by their keys; two with equal keys, which no dictionary has, by their values
-abbrev pub entry_order : List ℕ × List ℕ → List ℕ × List ℕ → Ordering
-entry_order = then_cmp (on (λ e. e.0) byte_order) (on (λ e. e.1) byte_order)
+-- entries by the forms of their keys; two with equal keys, which no dictionary has, by the forms of their values
+abbrev pub form_order : List ℕ × List ℕ → List ℕ × List ℕ → Ordering
+form_order = then_cmp (on (λ e. e.0) byte_order) (on (λ e. e.1) byte_order)
 
 -- a key, and then its value
 abbrev pub joined : List ℕ × List ℕ → List ℕ
@@ -42,7 +44,7 @@ abbrev mutual
   canonical (record_of l fs) = 0xb4 ∷ (canonical l ++ (concat (forms fs) ++ 0x84 ∷ []))
   canonical (sequence xs) = 0xb5 ∷ (concat (forms xs) ++ 0x84 ∷ [])
   canonical (set_of xs) = 0xb6 ∷ (concat (sorted_by byte_order (forms xs)) ++ 0x84 ∷ [])
-  canonical (dictionary ps) = 0xb7 ∷ (concat (map joined (sorted_by entry_order (entry_forms ps))) ++ 0x84 ∷ [])
+  canonical (dictionary ps) = 0xb7 ∷ (concat (map joined (sorted_by form_order (entry_forms ps))) ++ 0x84 ∷ [])
   canonical (embedded x) = 0x86 ∷ canonical x
 
   -- the canonical form of each value

@@ -1,5 +1,6 @@
 -- What the crate of hexadecimal decodes, once white space is gone, is what the text stands for.
-use Rattle.std.proofs.Common.{◌≡◌, ℕ, ◌+◌, ◌*◌, ◌%◌, Bool, true, false, cond, List, [], ◌∷◌, length, inl, inr, Option, Some, None, Result, Ok, Err, refl, sym, ap, ◌∙◌, arith}
+use Rattle.std.proofs.Common.{◌≡◌, ℕ, ◌+◌, ◌*◌, ◌%◌, Bool, true, false, cond, List, [], ◌∷◌, length, inl, inr, Option}
+use Rattle.std.proofs.Common.{Some, None, Result, Ok, Err, refl, sym, ap, ◌∙◌, arith}
 use Rattle.std.specs.Prelude.{option_map, is_some}
 use Rattle.std.specs.Option.{option_and_then}
 use Rattle.std.specs.Result.{result_ok}
@@ -14,11 +15,17 @@ use Rattle.pv_lex.specs.Unspaced.{without_spaces}
 -- the bytes of digits in pairs, of a text that has no white space
 abbrev pairs_in : Option ℕ → List ℕ → Option (List ℕ)
 pairs_in high [] = cond (is_some high) None (Some [])
-pairs_in high (b ∷ bs) = option_and_then (λ d. elim high [ None ↦ pairs_in (Some d) bs | Some h ↦ option_map (λ s. (16 * h + d) ∷ s) (pairs_in None bs) ]) (hex_digit b)
+pairs_in high (b ∷ bs) =
+    option_and_then (λ d. elim high [
+      | None ↦ pairs_in (Some d) bs
+      | Some h ↦ option_map (λ s. (16 * h + d) ∷ s)
+          (pairs_in None bs)
+    ]) (hex_digit b)
 
 -- ---- white space
 
-unspaced_none : (p : Bool) (b : ℕ) (w : List ℕ) (o : Option (List ℕ)) (f : ℕ → Option (List ℕ)) → o ≡ pairs_in None w → ((d : ℕ) → f d ≡ pairs_in (Some d) w)
+unspaced_none : (p : Bool) (b : ℕ) (w : List ℕ) (o : Option (List ℕ)) (f : ℕ → Option (List ℕ)) → o ≡ pairs_in None w
+    → ((d : ℕ) → f d ≡ pairs_in (Some d) w)
     → cond p o (option_and_then f (hex_digit b)) ≡ pairs_in None (cond p w (b ∷ w))
 unspaced_none true b w o f g h = g
 unspaced_none false b w o f g h = by (hex_digit b)
@@ -27,15 +34,22 @@ unspaced_none false b w o f g h = by (hex_digit b)
     by None = refl
     by (Some d) = h d
 
-unspaced_some : (p : Bool) (high b : ℕ) (w : List ℕ) (o : Option (List ℕ)) (q : Option (List ℕ)) → o ≡ pairs_in (Some high) w → q ≡ pairs_in None w
-    → cond p o (option_and_then (λ d. option_map (λ s. (16 * high + d) ∷ s) q) (hex_digit b)) ≡ pairs_in (Some high) (cond p w (b ∷ w))
+unspaced_some : (p : Bool) (high b : ℕ) (w : List ℕ) (o : Option (List ℕ)) (q : Option (List ℕ)) → o
+    ≡ pairs_in (Some high) w → q ≡ pairs_in None w
+    → cond p o (option_and_then (λ d. option_map (λ s. (16 * high + d) ∷ s) q) (hex_digit b))
+    ≡ pairs_in (Some high) (cond p w (b ∷ w))
 unspaced_some true high b w o q g h = g
-unspaced_some false high b w o q g h = ap (λ (r : Option (List ℕ)). option_and_then (λ d. option_map (λ s. (16 * high + d) ∷ s) r) (hex_digit b)) h
+unspaced_some false high b w o q g h =
+    ap (λ (r : Option (List ℕ)). option_and_then (λ d. option_map (λ s. (16 * high + d) ∷ s) r) (hex_digit b)) h
 
 unspaced : (high : Option ℕ) (s : List ℕ) → hex_in high s ≡ pairs_in high (without_spaces s)
 unspaced high [] = refl
-unspaced None (b ∷ bs) = unspaced_none (is_space b) b (without_spaces bs) (hex_in None bs) (λ d. hex_in (Some d) bs) (unspaced None bs) (λ d. unspaced (Some d) bs)
-unspaced (Some high) (b ∷ bs) = unspaced_some (is_space b) high b (without_spaces bs) (hex_in (Some high) bs) (hex_in None bs) (unspaced (Some high) bs) (unspaced None bs)
+unspaced None (b ∷ bs) =
+    unspaced_none (is_space b) b (without_spaces bs) (hex_in None bs) (λ d. hex_in (Some d) bs) (unspaced None bs)
+    (λ d. unspaced (Some d) bs)
+unspaced (Some high) (b ∷ bs) =
+    unspaced_some (is_space b) high b (without_spaces bs) (hex_in (Some high) bs) (hex_in None bs)
+    (unspaced (Some high) bs) (unspaced None bs)
 
 -- ---- pairs
 
@@ -43,7 +57,8 @@ digit_is : (b : ℕ) → hex_digit_value b ≡ hex_digit b
 digit_is b = grind (arith)
 
 pair_step : (a b i : ℕ) (x y : Option ℕ) (r : Result (List ℕ) FromHexError) (q : Option (List ℕ)) → result_ok r ≡ q
-    → result_ok ((digit_or_error a i x >>= λ h. digit_or_error b (i + 1) y >>= λ l. Ok (h * 16 + l)) >>= λ byte. r >>= λ bytes. Ok (byte ∷ bytes))
+    → result_ok ((digit_or_error a i x >>= λ h. digit_or_error b (i + 1) y >>= λ l. Ok
+    (h * 16 + l)) >>= λ byte. r >>= λ bytes. Ok (byte ∷ bytes))
     ≡ option_and_then (λ h. option_and_then (λ l. option_map (λ s. (16 * h + l) ∷ s) q) y) x
 pair_step a b i None y r q e = refl
 pair_step a b i (Some h) None r q e = refl
@@ -61,10 +76,14 @@ unfolding decode_pairs
 pairs_are i [] = refl
 pairs_are i (a ∷ []) = sym (one_left (hex_digit a))
 pairs_are i (a ∷ b ∷ rest) =
-    let e = pair_step a b i (hex_digit_value a) (hex_digit_value b) (decode_pairs (i + 2) rest) (pairs_in None rest) (pairs_are (i + 2) rest) in
-    e ∙ (λ j. option_and_then (λ h. option_and_then (λ l. option_map (λ s. (16 * h + l) ∷ s) (pairs_in None rest)) (digit_is b j)) (digit_is a j))
+    let e =
+    pair_step a b i (hex_digit_value a) (hex_digit_value b) (decode_pairs (i + 2) rest) (pairs_in None rest)
+    (pairs_are (i + 2) rest) in
+    e ∙ (λ j. option_and_then (λ h. option_and_then (λ l. option_map (λ s. (16 * h + l) ∷ s) (pairs_in None rest))
+    (digit_is b j)) (digit_is a j))
 
-none_then : (x y : Option ℕ) → option_and_then (λ h. option_and_then (λ l. option_map (λ s. (16 * h + l) ∷ s) None) y) x ≡ None
+none_then : (x y : Option ℕ) → option_and_then (λ h. option_and_then (λ l. option_map (λ s. (16 * h + l) ∷ s) None) y) x
+    ≡ None
 none_then None y = refl
 none_then (Some h) None = refl
 none_then (Some h) (Some l) = refl

@@ -1,9 +1,5 @@
-pub mod Fronts
 pub mod HexDecoded
-pub mod Items
+pub mod Listed
+pub mod OneItem
 pub mod Digits
-pub mod Told
-pub mod Bare
 pub mod Base64Decoded
-pub mod Texts
-pub mod Streams

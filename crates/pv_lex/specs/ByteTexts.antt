@@ -1,11 +1,12 @@
 -- The three texts of byte strings, and the text of a double. Preserves text syntax, "ByteString" and "Double";
 -- RFC 4648, sections 4 and 5, for base64 in either alphabet. White space counts for nothing in all but the first.
-use Rattle.std.specs.Prelude.{ℕ, ◌+◌, ◌-◌, ◌*◌, ◌/◌, ◌%◌, Bool, ◌&&◌, ◌||◌, ◌==◌, nat_lt, not, List, [], ◌∷◌, ◌++◌, length, if◌then◌else◌, Option, Some, None, Result, Ok, Err, ok_or, option_map, is_some}
+use Rattle.std.specs.Prelude.{ℕ, ◌+◌, ◌-◌, ◌*◌, ◌/◌, ◌%◌, Bool, ◌&&◌, ◌||◌, ◌==◌, nat_lt, not, List, [], ◌∷◌, ◌++◌}
+use Rattle.std.specs.Prelude.{length, if◌then◌else◌, Option, Some, None, Result, Ok, Err, ok_or, option_map, is_some}
 use Rattle.std.specs.Option.{option_and_then}
 use Rattle.std.specs.Result.{result_ok}
 use Rattle.std.specs.Int.{w64, from_be_bytes}
-use Rattle.pv_lex.specs.Characters.{is_between, is_space, hex_digit}
-use Rattle.pv_lex.specs.Results.{◌>>=◌}
+use Rattle.pv_lex.specs.Characters.{is_between, is_space, hex_digit, run}
+use Rattle.pv_read.specs.Results.{◌>>=◌}
 use Rattle.pv_lex.specs.Quoted.{items_value}
 use Rattle.pv_lex.specs.Escapes.{short_escape, pair_at}
 use Rattle.pv_lex.specs.declared.faults.TextKind.{TextKind}
@@ -38,7 +39,8 @@ abbrev pub hex_in : Option ℕ → List ℕ → Option (List ℕ)
 hex_in high [] = if is_some high then None else Some []
 hex_in high (b ∷ bs) =
     if is_space b then hex_in high bs
-    else option_and_then (λ d. elim high [ None ↦ hex_in (Some d) bs | Some h ↦ option_map (λ s. (16 * h + d) ∷ s) (hex_in None bs) ]) (hex_digit b)
+    else option_and_then (λ d. elim high
+    [ None ↦ hex_in (Some d) bs | Some h ↦ option_map (λ s. (16 * h + d) ∷ s) (hex_in None bs) ]) (hex_digit b)
 
 abbrev pub hex_bytes : List ℕ → Option (List ℕ)
 hex_bytes text = hex_in None text
@@ -78,7 +80,8 @@ base64_in k n [] = last_bytes k n
 base64_in k n (b ∷ bs) =
     if is_space b then base64_in k n bs
     else (if b == 61 then (if nat_lt 0 k && is_padding (3 - k) bs then last_bytes k n else None)
-    else option_and_then (λ d. if k == 3 then option_map (λ s. group_bytes (64 * n + d) ++ s) (base64_in 0 0 bs) else base64_in (k + 1) (64 * n + d) bs) (sextet b))
+    else option_and_then (λ d. if k == 3 then option_map (λ s. group_bytes (64 * n + d) ++ s)
+    (base64_in 0 0 bs) else base64_in (k + 1) (64 * n + d) bs) (sextet b))
 
 abbrev pub base64_bytes : List ℕ → Option (List ℕ)
 base64_bytes text = base64_in 0 0 text
@@ -98,9 +101,10 @@ may_stand_in_hex b = is_space b || is_some (hex_digit b)
 abbrev pub may_stand_in_base64 : ℕ → Bool
 may_stand_in_base64 b = is_space b || (b == 61) || is_some (sextet b)
 
--- what follows the closing character
-abbrev pub behind_close : (ℕ → Bool) → ℕ → List ℕ → Result (List ℕ) TextKind
-behind_close may_stand close [] = Err Unclosed
-behind_close may_stand close (b ∷ bs) =
-    if b == close then Ok bs
-    else (if may_stand b then behind_close may_stand close bs else Err BadBytes)
+-- the digits up to the closing character, and what follows that; a foreign character before it is met first
+abbrev pub up_to : ℕ → List ℕ × List ℕ → Result (List ℕ × List ℕ) TextKind
+up_to close (digits, []) = Err Unclosed
+up_to close (digits, b ∷ bs) = if b == close then Ok (digits, bs) else Err BadBytes
+
+abbrev pub enclosed : (ℕ → Bool) → ℕ → List ℕ → Result (List ℕ × List ℕ) TextKind
+enclosed may_stand close bytes = up_to close (run may_stand bytes)

@@ -1,6 +1,7 @@
--- Characters of the text form, by their bytes, and what is passed over before a token.
+-- Characters of the text form, by their bytes.
 -- Preserves text syntax, "White space" and "Comments". Each byte of a character from 80 hexadecimal up is one from 128.
-use Rattle.std.specs.Prelude.{ℕ, ◌-◌, Bool, true, false, ◌&&◌, ◌||◌, ◌==◌, nat_le, not, List, [], ◌∷◌, if◌then◌else◌, Option, Some, None}
+use Rattle.std.specs.Prelude.{ℕ, ◌-◌, Bool, true, false, ◌&&◌, ◌||◌, ◌==◌, nat_le, not, List, [], ◌∷◌, if◌then◌else◌}
+use Rattle.std.specs.Prelude.{Option, Some, None}
 
 abbrev pub all_of : (ℕ → Bool) → List ℕ → Bool
 all_of test [] = true
@@ -45,25 +46,18 @@ abbrev pub begins_comment : List ℕ → Bool
 begins_comment [] = false
 begins_comment (b ∷ bs) = is_space b || (b == 33)
 
--- what follows white space and comments; a comment goes to its line's end
-abbrev pub gap_from : Bool → List ℕ → List ℕ
-gap_from in_comment [] = []
-gap_from true (b ∷ bs) = gap_from (not (is_line_end b)) bs
-gap_from false (b ∷ bs) =
-    if (b == 35) && begins_comment bs then gap_from true bs
-    else (if is_space b then gap_from false bs else b ∷ bs)
+-- the longest front of characters that pass a test, and what follows it
+abbrev pub run : (ℕ → Bool) → List ℕ → List ℕ × List ℕ
+run test [] = ([], [])
+run test (b ∷ bs) = if test b then (b ∷ (run test bs).0, (run test bs).1) else ([], b ∷ bs)
 
-abbrev pub after_gap : List ℕ → List ℕ
-after_gap bytes = gap_from false bytes
+-- no character that passes stands first
+abbrev pub ends_run : (ℕ → Bool) → List ℕ → Bool
+ends_run test [] = true
+ends_run test (b ∷ bs) = not (test b)
 
-abbrev pub after_bare : List ℕ → List ℕ
-after_bare [] = []
-after_bare (b ∷ bs) = if is_bare b then after_bare bs else b ∷ bs
-
--- no bare character stands first
 abbrev pub ends_bare : List ℕ → Bool
-ends_bare [] = true
-ends_bare (b ∷ bs) = not (is_bare b)
+ends_bare bytes = ends_run is_bare bytes
 
 abbrev pub after_digits : List ℕ → List ℕ
 after_digits [] = []

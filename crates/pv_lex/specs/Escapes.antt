@@ -1,9 +1,10 @@
 -- Escapes in strings and quoted symbols. Preserves text syntax, "String" and "Symbol"; RFC 8259, section 7.
 -- A fault is Unclosed where the text ends inside the escape, and BadEscape at a character that can't stand in it.
-use Rattle.std.specs.Prelude.{ℕ, ◌+◌, ◌-◌, ◌*◌, Bool, ◌==◌, List, [], ◌∷◌, length, if◌then◌else◌, Option, Some, None, Result, Ok, Err, encode_utf8, ok_or}
+use Rattle.std.specs.Prelude.{ℕ, ◌+◌, ◌-◌, ◌*◌, Bool, ◌==◌, List, [], ◌∷◌, length, if◌then◌else◌, Option, Some, None}
+use Rattle.std.specs.Prelude.{Result, Ok, Err, encode_utf8, ok_or}
 use Rattle.std.specs.Result.{result_ok}
 use Rattle.pv_lex.specs.Characters.{is_between, hex_digit}
-use Rattle.pv_lex.specs.Results.{◌>>=◌}
+use Rattle.pv_read.specs.Results.{◌>>=◌}
 use Rattle.pv_lex.specs.Quoted.{items_value}
 use Rattle.pv_lex.specs.declared.faults.TextKind.{TextKind}
 use Rattle.pv_lex.specs.declared.faults.TextKind.TheVariants.{Unclosed, BadEscape, BadBytes}

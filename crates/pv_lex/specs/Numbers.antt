@@ -1,5 +1,6 @@
 -- Numbers among the bare tokens: integers in decimal, and the decimal doubles that the text form refuses.
-use Rattle.std.specs.Prelude.{ℕ, ◌+◌, ◌-◌, ◌*◌, ◌^◌, ℤ, pos, neg_ℤ, Bool, true, false, ◌&&◌, ◌||◌, ◌==◌, nat_lt, not, List, [], ◌∷◌, if◌then◌else◌, Option, Some, None}
+use Rattle.std.specs.Prelude.{ℕ, ◌+◌, ◌-◌, ◌*◌, ◌^◌, ℤ, pos, neg_ℤ, Bool, true, false, ◌&&◌, ◌||◌, ◌==◌, nat_lt, not}
+use Rattle.std.specs.Prelude.{List, [], ◌∷◌, if◌then◌else◌, Option, Some, None}
 use Rattle.pv_lex.specs.Characters.{is_digit, after_digits}
 
 abbrev pub is_empty : List ℕ → Bool
@@ -23,7 +24,8 @@ after_fraction (b ∷ bs) = if (b == 46) && begins_digit bs then after_digits bs
 -- what follows an optional exponent: e or E, an optional sign, and digits
 abbrev pub after_exponent : List ℕ → List ℕ
 after_exponent [] = []
-after_exponent (b ∷ bs) = if ((b == 101) || (b == 69)) && begins_digit (after_sign bs) then after_digits (after_sign bs) else b ∷ bs
+after_exponent (b ∷ bs) =
+    if ((b == 101) || (b == 69)) && begins_digit (after_sign bs) then after_digits (after_sign bs) else b ∷ bs
 
 -- an optional sign and digits
 abbrev pub is_integer_text : List ℕ → Bool

@@ -1,56 +1,22 @@
-//! Characters, and what is passed over between tokens.
+//! Characters.
 ghost use Rattle.std.specs.Prelude.{◌≡◌, ◌≤◌, ◌<◌, length, IfOk, IfSome};
-ghost use Rattle.pv_lex.specs.Characters.{is_line_end, is_space, is_digit, is_letter, is_bare_sign, is_bare, hex_digit, begins_comment, after_gap, after_bare, after_digits};
+ghost use Rattle.pv_lex.specs.Characters.{is_line_end, is_space, is_digit, is_letter, is_bare_sign};
+ghost use Rattle.pv_lex.specs.Characters.{is_bare, hex_digit, after_digits};
 ghost use Rattle.pv_lex.specs.Unspaced.{without_spaces};
 
 use std::alloc::{AllocError, Global};
-
-/// What follows white space and comments.
-pub fn skip_gap(bytes: &[u8]) -> &[u8]
-    ensures value { result.now ≡ after_gap bytes.now }
-    ensures within { length result.now ≤ length bytes.now }
-{
-    let mut rest = bytes;
-    let mut in_comment = false;
-    while let Some((first, after)) = rest.split_first() {
-        if in_comment {
-            in_comment = !is_line_end(*first);
-        } else if *first == b'#' && begins_comment(after) {
-            in_comment = true;
-        } else if !is_space(*first) {
-            return rest;
-        }
-        rest = after;
-    }
-    rest
-}
 
 /// The bytes that are no white space.
 pub(crate) fn without_spaces(alloc: Global, bytes: &[u8]) -> Result<Vec<u8>, AllocError>
     ensures { IfOk result (λ v. v.items ≡ without_spaces bytes.now) }
 {
-    let mut out = Vec::new(alloc);
+    let mut out = Vec::with_capacity(alloc, bytes.len())?;
     for b in bytes {
         if !is_space(*b) {
             out.push(*b)?;
         }
     }
     Ok(out)
-}
-
-/// What follows the bytes of a bare token.
-pub(crate) fn skip_bare(bytes: &[u8]) -> &[u8]
-    ensures value { result.now ≡ after_bare bytes.now }
-    ensures within { length result.now ≤ length bytes.now }
-{
-    let mut rest = bytes;
-    while let Some((first, after)) = rest.split_first() {
-        if !is_bare(*first) {
-            return rest;
-        }
-        rest = after;
-    }
-    rest
 }
 
 /// What follows digits.
@@ -67,18 +33,8 @@ pub(crate) fn skip_digits(bytes: &[u8]) -> &[u8]
     rest
 }
 
-/// Whether a `#` begins a comment, by what follows it.
-fn begins_comment(bytes: &[u8]) -> bool
-    ensures { result ≡ begins_comment bytes.now }
-{
-    match bytes {
-        [] => false,
-        [first, ..] => is_space(*first) || *first == b'!',
-    }
-}
-
 /// CR or LF.
-fn is_line_end(b: u8) -> bool
+pub(crate) fn is_line_end(b: u8) -> bool
     ensures { result ≡ is_line_end b }
 {
     b == b'\r' || b == b'\n'

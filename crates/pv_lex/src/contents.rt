@@ -1,69 +1,106 @@
-//! What a whole token's text stands for. Each answers none for a text that is no such token; the text of a token that
-//! was read is one.
-ghost use Rattle.std.specs.Prelude.{◌≡◌, ◌<◌, IfOk, option_map, vec_items, string_bytes};
-ghost use Rattle.pv_lex.specs.Contents.{inside, if_utf8, quoted_text, ascii_text, hex_text, base64_text, double_text};
+//! What stands in quotes.
+ghost use Rattle.std.specs.Prelude.{◌≡◌, ◌<◌, length, IfOk};
+ghost use Rattle.pv_lex.specs.Lexing.{as_text, as_texts, text_at};
+ghost use Rattle.pv_lex.specs.Classes.{content_at};
+ghost use Rattle.pv_lex.specs.declared.runs.Quotes.TheVariants as a_quotes;
+ghost use Rattle.pv_read.specs.Results.{within};
+ghost use Rattle.pv_read.specs.Answers.{Gives};
+ghost use Rattle.pv_read.specs.Lemmas.Fronts.{behind_front};
 
-use crate::hexadecimal::{double_bits, hex_bytes};
-use crate::quoted::{ascii_bytes, unescaped};
-use crate::sextets::base64_bytes;
-use std::alloc::{AllocError, Global};
+use crate::faults::{TextFault, TextKind};
+use crate::quoted::{item, push_piece};
+use crate::runs::{Class, Quotes, quote, run};
+use pv_read::{ReadFault, at};
+use pv_value::Text;
+use simdutf8::compat::from_utf8;
+use std::alloc::Global;
 
-/// A string `"..."`, or with the quote `|` a quoted symbol.
-#[tactic(auto, unfolding(crate::specs::Contents::quoted_text))]
-pub fn quoted_text(alloc: Global, quote: u8, text: &[u8]) -> Result<Option<String>, AllocError>
-    requires { quote < 128 }
-    ensures { IfOk result (λ r. option_map string_bytes r ≡ quoted_text quote text.now) }
+/// These bytes as text.
+pub(crate) fn text_of(alloc: Global, place: usize, bytes: &[u8]) -> Result<Text, TextFault>
+    ensures { Gives (λ t. t) result (within place (as_text bytes.now)) }
 {
-    let Some(bytes) = unescaped(alloc, quote, inside(1, text))? else {
-        return Ok(None);
-    };
-    match String::from_utf8(bytes) {
-        Ok(string) => {
-            let _ = string.as_str();
-            Ok(Some(string))
+    match from_utf8(bytes) {
+        Ok(text) => Ok(Text::from_str(alloc, text)?),
+        Err(_) => Err(ReadFault::Bad(TextKind::BadUtf8, place)),
+    }
+}
+
+/// The text behind the opening quote of a string or a symbol, and what follows the closing one.
+pub(crate) fn quoted_text(
+    alloc: Global,
+    place: usize,
+    quotes: Quotes,
+    bytes: &[u8],
+) -> Result<(Text, &[u8]), TextFault>
+    ensures value { Gives (λ x. (x.0, x.1.now)) result (within place (text_at quotes bytes.now)) }
+    ensures shorter { IfOk result (λ x. length x.1.now < length bytes.now) }
+{
+    let (plain, tail) = run(Class::Plain(quotes), bytes);
+    text_after(alloc, place, quotes, plain, tail)
+}
+
+/// The same, where these plain characters stand before the bytes. Where nothing is escaped the text
+/// is made of the characters as they are.
+fn text_after<'a>(
+    alloc: Global,
+    place: usize,
+    quotes: Quotes,
+    plain: &[u8],
+    bytes: &'a [u8],
+) -> Result<(Text, &'a [u8]), TextFault>
+    ensures value { let content = behind_front plain.now (content_at quotes bytes.now) in
+        Gives (λ x. (x.0, x.1.now)) result (within place (as_texts content)) }
+    ensures shorter { IfOk result (λ x. length x.1.now < length bytes.now) }
+{
+    match bytes.split_first() {
+        Some((first, rest)) if *first == quote(quotes) => {
+            Ok((text_of(alloc, place, plain)?, rest))
         }
-        Err(_) => Ok(None),
+        _ => {
+            let (content, rest) = content_after(alloc, place, quotes, plain, bytes)?;
+            Ok((text_of(alloc, place, &content)?, rest))
+        }
     }
 }
 
-/// `#"..."`
-#[tactic(auto, unfolding(crate::specs::Contents::ascii_text))]
-pub fn ascii_text(alloc: Global, text: &[u8]) -> Result<Option<Vec<u8>>, AllocError>
-    ensures { IfOk result (λ r. option_map vec_items r ≡ ascii_text text.now) }
+/// The bytes behind the opening quote of an ASCII text, and what follows the closing one.
+pub(crate) fn ascii_content(
+    alloc: Global,
+    place: usize,
+    bytes: &[u8],
+) -> Result<(Vec<u8>, &[u8]), TextFault>
+    ensures value { let content = content_at a_quotes.Ascii bytes.now in
+        Gives (λ x. (x.0.items, x.1.now)) result (within place content) }
+    ensures shorter { IfOk result (λ x. length x.1.now < length bytes.now) }
 {
-    ascii_bytes(alloc, inside(2, text))
+    let (plain, tail) = run(Class::Plain(Quotes::Ascii), bytes);
+    content_after(alloc, place, Quotes::Ascii, plain, tail)
 }
 
-/// `#x"..."`
-#[tactic(auto, unfolding(crate::specs::Contents::hex_text))]
-pub fn hex_text(alloc: Global, text: &[u8]) -> Result<Option<Vec<u8>>, AllocError>
-    ensures { IfOk result (λ r. option_map vec_items r ≡ hex_text text.now) }
+/// The plain characters and what the text behind them stands for, and what follows the closing
+/// quote.
+fn content_after<'a>(
+    alloc: Global,
+    place: usize,
+    quotes: Quotes,
+    plain: &[u8],
+    bytes: &'a [u8],
+) -> Result<(Vec<u8>, &'a [u8]), TextFault>
+    ensures value { let content = behind_front plain.now (content_at quotes bytes.now) in
+        Gives (λ x. (x.0.items, x.1.now)) result (within place content) }
+    ensures shorter { IfOk result (λ x. length x.1.now < length bytes.now) }
 {
-    hex_bytes(alloc, inside(3, text))
-}
-
-/// `#[...]`
-#[tactic(auto, unfolding(crate::specs::Contents::base64_text))]
-pub fn base64_text(alloc: Global, text: &[u8]) -> Result<Option<Vec<u8>>, AllocError>
-    ensures { IfOk result (λ r. option_map vec_items r ≡ base64_text text.now) }
-{
-    base64_bytes(alloc, inside(2, text))
-}
-
-/// `#xd"..."`
-#[tactic(auto, unfolding(crate::specs::Contents::double_text))]
-pub fn double_text(alloc: Global, text: &[u8]) -> Result<Option<u64>, AllocError>
-    ensures { IfOk result (λ r. r ≡ double_text text.now) }
-{
-    double_bits(alloc, inside(4, text))
-}
-
-/// The text without its first `opening` characters and its last one.
-fn inside(opening: usize, text: &[u8]) -> &[u8]
-    ensures { result.now ≡ inside opening text.now }
-{
-    if text.len() <= opening {
-        return &[];
+    let mut out = Vec::from_slice(alloc, plain)?;
+    let mut rest = bytes;
+    while let Some((first, after)) = rest.split_first() {
+        if *first == quote(quotes) {
+            return Ok((out, after));
+        }
+        let (piece, after) = at(place, item(quotes, rest))?;
+        push_piece(&mut out, piece)?;
+        let (plain, tail) = run(Class::Plain(quotes), after);
+        out.extend_from_slice(plain)?;
+        rest = tail;
     }
-    &text[opening..text.len() - 1]
+    Err(ReadFault::Bad(TextKind::Unclosed, place))
 }

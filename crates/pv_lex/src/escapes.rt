@@ -1,13 +1,16 @@
 //! Escapes: what stands behind a backslash.
 ghost use Rattle.std.specs.Prelude.{◌≡◌, ◌<◌, length, IfOk, IfSome, IsTrue};
-ghost use Rattle.pv_lex.specs.Escapes.{short_escape, mark_at, digit_at, pair_at, unit_at, is_high_surrogate, is_low_surrogate, joined, low_at, unicode_at, escape_at};
+ghost use Rattle.pv_lex.specs.Escapes.{short_escape, mark_at, digit_at, pair_at, unit_at};
+ghost use Rattle.pv_lex.specs.Escapes.{is_high_surrogate, is_low_surrogate, joined, low_at};
+ghost use Rattle.pv_lex.specs.Escapes.{unicode_at, escape_at};
 ghost use Rattle.pv_lex.specs.ByteTexts.{byte_escape_at};
-ghost use Rattle.pv_lex.specs.Results.{Answers};
+ghost use Rattle.pv_read.specs.Answers.{Answers};
 
 use crate::characters::hex_digit;
 use crate::faults::TextKind;
 
-/// Behind a backslash in a text with this closing quote: the character meant, and the bytes after the escape.
+/// Behind a backslash in a text with this closing quote: the character meant, and the bytes after
+/// the escape.
 #[tactic(auto, unfolding(crate::specs::Escapes::escape_at))]
 pub(crate) fn escape_at(quote: u8, bytes: &[u8]) -> Result<(char, &[u8]), TextKind>
     requires { quote < 128 }

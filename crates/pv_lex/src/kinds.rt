@@ -1,12 +1,13 @@
 //! Tokens and lists of them.
 ghost use Rattle.std.specs.Prelude.{◌≡◌, ◌==◌, [], ◌∷◌, ◌++◌, length, OnOk, OnErr};
 
+use pv_value::Value;
 use std::alloc::{AllocError, Global};
 use std::marker::Model;
 
-/// What a token is.
+/// Tokens that end, part or begin something.
 #[derive(Clone, Copy, Debug, PartialEq, Eq)]
-pub enum TokenKind {
+pub enum Mark {
     /// `<`
     RecordOpen,
     /// `>`
@@ -29,6 +30,11 @@ pub enum TokenKind {
     Annotation,
     /// `#:`
     Embedded,
+}
+
+/// How an atom is written.
+#[derive(Clone, Copy, Debug, PartialEq, Eq)]
+pub enum AtomForm {
     /// `#f`
     False,
     /// `#t`
@@ -49,6 +55,20 @@ pub enum TokenKind {
     Base64Bytes,
     /// `#xd"..."`
     Double,
+}
+
+/// What a token is.
+#[derive(Clone, Copy, Debug, PartialEq, Eq)]
+pub enum TokenKind {
+    Mark(Mark),
+    Atom(AtomForm),
+}
+
+/// A token with its content: an atom is the value that it stands for.
+#[derive(Drop)]
+pub enum Lexeme {
+    Mark(Mark),
+    Atom(AtomForm, Value),
 }
 
 /// A token, and where its text stands: from `start` up to `end`, in bytes.

@@ -1,25 +1,29 @@
-//! The lexical layer of the text form of values: characters, escapes, numbers, byte strings, doubles and tokens, by the
-//! Preserves text syntax.
+//! The lexical layer of the text form of values, by the Preserves text syntax: characters, escapes,
+//! numbers, byte strings, doubles and tokens.
 #![tactic(auto)]
 
 mod characters;
 mod contents;
 mod escapes;
 mod faults;
+mod gaps;
 mod hexadecimal;
 mod kinds;
 mod laws;
 mod lexing;
+mod listing;
 mod numbers;
 mod quoted;
+mod runs;
 mod sextets;
 #[cfg(test)]
 mod tests;
 
-pub use characters::{is_bare, skip_gap};
-pub use contents::{ascii_text, base64_text, double_text, hex_text, quoted_text};
+pub use characters::is_bare;
 pub use faults::{TextFault, TextKind};
-pub use kinds::{Token, TokenKind, Tokens};
-pub use laws::{tokens_stand_for_something, whole_texts_are_tokens};
-pub use lexing::{next_token, token_at, token_of, tokens};
+pub use gaps::skip_blank;
+pub use kinds::{AtomForm, Lexeme, Mark, Token, TokenKind, Tokens};
+pub use laws::lexemes_are_tokens;
+pub use lexing::lexeme_at;
+pub use listing::tokens;
 pub use numbers::{integer_of, is_decimal_double, is_integer_text};

@@ -1,6 +1,8 @@
 //! Numbers among the bare tokens.
-ghost use Rattle.std.specs.Prelude.{◌≡◌, ◌≤◌, ◌<◌, ◌^◌, pos, neg_ℤ, length, MatchOption, IsFalse};
-ghost use Rattle.pv_lex.specs.Numbers.{is_empty, begins_digit, after_sign, after_fraction, after_exponent, is_integer_text, is_decimal_double, is_negative, digits_value, is_wide, integer_value, integer_of};
+ghost use Rattle.std.specs.Prelude.{◌≡◌, ◌≤◌, ◌<◌, ◌^◌, pos, neg_ℤ, MatchOption, if◌then◌else◌};
+ghost use Rattle.pv_lex.specs.Numbers.{begins_digit, after_sign, after_fraction, after_exponent};
+ghost use Rattle.pv_lex.specs.Numbers.{is_integer_text, is_decimal_double, is_negative};
+ghost use Rattle.pv_lex.specs.Numbers.{digits_value, is_wide, integer_value, integer_of};
 
 use crate::characters::{is_digit, skip_digits};
 
@@ -10,32 +12,22 @@ const TOP: u128 = 0x8000_0000_0000_0000_0000_0000_0000_0000;
 /// 2^124: a number from this on that has one more digit is above 2^127.
 const NEAR_TOP: u128 = 0x1000_0000_0000_0000_0000_0000_0000_0000;
 
-/// The integer that a text stands for: an optional sign and digits, of at most 128 bits in two's complement.
+/// The integer that a text stands for: an optional sign and digits, of at most 128 bits in two's
+/// complement.
 #[tactic(auto, unfolding(crate::specs::Numbers::integer_of))]
 pub fn integer_of(text: &[u8]) -> Option<i128>
     ensures { result ≡ integer_of text.now }
 {
-    if !is_integer_text(text) || is_wide(text) {
+    if !is_integer_text(text) {
         return None;
     }
     integer_value(text)
 }
 
-/// Whether the integer has more than 128 bits.
-#[tactic(auto, unfolding(crate::specs::Numbers::is_wide))]
-pub(crate) fn is_wide(text: &[u8]) -> bool
-    ensures { result ≡ is_wide text.now }
-{
-    match magnitude(skip_sign(text)) {
-        Some(size) => size == TOP && !is_negative(text),
-        None => true,
-    }
-}
-
-/// What sign and digits stand for.
+/// What sign and digits stand for, unless that has more than 128 bits.
 #[tactic(auto, unfolding(crate::specs::Numbers::is_wide, crate::specs::Numbers::integer_value))]
 fn integer_value(text: &[u8]) -> Option<i128>
-    ensures { IsFalse (is_wide text.now) → result ≡ Some (integer_value text.now) }
+    ensures { result ≡ (if is_wide text.now then None else Some (integer_value text.now)) }
 {
     let size = magnitude(skip_sign(text))?;
     if is_negative(text) {
@@ -60,7 +52,8 @@ fn negated(size: u128) -> i128
 
 /// The number of these digits, unless it is above 2^127.
 fn magnitude(digits: &[u8]) -> Option<u128>
-    ensures { MatchOption result (2 ^ 127 < digits_value 0 digits.now) (λ n. (n ≡ digits_value 0 digits.now) × (n ≤ 2 ^ 127)) }
+    ensures { let value = digits_value 0 digits.now in
+        MatchOption result (2 ^ 127 < value) (λ n. (n ≡ value) × (n ≤ 2 ^ 127)) }
 {
     let mut size: u128 = 0;
     for b in digits {

@@ -1,12 +1,14 @@
 -- An integer's digits stand for the integer, and are bare.
-use Rattle.std.proofs.Common.{◌≡◌, ℕ, suc, ◌+◌, ◌-◌, ◌*◌, ◌/◌, ◌%◌, ◌<◌, ◌≤◌, ◌^◌, Bool, true, false, ◌&&◌, ◌||◌, nat_lt, ℤ, pos, negsuc, List, [], ◌∷◌, ◌++◌, Some, refl, ap, ◌∙◌, arith}
+use Rattle.std.proofs.Common.{◌≡◌, ℕ, suc, ◌+◌, ◌-◌, ◌*◌, ◌/◌, ◌%◌, ◌<◌, ◌≤◌, ◌^◌, Bool, true, false, ◌&&◌, ◌||◌}
+use Rattle.std.proofs.Common.{nat_lt, ℤ, pos, negsuc, List, [], ◌∷◌, ◌++◌, Some, refl, ap, ◌∙◌, arith}
 use Rattle.std.specs.Fmt.{decimal, signed_decimal}
 use Rattle.std.specs.Int.{w128}
 use Rattle.std.specs.Int.RustNames.{FitsSigned}
 use Rattle.std.proofs.lemmas.Bool.{and_parts, and_from, le-leb, lt-ltb, le-ltb, ne_eqb, leb-true}
 use Rattle.std.proofs.lemmas.Fmt.{decimal_by_steps_wide}
 use Rattle.pv_lex.specs.Characters.{all_of, is_digit, is_bare, after_digits}
-use Rattle.pv_lex.specs.Numbers.{is_empty, begins_digit, after_sign, digits_value, is_negative, magnitude, integer_value, is_wide, integer_of}
+use Rattle.pv_lex.specs.Numbers.{is_empty, begins_digit, after_sign, digits_value, is_negative, magnitude}
+use Rattle.pv_lex.specs.Numbers.{integer_value, is_wide, integer_of}
 
 -- digits, one at least, that stand for a number
 pub record AreDigits (n : ℕ) (ds : List ℕ) : Type 0 where
@@ -17,7 +19,8 @@ pub record AreDigits (n : ℕ) (ds : List ℕ) : Type 0 where
 digit_is : (d : ℕ) → d < 10 → is_digit (48 + d) ≡ true
 digit_is d h = and_from _ _ (le-leb 48 (48 + d) (omega arith)) (le-leb (48 + d) 57 (omega arith))
 
-all-append : (test : ℕ → Bool) (s : List ℕ) (b : ℕ) → all_of test s ≡ true → test b ≡ true → all_of test (s ++ b ∷ []) ≡ true
+all-append : (test : ℕ → Bool) (s : List ℕ) (b : ℕ) → all_of test s ≡ true → test b ≡ true
+    → all_of test (s ++ b ∷ []) ≡ true
 all-append test [] b h e = and_from _ _ e refl
 all-append test (c ∷ cs) b h e =
     let p = and_parts (test c) (all_of test cs) h in
@@ -83,7 +86,8 @@ bare_digits (b ∷ bs) e =
 
 -- ---- integers
 
-integer_text : (s : List ℕ) → begins_digit s ≡ true → all_of is_digit s ≡ true → (begins_digit s && is_empty (after_digits s)) ≡ true
+integer_text : (s : List ℕ) → begins_digit s ≡ true → all_of is_digit s ≡ true
+    → (begins_digit s && is_empty (after_digits s)) ≡ true
 integer_text s b d = rw (b, after_digits_all s d)
 
 pub integer_bare : (z : ℤ) → FitsSigned w128 z → all_of is_bare (signed_decimal z) ≡ true

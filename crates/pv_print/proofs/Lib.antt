@@ -3,6 +3,7 @@ pub mod Base64
 pub mod Doubles
 pub mod Encoded
 pub mod Escaped
+pub mod Fronts
 pub mod Integers
 pub mod Measures
 pub mod ReadBack

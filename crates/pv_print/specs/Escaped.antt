@@ -1,5 +1,5 @@
 -- Text between quotes: Preserves text syntax, "String" and "Symbol"; RFC 8259, section 7.
-use Rattle.std.specs.Prelude.{ℕ, ◌||◌, ◌==◌, nat_lt, List, [], ◌∷◌, ◌++◌, if◌then◌else◌}
+use Rattle.std.specs.Prelude.{ℕ, Bool, ◌&&◌, ◌||◌, ◌==◌, nat_lt, not, List, [], ◌∷◌, ◌++◌, if◌then◌else◌}
 use Rattle.pv_print.specs.Hex.{hex_pairs}
 
 -- a byte below 32: \b \t \n \f \r, else \u00 and its two digits
@@ -11,6 +11,10 @@ control_escape b =
     else (if b == 12 then 92 ∷ 102 ∷ []
     else (if b == 13 then 92 ∷ 114 ∷ []
     else 92 ∷ 117 ∷ 48 ∷ 48 ∷ hex_pairs (b ∷ [])))))
+
+-- whether a byte stands as it is between these quotes: neither the quote, nor a backslash, nor a byte below 32
+abbrev pub stands_raw : ℕ → ℕ → Bool
+stands_raw quote b = not (b == quote) && not (b == 92) && not (nat_lt b 32)
 
 -- how a byte is written between these quotes: the quote and the backslash stand behind a backslash, and all else from
 -- 32 up, as each byte of a character from 80 hexadecimal up, stands as it is

@@ -4,7 +4,6 @@ use Rattle.std.specs.List.{flat_map, AllByRecursion}
 use Rattle.pv_value.specs.Plain.{Plain}
 use Rattle.pv_value.specs.Depth.{depth}
 use Rattle.pv_value.specs.WellFormed.{IsWellFormed}
-use Rattle.pv_binary.specs.declared.TheConstants.{READ_DEPTH}
 use Rattle.pv_print.specs.Printed.{printed}
 
 abbrev pub line : Plain → List ℕ
@@ -15,4 +14,4 @@ lines vs = flat_map line vs
 
 -- each nests no deeper than is read
 abbrev pub AreReadable : List Plain → Type 0
-AreReadable vs = AllByRecursion (λ v. IsWellFormed v × (depth v ≤ READ_DEPTH)) vs
+AreReadable vs = AllByRecursion (λ v. IsWellFormed v × (depth v ≤ 64)) vs

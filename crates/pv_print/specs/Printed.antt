@@ -1,8 +1,11 @@
--- The one compact text of a value, by the Preserves text syntax. Sets and dictionaries stand in the order that they have.
+-- The one compact text of a value, by the Preserves text syntax. Sets and dictionaries stand in the order that they
+-- have.
 use Rattle.std.specs.Prelude.{ℕ, true, false, List, [], ◌∷◌, ◌++◌, if◌then◌else◌}
 use Rattle.std.specs.Fmt.{signed_decimal}
 use Rattle.std.specs.Int.{w64, to_be_bytes}
-use Rattle.pv_value.specs.Plain.{Plain, boolean, double, integer, string, byte_string, symbol, record_of, sequence, set_of, dictionary, embedded, Plains, no_more, then_more, PlainPairs, no_pairs, then_pair}
+use Rattle.pv_value.specs.Plain.{Plain, boolean, double, integer, string, byte_string, symbol, record_of, sequence}
+use Rattle.pv_value.specs.Plain.{set_of, dictionary, embedded, Plains, no_more, then_more, PlainPairs, no_pairs}
+use Rattle.pv_value.specs.Plain.{then_pair}
 use Rattle.pv_print.specs.Hex.{hex_pairs}
 use Rattle.pv_print.specs.Base64.{in_base64}
 use Rattle.pv_print.specs.Escaped.{quoted}

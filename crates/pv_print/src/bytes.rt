@@ -1,5 +1,6 @@
 //! Bytes at the end of the text that is made, and bytes in hexadecimal and base64.
 ghost use Rattle.std.specs.Prelude.{◌≡◌, ◌++◌, ◌∷◌, [], OnOk};
+ghost use Rattle.pv_print.specs.Fronts.{IsFront};
 ghost use Rattle.pv_print.specs.Hex.{hex_pairs};
 ghost use Rattle.pv_print.specs.Base64.{in_base64};
 
@@ -7,14 +8,16 @@ use base64::engine::general_purpose::STANDARD;
 use pv_value::NoMemory;
 
 pub(crate) fn push_byte(out: &mut Vec<u8>, byte: u8) -> Result<(), NoMemory>
-    ensures { OnOk result (out.new.items ≡ out.old.items ++ byte ∷ []) }
+    ensures exact { OnOk result (out.new.items ≡ out.old.items ++ byte ∷ []) }
+    ensures front { IsFront out.old.items out.new.items }
 {
     out.push(byte)?;
     Ok(())
 }
 
 pub(crate) fn push_bytes(out: &mut Vec<u8>, bytes: &[u8]) -> Result<(), NoMemory>
-    ensures { OnOk result (out.new.items ≡ out.old.items ++ bytes.now) }
+    ensures exact { OnOk result (out.new.items ≡ out.old.items ++ bytes.now) }
+    ensures front { IsFront out.old.items out.new.items }
 {
     out.extend_from_slice(bytes)?;
     Ok(())
@@ -22,7 +25,8 @@ pub(crate) fn push_bytes(out: &mut Vec<u8>, bytes: &[u8]) -> Result<(), NoMemory
 
 /// Two lower-case hexadecimal digits for each byte.
 pub(crate) fn push_hex(out: &mut Vec<u8>, bytes: &[u8]) -> Result<(), NoMemory>
-    ensures { OnOk result (out.new.items ≡ out.old.items ++ hex_pairs bytes.now) }
+    ensures exact { OnOk result (out.new.items ≡ out.old.items ++ hex_pairs bytes.now) }
+    ensures front { IsFront out.old.items out.new.items }
 {
     let digits = hex::encode(*out.allocator(), bytes)?;
     push_bytes(out, digits.as_bytes())
@@ -30,7 +34,8 @@ pub(crate) fn push_hex(out: &mut Vec<u8>, bytes: &[u8]) -> Result<(), NoMemory>
 
 /// Base64 in the standard alphabet with padding.
 pub(crate) fn push_base64(out: &mut Vec<u8>, bytes: &[u8]) -> Result<(), NoMemory>
-    ensures { OnOk result (out.new.items ≡ out.old.items ++ in_base64 bytes.now) }
+    ensures exact { OnOk result (out.new.items ≡ out.old.items ++ in_base64 bytes.now) }
+    ensures front { IsFront out.old.items out.new.items }
 {
     let digits = STANDARD.encode(*out.allocator(), bytes)?;
     push_bytes(out, digits.as_bytes())

@@ -1,5 +1,5 @@
 //! The one compact text of a value, by the Preserves text syntax.
-#![tactic(auto)]
+#![tactic(auto, using(crate::proofs::Fronts::fronts))]
 
 mod atoms;
 mod bytes;
@@ -10,4 +10,4 @@ mod symbols;
 mod tests;
 
 pub use laws::{printed_texts_read_back, printed_texts_spell};
-pub use printing::print;
+pub use printing::{print, print_into};

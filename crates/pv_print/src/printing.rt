@@ -3,10 +3,11 @@ ghost use Rattle.std.specs.Prelude.{◌≡◌, ◌++◌, ◌∷◌, [], map, len
 ghost use Rattle.pv_value.specs.Plain.{plains, pairs};
 ghost use Rattle.pv_value.specs.View.{key_and_value};
 ghost use Rattle.pv_value.specs.Depth.{depth};
-ghost use Rattle.pv_binary.specs.declared.TheConstants.{READ_DEPTH};
 ghost use Rattle.pv_text.specs.Spells.{TextSpells};
 ghost use Rattle.pv_text.specs.Reads.{BeginsWith};
-ghost use Rattle.pv_print.specs.Printed.{printed, printed_all, printed_behind, printed_entries, entries_behind};
+ghost use Rattle.pv_print.specs.Fronts.{IsFront};
+ghost use Rattle.pv_print.specs.Printed.{printed, printed_all, printed_behind};
+ghost use Rattle.pv_print.specs.Printed.{printed_entries, entries_behind};
 
 use crate::atoms::{push_double, push_int, push_quoted};
 use crate::bytes::{push_base64, push_byte, push_bytes};
@@ -14,22 +15,33 @@ use crate::symbols::push_symbol;
 use pv_value::{Entry, NoMemory, Node, Text, Value};
 use std::alloc::Global;
 
-/// The one compact text of a value: sets and dictionaries in ascending order, one space where white space is due.
+/// The one compact text of a value: sets and dictionaries in ascending order, one space where white
+/// space is due.
 pub fn print(alloc: Global, v: &Value) -> Result<Text, NoMemory>
     ensures exact { IfOk result (λ t. t ≡ printed v.now) }
     ensures spells { IfOk result (λ t. TextSpells t v.now) }
     // Read back, it is the value, where this nests no deeper than is read.
-    ensures reads_back { IfOk result (λ t. depth v.now ≤ READ_DEPTH → BeginsWith t (length t) v.now) }
+    ensures reads_back { IfOk result (λ t. depth v.now ≤ 64 → BeginsWith t (length t) v.now) }
 {
     let _ = &v.node;
     let mut out = Vec::new(alloc);
-    push_value(&mut out, v)?;
-    Ok(Text::from_string(String::from_utf8(out).unwrap()))
+    print_into(&mut out, v)?;
+    let text = Text::from_string(String::from_utf8(out).unwrap())?;
+    Ok(text)
+}
+
+/// The same text behind what stands there; where memory runs out, some front of it may stand there.
+pub fn print_into(out: &mut Vec<u8>, v: &Value) -> Result<(), NoMemory>
+    ensures exact { OnOk result (out.new.items ≡ out.old.items ++ printed v.now) }
+    ensures front { IsFront out.old.items out.new.items }
+{
+    push_value(out, v)
 }
 
 #[cycle(push)]
 fn push_value(out: &mut Vec<u8>, v: &Value) -> Result<(), NoMemory>
-    ensures { OnOk result (out.new.items ≡ out.old.items ++ printed v.now) }
+    ensures exact { OnOk result (out.new.items ≡ out.old.items ++ printed v.now) }
+    ensures front { IsFront out.old.items out.new.items }
 {
     match &v.node {
         Node::Bool(false) => push_bytes(out, b"#f"),
@@ -46,7 +58,7 @@ fn push_value(out: &mut Vec<u8>, v: &Value) -> Result<(), NoMemory>
         Node::Rec(rec) => {
             push_byte(out, b'<')?;
             push_value(out, &rec.label)?;
-            push_behind(out, rec.fields.as_slice(), b'>')
+            push_behind(out, &rec.fields, b'>')
         }
         Node::Seq(items) => {
             push_byte(out, b'[')?;
@@ -70,7 +82,9 @@ fn push_value(out: &mut Vec<u8>, v: &Value) -> Result<(), NoMemory>
 /// Values with a space between two, and the close.
 #[cycle(push)]
 fn push_all(out: &mut Vec<u8>, items: &[Value], close: u8) -> Result<(), NoMemory>
-    ensures { OnOk result (out.new.items ≡ out.old.items ++ (printed_all (plains items.now) ++ close ∷ [])) }
+    ensures exact { OnOk result (out.new.items ≡ out.old.items
+        ++ (printed_all (plains items.now) ++ close ∷ [])) }
+    ensures front { IsFront out.old.items out.new.items }
 {
     match items.split_first() {
         None => push_byte(out, close),
@@ -84,7 +98,9 @@ fn push_all(out: &mut Vec<u8>, items: &[Value], close: u8) -> Result<(), NoMemor
 /// Values each behind a space, and the close.
 #[cycle(push)]
 fn push_behind(out: &mut Vec<u8>, items: &[Value], close: u8) -> Result<(), NoMemory>
-    ensures { OnOk result (out.new.items ≡ out.old.items ++ (printed_behind (plains items.now) ++ close ∷ [])) }
+    ensures exact { OnOk result (out.new.items ≡ out.old.items
+        ++ (printed_behind (plains items.now) ++ close ∷ [])) }
+    ensures front { IsFront out.old.items out.new.items }
 {
     for x in items {
         push_byte(out, b' ')?;
@@ -96,7 +112,9 @@ fn push_behind(out: &mut Vec<u8>, items: &[Value], close: u8) -> Result<(), NoMe
 /// Entries with a space between two, and the close.
 #[cycle(push)]
 fn push_entries(out: &mut Vec<u8>, entries: &[Entry]) -> Result<(), NoMemory>
-    ensures { OnOk result (out.new.items ≡ out.old.items ++ (printed_entries (pairs (map key_and_value entries.now)) ++ 125 ∷ [])) }
+    ensures exact { OnOk result (out.new.items ≡ out.old.items
+        ++ (printed_entries (pairs (map key_and_value entries.now)) ++ 125 ∷ [])) }
+    ensures front { IsFront out.old.items out.new.items }
 {
     match entries.split_first() {
         None => push_byte(out, b'}'),
@@ -110,7 +128,9 @@ fn push_entries(out: &mut Vec<u8>, entries: &[Entry]) -> Result<(), NoMemory>
 /// Entries each behind a space, and the close.
 #[cycle(push)]
 fn push_entries_behind(out: &mut Vec<u8>, entries: &[Entry]) -> Result<(), NoMemory>
-    ensures { OnOk result (out.new.items ≡ out.old.items ++ (entries_behind (pairs (map key_and_value entries.now)) ++ 125 ∷ [])) }
+    ensures exact { OnOk result (out.new.items ≡ out.old.items
+        ++ (entries_behind (pairs (map key_and_value entries.now)) ++ 125 ∷ [])) }
+    ensures front { IsFront out.old.items out.new.items }
 {
     for e in entries {
         push_byte(out, b' ')?;
@@ -122,7 +142,9 @@ fn push_entries_behind(out: &mut Vec<u8>, entries: &[Entry]) -> Result<(), NoMem
 /// A key, a colon, a space and a value.
 #[cycle(push)]
 fn push_entry(out: &mut Vec<u8>, entry: &Entry) -> Result<(), NoMemory>
-    ensures { OnOk result (out.new.items ≡ out.old.items ++ (printed entry.now.key ++ 58 ∷ 32 ∷ printed entry.now.value)) }
+    ensures exact { OnOk result (out.new.items ≡ out.old.items
+        ++ (printed entry.now.key ++ 58 ∷ 32 ∷ printed entry.now.value)) }
+    ensures front { IsFront out.old.items out.new.items }
 {
     push_value(out, &entry.key)?;
     push_bytes(out, b": ")?;

@@ -1,112 +1,285 @@
--- A text is judged as a whole: where it is UTF-8, reading it stops at no token that isn't.
-use Rattle.std.proofs.Common.{◌≡◌, ◌≢◌, ℕ, zero, suc, ◌<◌, Bool, true, false, List, [], ◌∷◌, ◌++◌, length, IsUtf8, sym, ap, ◌∙◌, subst, append_assoc, inl, inr, arith}
-use Rattle.pv_value.specs.Plain.{Plain}
-use Rattle.pv_binary.specs.declared.TheConstants.{READ_DEPTH}
-use Rattle.pv_lex.specs.Results.{Fault}
+-- A text is judged as a whole: where it is UTF-8, so is what follows all that is read, and no fault is that it isn't.
+use Rattle.std.proofs.Common.{◌≡◌, ◌≢◌, ℕ, zero, suc, ◌-◌, ◌<◌, Bool, true, false, eqb, List, [], ◌∷◌, ◌++◌, length}
+use Rattle.std.proofs.Common.{Option, Some, None, Result, Ok, Err}
+use Rattle.std.proofs.Common.{IsUtf8, refl, sym, ap, ◌∙◌, subst, append_assoc, inl, inr, arith}
+use Rattle.std.specs.Prelude.{if◌then◌else◌}
+use Rattle.std.proofs.lemmas.Bool.{eqb-true}
+use Rattle.std.proofs.lemmas.Str.{IsUtf8-nil}
+use Rattle.pv_value.specs.Plain.{Plain, boolean, double, integer, string, byte_string, symbol}
+use Rattle.pv_value.specs.Sets.{set_from, dictionary_from}
+use Rattle.pv_read.specs.Results.{Fault, ◌>>=◌, within}
+use Rattle.pv_read.specs.Leading.{LeadsOver}
+use Rattle.pv_read.specs.Elements.{elements_at}
+use Rattle.pv_read.specs.Lemmas.Binds.{Told, told_cond, told_ok, told_err}
+use Rattle.pv_lex.specs.Gaps.{after_blank}
+use Rattle.pv_lex.specs.Lemmas.GapLaws.{gap_found, after_twice}
+use Rattle.pv_lex.specs.declared.faults.TextKind.{TextKind}
 use Rattle.pv_lex.specs.declared.faults.TextKind.TheVariants as fault
-use Rattle.pv_text.specs.Spells.{IsAtom, IsCompoundOf, SpellsIn}
-use Rattle.pv_text.specs.Stops.{ItemsStop, ColonStops, EntryStops, EntriesStop, CompoundStops, in_embedded, in_label, in_fields, in_sequence, in_set, in_dictionary, equal_elements, equal_keys, CoreStops, at_token, misplaced, deeper, IsTooDeep, DueStops, ended, in_core, in_annotation, past_annotation, StopsIn, TextStands}
-use Rattle.pv_text.specs.Reading.{unclosed, no_value}
-use Rattle.pv_text.specs.Reads.{LeadsTo, LeadsOver, ValuesStand}
-use Rattle.pv_text.proofs.Seams.{at_seam, behind_byte, gap_leaves}
-use Rattle.pv_text.proofs.Leaves.{AllLeave, atoms_leave, items_leave, entries_leave, cores_leave, annotated_leave, values_leave}
-use Rattle.pv_text.proofs.JudgedTokens.{tokens_judged}
+use Rattle.pv_lex.specs.declared.kinds.Mark.{Mark}
+use Rattle.pv_lex.specs.declared.kinds.Mark.TheVariants as mark
+use Rattle.pv_lex.specs.declared.kinds.AtomForm.{AtomForm}
+use Rattle.pv_lex.specs.declared.kinds.AtomForm.TheVariants as form
+use Rattle.pv_lex.specs.declared.kinds.Lexeme.{Lexeme}
+use Rattle.pv_lex.specs.declared.kinds.Lexeme.TheVariants as lexeme
+use Rattle.pv_lex.specs.Atoms.{IsAtomOf}
+use Rattle.pv_lex.specs.Marks.{mark_text}
+use Rattle.pv_lex.specs.Lexing.{lexeme_at}
+use Rattle.pv_lex.specs.Lemmas.Lexemes.{atom_found, mark_found, fault_found}
+use Rattle.pv_lex.specs.Lemmas.Seams.{at_seam, behind_byte, at_end_of_bare, gap_leaves}
+use Rattle.pv_lex.specs.Lemmas.JudgedTokens.{tokens_judged}
+use Rattle.pv_text.specs.Reading.{Reader, fault_at, unclosed, closed_at, colon_at, entry_at, or_duplicate, compound_at}
+use Rattle.pv_text.specs.Reading.{opens, behind, core_at}
+use Rattle.pv_text.specs.Reading.{due_at, behind_gap_at, value_at, deeper_at, no_value, first_at}
+use Rattle.pv_text.specs.Stops.{TextStands}
+use Rattle.pv_text.specs.Reads.{LeadsTo, ValuesStand}
+use Rattle.pv_text.proofs.Readers.{list_is}
+use Rattle.pv_text.proofs.Steps.{value_is}
+use Rattle.pv_text.proofs.Whole.{first_read, first_fails}
 
 -- a fault of another kind
-abbrev IsOther : Fault → Type 0
+abbrev IsOther : Fault TextKind → Type 0
 IsOther f = f.kind ≢ fault.BadUtf8
 
--- where the end of the text is of another kind and the bytes are UTF-8, what stops is of another kind
-abbrev AllJudged : (Fault → List ℕ → Fault → Type 0) → Type 0
-AllJudged InnerStops = (at_end : Fault) (bytes : List ℕ) (f : Fault) → InnerStops at_end bytes f → IsOther at_end → IsUtf8 bytes → IsOther f
+-- what follows is UTF-8, or the fault is another
+abbrev IsKept : {A : Type 0} → Result (A × List ℕ) (Fault TextKind) → Type 0
+IsKept o = Told (λ x. IsUtf8 x.1) IsOther o
 
-same_kind : (f g : Fault) → f ≡ g → IsOther g → IsOther f
-same_kind f g e n = subst IsOther (sym e) n
+abbrev Keeps : {A : Type 0} → Reader A → Type 0
+Keeps reader = (bytes : List ℕ) → IsUtf8 bytes → IsKept (reader bytes)
 
 open_end : (total : ℕ) (bytes : List ℕ) → IsOther (unclosed total bytes)
 open_end total bytes = λ e. cc
 
--- ---- in compounds
+kept : {A B : Type 0} (o : Result (A × List ℕ) (Fault TextKind)) (f : A × List ℕ → Result (B × List ℕ) (Fault TextKind))
+    → IsKept o
+    → ((x : A × List ℕ) → IsUtf8 x.1 → IsKept (f x)) → IsKept (o >>= f)
+kept (Ok x) f h g = g x h
+kept (Err e) f h g = h
 
-module _ (total : ℕ) (Inner : List ℕ → Plain → List ℕ → Type 0) (InnerStops : Fault → List ℕ → Fault → Type 0) (leave : AllLeave Inner) (judged : AllJudged InnerStops) where
-  pub items_judged : (commas : Bool) (close : ℕ) → AllJudged (ItemsStop Inner InnerStops commas close)
-  items_judged commas close at_end bytes f (t, w, vs, is, items, n, s) other u = judged at_end w f s other (items_leave Inner leave commas t vs w items (subst IsUtf8 is u))
+skip_keeps : (commas : Bool) (bytes : List ℕ) → IsUtf8 bytes → IsUtf8 (after_blank commas bytes)
+skip_keeps commas bytes u = elim (list_is (after_blank commas bytes)) [
+  | inl e ↦ subst IsUtf8 (sym e) IsUtf8-nil
+  | inr (b, bs, e) ↦
+      let g = gap_found commas bytes b bs e in
+      subst IsUtf8 (sym e) (gap_leaves commas g.0 (b ∷ bs) g.2 (subst IsUtf8 g.1 u))
+]
 
-  colon_judged : (at_end : Fault) (bytes : List ℕ) (f : Fault) → ColonStops total at_end bytes f → IsOther at_end → IsOther f
-  colon_judged at_end bytes f (inl h) other = same_kind f at_end h.1 other
-  colon_judged at_end bytes f (inr (g, b, r, is, gap, first, n, e)) other = same_kind f _ e (λ q. cc)
+-- ---- tokens
 
-  entry_judged : AllJudged (EntryStops total Inner InnerStops)
-  entry_judged at_end bytes f (inl s) other u = judged at_end bytes f s other u
-  entry_judged at_end bytes f (inr (inl (g, a, r, k, is, gap, key, s))) other u = colon_judged at_end r f s other
-  entry_judged at_end bytes f (inr (inr (g, a, h, r, k, is, gap, key, gap', s))) other u =
-      let shape : bytes ≡ (g ++ (a ++ h)) ++ 58 ∷ r = is ∙ sym (simp append_assoc) in
-      judged at_end r f s other (at_seam (g ++ (a ++ h)) r 58 (omega arith) (subst IsUtf8 shape u)).2
+behind_last : (t x r : List ℕ) (b : ℕ) → b < 128 → t ≡ x ++ b ∷ [] → IsUtf8 (t ++ r) → IsUtf8 r
+behind_last t x r b small is u =
+    (at_seam x r b small (subst IsUtf8 (ap (λ (y : List ℕ). y ++ r) is ∙ append_assoc x (b ∷ []) r) u)).2
 
-  pub entries_judged : AllJudged (EntriesStop total Inner InnerStops)
-  entries_judged at_end bytes f (t, w, ps, is, entries, n, s) other u = entry_judged at_end w f s other (entries_leave Inner leave t ps w entries (subst IsUtf8 is u))
+behind_atom : (f : AtomForm) (t : List ℕ) (v : Plain) (r : List ℕ) → IsAtomOf f t v r → IsUtf8 (t ++ r) → IsUtf8 r
+behind_atom form.False t (boolean false) r h u = behind_last t (35 ∷ []) r 102 (omega arith) h u
+behind_atom form.True t (boolean true) r h u = behind_last t (35 ∷ []) r 116 (omega arith) h u
+behind_atom form.Integer t (integer z) r h u = (at_end_of_bare t r h.2 u).1
+behind_atom form.Symbol t (symbol s) r h u = (at_end_of_bare t r h.3 u).1
+behind_atom form.QuotedSymbol t (symbol s) r h u = behind_last t (124 ∷ h.1.0) r 124 (omega arith) h.1.1 u
+behind_atom form.String t (string s) r h u = behind_last t (34 ∷ h.1.0) r 34 (omega arith) h.1.1 u
+behind_atom form.AsciiBytes t (byte_string s) r h u = behind_last t (35 ∷ 34 ∷ h.0) r 34 (omega arith) h.1 u
+behind_atom form.HexBytes t (byte_string s) r h u = behind_last t (35 ∷ 120 ∷ 34 ∷ h.0) r 34 (omega arith) h.1 u
+behind_atom form.Base64Bytes t (byte_string s) r h u = behind_last t (35 ∷ 91 ∷ h.0) r 93 (omega arith) h.1 u
+behind_atom form.Double t (double n) r h u = behind_last t (35 ∷ 120 ∷ 100 ∷ 34 ∷ h.0) r 34 (omega arith) h.1 u
+behind_atom f t v r h u = absurd h
 
-behind_two : (b c : ℕ) (r : List ℕ) → b < 128 → c < 128 → IsUtf8 (b ∷ c ∷ r) → IsUtf8 r
-behind_two b c r l m u = behind_byte c r m (behind_byte b (c ∷ r) l u)
+behind_mark : (m : Mark) (r : List ℕ) → IsUtf8 (mark_text m ++ r) → IsUtf8 r
+behind_mark mark.RecordOpen r u = behind_byte 60 r (omega arith) u
+behind_mark mark.RecordClose r u = behind_byte 62 r (omega arith) u
+behind_mark mark.SequenceOpen r u = behind_byte 91 r (omega arith) u
+behind_mark mark.SequenceClose r u = behind_byte 93 r (omega arith) u
+behind_mark mark.SetOpen r u = behind_byte 123 r (omega arith) (behind_byte 35 (123 ∷ r) (omega arith) u)
+behind_mark mark.DictionaryOpen r u = behind_byte 123 r (omega arith) u
+behind_mark mark.BraceClose r u = behind_byte 125 r (omega arith) u
+behind_mark mark.Colon r u = behind_byte 58 r (omega arith) u
+behind_mark mark.Comma r u = behind_byte 44 r (omega arith) u
+behind_mark mark.Annotation r u = behind_byte 64 r (omega arith) u
+behind_mark mark.Embedded r u = behind_byte 58 r (omega arith) (behind_byte 35 (58 ∷ r) (omega arith) u)
 
-compounds_judged : (total : ℕ) (Inner : Bool → List ℕ → Plain → List ℕ → Type 0) (InnerStops : Bool → Fault → List ℕ → Fault → Type 0) (commas : Bool)
-    → ((c : Bool) → AllLeave (Inner c)) → ((c : Bool) → AllJudged (InnerStops c)) → (bytes : List ℕ) (f : Fault) → CompoundStops total Inner InnerStops commas bytes f → IsUtf8 bytes → IsOther f
-compounds_judged total Inner InnerStops commas leave judged _ _ (in_embedded r f s) u = judged commas _ r f s (open_end total (35 ∷ 58 ∷ r)) (behind_two 35 58 r (omega arith) (omega arith) u)
-compounds_judged total Inner InnerStops commas leave judged _ _ (in_label r f s) u = judged false _ r f s (open_end total (60 ∷ r)) (behind_byte 60 r (omega arith) u)
-compounds_judged total Inner InnerStops commas leave judged _ _ (in_fields g a r l f gap label s) u =
-    items_judged total (Inner false) (InnerStops false) (leave false) (judged false) false 62 _ r f s (open_end total (60 ∷ (g ++ (a ++ r)))) (leave false a l r label (60 ∷ g) u)
-compounds_judged total Inner InnerStops commas leave judged _ _ (in_sequence r f s) u =
-    items_judged total (Inner true) (InnerStops true) (leave true) (judged true) true 93 _ r f s (open_end total (91 ∷ r)) (behind_byte 91 r (omega arith) u)
-compounds_judged total Inner InnerStops commas leave judged _ _ (in_set r f s) u =
-    items_judged total (Inner true) (InnerStops true) (leave true) (judged true) true 125 _ r f s (open_end total (35 ∷ 123 ∷ r)) (behind_two 35 123 r (omega arith) (omega arith) u)
-compounds_judged total Inner InnerStops commas leave judged _ _ (in_dictionary r f s) u =
-    entries_judged total (Inner true) (InnerStops true) (leave true) (judged true) _ r f s (open_end total (123 ∷ r)) (behind_byte 123 r (omega arith) u)
-compounds_judged total Inner InnerStops commas leave judged _ _ (equal_elements w r vs closed same) u = λ e. cc
-compounds_judged total Inner InnerStops commas leave judged _ _ (equal_keys w r ps closed same) u = λ e. cc
+-- ---- what stands in a compound
+
+module _ {A : Type 0} (commas : Bool) (close : ℕ) (at_end : Fault TextKind) (element : Reader A) (small : close < 128)
+    (other : IsOther at_end)
+    (keeps : Keeps element) where
+  abbrev elements : ℕ → Reader (List A)
+  elements k bytes = elements_at (after_blank commas) close at_end element k bytes
+
+  elements_keep : (k : ℕ) → Keeps (elements k)
+  elements_keep zero bytes u = other
+  elements_keep (suc k) bytes u = by (after_blank commas bytes) (skip_keeps commas bytes u) (elements_keep k)
+    where
+      by : (rest : List ℕ) → IsUtf8 rest → Keeps (elements k)
+          → IsKept (elim rest as (λ r. Result (List A × List ℕ) (Fault TextKind)) [
+            | [] ↦ Err at_end
+            | b ∷ bs ↦ if eqb b close then Ok ([], bs) else (element (b ∷ bs) >>= λ x. elements k x.1 >>= λ xs. Ok
+                (x.0 ∷ xs.0, xs.1))
+          ])
+      by [] v again = other
+      by (b ∷ bs) v again =
+          told_cond (λ (x : List A × List ℕ). IsUtf8 x.1) IsOther (eqb b close) (Ok ([], bs))
+          (element (b ∷ bs) >>= λ x. elements k x.1 >>= λ xs. Ok (x.0 ∷ xs.0, xs.1))
+          (λ e. let is = eqb-true b close e in behind_byte b bs (omega (arith, is, small)) v)
+          (λ e. kept (element (b ∷ bs)) _ (keeps (b ∷ bs) v) (λ x w. kept (elements k x.1) _ (again x.1 w) (λ xs z. z)))
+
+  closed_keeps : Keeps (closed_at commas close at_end element)
+  closed_keeps bytes u = elements_keep (length bytes) bytes u
+
+module _ (total : ℕ) (inner : Reader Plain) (at_end : Fault TextKind) (other : IsOther at_end)
+    (keeps : Keeps inner) where
+  colon_keeps : (bytes : List ℕ) → IsUtf8 bytes → Told (λ r. IsUtf8 r) IsOther (colon_at total at_end bytes)
+  colon_keeps bytes u = by (after_blank true bytes) (skip_keeps true bytes u)
+    where
+      by : (rest : List ℕ) → IsUtf8 rest
+          → Told (λ r. IsUtf8 r) IsOther (elim rest as (λ r. Result (List ℕ) (Fault TextKind)) [
+            | [] ↦ Err at_end
+            | b ∷ bs ↦ if eqb b 58 then Ok bs else Err (fault_at total fault.Unexpected (b ∷ bs))
+          ])
+      by [] v = other
+      by (b ∷ bs) v =
+          told_cond (λ (r : List ℕ). IsUtf8 r) IsOther (eqb b 58) (Ok bs)
+          (Err (fault_at total fault.Unexpected (b ∷ bs)))
+          (λ e. let is = eqb-true b 58 e in behind_byte b bs (omega (arith, is)) v) (λ e q. cc)
+
+  abbrev value_behind : Plain → List ℕ → Result ((Plain × Plain) × List ℕ) (Fault TextKind)
+  value_behind k r = inner r >>= λ y. Ok ((k, y.0), y.1)
+
+  entry_keeps : Keeps (entry_at total inner at_end)
+  unfolding entry_at
+  entry_keeps bytes u =
+      kept (inner bytes) _ (keeps bytes u) (λ x v. behind_key x.0 (colon_at total at_end x.1) (colon_keeps x.1 v))
+    where
+      behind_key : (k : Plain) (o : Result (List ℕ) (Fault TextKind)) → Told (λ r. IsUtf8 r) IsOther o
+          → IsKept (o >>= value_behind k)
+      behind_key k (Ok r) v = kept (inner r) _ (keeps r v) (λ y w. w)
+      behind_key k (Err f) n = n
+
+made_keeps : (place : ℕ) (r : List ℕ) → IsUtf8 r → (o : Option Plain) → IsKept (or_duplicate place o >>= λ v. Ok (v, r))
+made_keeps place r u (Some v) = u
+made_keeps place r u None = λ e. cc
+
+module _ (total : ℕ) (inner : Bool → Fault TextKind → Reader Plain) (keeps : (c : Bool) (at_end : Fault TextKind)
+    → IsOther at_end → Keeps (inner c at_end)) where
+  compound_keeps : (commas : Bool) (whole : List ℕ) (m : Mark) → Keeps (compound_at total inner commas whole m)
+  unfolding compound_at
+  compound_keeps commas whole mark.Embedded bytes u =
+      kept (inner commas (unclosed total whole) bytes) _
+      (keeps commas (unclosed total whole) (open_end total whole) bytes u) (λ x v. v)
+  compound_keeps commas whole mark.RecordOpen bytes u =
+      let e = unclosed total whole in
+      kept (inner false e bytes) _ (keeps false e (open_end total whole) bytes u)
+      (λ l v. kept (closed_at false 62 e (inner false e) l.1) _
+      (closed_keeps false 62 e (inner false e) (omega arith) (open_end total whole)
+      (keeps false e (open_end total whole)) l.1 v) (λ fs w. w))
+  compound_keeps commas whole mark.SequenceOpen bytes u =
+      let e = unclosed total whole in
+      kept (closed_at true 93 e (inner true e) bytes) _
+      (closed_keeps true 93 e (inner true e) (omega arith) (open_end total whole) (keeps true e (open_end total whole))
+      bytes u) (λ xs v. v)
+  compound_keeps commas whole mark.SetOpen bytes u =
+      let e = unclosed total whole in
+      kept (closed_at true 125 e (inner true e) bytes) _
+      (closed_keeps true 125 e (inner true e) (omega arith) (open_end total whole) (keeps true e (open_end total whole))
+      bytes u)
+      (λ xs v. made_keeps (total - length whole) xs.1 v (set_from xs.0))
+  compound_keeps commas whole mark.DictionaryOpen bytes u =
+      let e = unclosed total whole in
+      kept (closed_at true 125 e (entry_at total (inner true e) e) bytes) _
+      (closed_keeps true 125 e (entry_at total (inner true e) e) (omega arith) (open_end total whole)
+      (entry_keeps total (inner true e) e (open_end total whole) (keeps true e (open_end total whole))) bytes u)
+      (λ ps v. made_keeps (total - length whole) ps.1 v (dictionary_from ps.0))
+  compound_keeps commas whole m bytes u = λ e. cc
 
 -- ---- where a value is due
 
-core_judged : (total : ℕ) (commas : Bool) (Deeper : List ℕ → Fault → Type 0) → ((bytes : List ℕ) (f : Fault) → Deeper bytes f → IsUtf8 bytes → IsOther f)
-    → (bytes : List ℕ) (f : Fault) → CoreStops total commas Deeper bytes f → IsUtf8 bytes → IsOther f
-core_judged total commas Deeper judged _ _ (at_token bytes k t) u = tokens_judged bytes k t u
-core_judged total commas Deeper judged _ _ (misplaced b r m) u = λ e. cc
-core_judged total commas Deeper judged _ _ (deeper bytes f d) u = judged bytes f d u
+module _ (total : ℕ) (commas : Bool) (deep : List ℕ → Mark → Reader Plain) (keeps : (whole : List ℕ) (m : Mark)
+    → Keeps (deep whole m)) where
+  core_keeps : (b : ℕ) (bs : List ℕ) → after_blank commas (b ∷ bs) ≡ b ∷ bs → IsUtf8 (b ∷ bs)
+      → IsKept (core_at total deep (b ∷ bs))
+  unfolding core_at behind
+  core_keeps b bs stays u = by (lexeme_at (b ∷ bs)) refl
+    where
+      by : (o : Result (Lexeme × List ℕ) TextKind) → lexeme_at (b ∷ bs) ≡ o
+          → IsKept (within (total - length (b ∷ bs)) o >>= λ x. behind total (deep (b ∷ bs)) (b ∷ bs) x)
+      by (Err k) e = tokens_judged (b ∷ bs) k (fault_found commas b bs k stays e) u
+      by (Ok (lexeme.Atom f v, r)) e =
+          let h = atom_found (b ∷ bs) f v r e in
+          behind_atom h.2.0 h.0 v r h.2.1 (subst IsUtf8 h.1 u)
+      by (Ok (lexeme.Mark m, r)) e =
+          told_cond (λ (x : Plain × List ℕ). IsUtf8 x.1) IsOther (opens m) (deep (b ∷ bs) m r)
+          (Err (fault_at total fault.Unexpected (b ∷ bs)))
+          (λ o. keeps (b ∷ bs) m r (behind_mark m r (subst IsUtf8 (mark_found (b ∷ bs) m r e) u))) (λ o q. cc)
 
-due_judged : (total : ℕ) (Core : List ℕ → Plain → List ℕ → Type 0) (Stop : List ℕ → Fault → Type 0) (commas : Bool) → AllLeave Core
-    → ((bytes : List ℕ) (f : Fault) → Stop bytes f → IsUtf8 bytes → IsOther f) → AllJudged (DueStops total Core Stop commas)
-due_judged total Core Stop commas leave judged _ _ _ (ended at_end bytes last) other u = other
-due_judged total Core Stop commas leave judged _ _ _ (in_core at_end f g bytes gap s) other u = judged bytes f s (gap_leaves commas g bytes gap u)
-due_judged total Core Stop commas leave judged _ _ _ (in_annotation at_end f g bytes gap d) other u =
-    due_judged total Core Stop commas leave judged _ bytes f d (open_end total (64 ∷ bytes)) (at_seam g bytes 64 (omega arith) u).2
-due_judged total Core Stop commas leave judged _ _ _ (past_annotation at_end f g h a bytes w gap gap' an d) other u =
-    let inside : IsUtf8 (h ++ (a ++ bytes)) = (at_seam g (h ++ (a ++ bytes)) 64 (omega arith) u).2 in
-    due_judged total Core Stop commas leave judged _ bytes f d (open_end total (64 ∷ (h ++ (a ++ bytes)))) (annotated_leave Core commas leave a w bytes an h inside)
+  abbrev due : ℕ → Fault TextKind → List ℕ → Reader Plain
+  due k at_end pending bytes = due_at total (core_at total deep) commas k at_end pending bytes
+
+  due_keeps : (k : ℕ) (at_end : Fault TextKind) (pending bytes : List ℕ) → IsOther at_end
+      → after_blank commas bytes ≡ bytes → IsUtf8 bytes
+      → IsKept (due k at_end pending bytes)
+  due_keeps zero at_end pending bytes other clear u = other
+  due_keeps (suc k) at_end pending [] other clear u = other
+  due_keeps (suc k) at_end pending (b ∷ bs) other clear u =
+      told_cond (λ (x : Plain × List ℕ). IsUtf8 x.1) IsOther (eqb b 64) _ _
+      (λ e. let is = eqb-true b 64 e in
+      due_keeps k (unclosed total (b ∷ bs)) ((total - length (b ∷ bs)) ∷ pending) (after_blank commas bs)
+      (open_end total (b ∷ bs)) (after_twice commas bs)
+      (skip_keeps commas bs (behind_byte b bs (omega (arith, is)) u)))
+      (λ e. kept (core_at total deep (b ∷ bs)) _ (core_keeps b bs clear u) (λ x v. next pending x v
+      (λ p ps. due_keeps k (record { kind = fault.Unclosed; place = p }) ps (after_blank commas x.1) (λ q. cc)
+      (after_twice commas x.1) (skip_keeps commas x.1 v))))
+    where
+      next : (pending : List ℕ) (x : Plain × List ℕ) → IsUtf8 x.1
+          → ((p : ℕ) (ps : List ℕ)
+          → IsKept (due k (record { kind = fault.Unclosed; place = p }) ps (after_blank commas x.1)))
+          → IsKept (elim pending as (λ q. Result (Plain × List ℕ) (Fault TextKind)) [
+            | [] ↦ Ok x
+            | p ∷ ps ↦ due k (record { kind = fault.Unclosed; place = p }) ps (after_blank commas x.1)
+          ])
+      next [] x v again = v
+      next (p ∷ ps) x v again = again p ps
+
+  behind_gap_keeps : (at_end : Fault TextKind) → IsOther at_end
+      → Keeps (behind_gap_at total (core_at total deep) commas at_end)
+  behind_gap_keeps at_end other bytes u =
+      due_keeps (length (after_blank commas bytes)) at_end [] (after_blank commas bytes) other
+      (after_twice commas bytes) (skip_keeps commas bytes u)
 
 -- ---- values
 
-stops_judged : (total n : ℕ) (commas : Bool) → AllJudged (StopsIn total n commas)
-stops_judged total zero commas =
-    due_judged total IsAtom (CoreStops total commas (IsTooDeep total)) commas atoms_leave (core_judged total commas (IsTooDeep total) (λ bytes f d u. same_kind f _ d.1 (λ e. cc)))
-stops_judged total (suc n) commas =
-    due_judged total (IsCompoundOf (SpellsIn n) commas) (CoreStops total commas (CompoundStops total (SpellsIn n) (StopsIn total n) commas)) commas (cores_leave (SpellsIn n) commas (values_leave n))
-    (core_judged total commas _ (compounds_judged total (SpellsIn n) (StopsIn total n) commas (values_leave n) (stops_judged total n)))
+deeper_keeps : (total d : ℕ) (commas : Bool) (whole : List ℕ) (m : Mark) → Keeps (deeper_at total d commas whole m)
+deeper_keeps total zero commas whole m bytes u = λ e. cc
+deeper_keeps total (suc d) commas whole m bytes u =
+    compound_keeps total (value_at total d)
+    (λ c at_end other. subst (λ (r : Reader Plain). Keeps r) (value_is total d c at_end)
+    (behind_gap_keeps total c (deeper_at total d c) (deeper_keeps total d c) at_end other))
+    commas whole m bytes u
+
+first_keeps : (total : ℕ) → Keeps (first_at total)
+first_keeps total =
+    subst (λ (r : Reader Plain). Keeps r) (value_is total 64 false (no_value total))
+    (behind_gap_keeps total false (deeper_at total 64 false) (deeper_keeps total 64 false) (no_value total) (λ e. cc))
 
 -- ---- whole texts
 
-stops_other : (total : ℕ) (bytes : List ℕ) (f : Fault) → StopsIn total READ_DEPTH false (no_value total) bytes f → IsUtf8 bytes → IsOther f
-stops_other total bytes f s u = stops_judged total READ_DEPTH false (no_value total) bytes f s (λ e. cc) u
+stops_other : (total : ℕ) (bytes : List ℕ) (f : Fault TextKind) → first_at total bytes ≡ Err f → IsUtf8 bytes
+    → IsOther f
+stops_other total bytes f e u =
+    told_err (λ (x : Plain × List ℕ). IsUtf8 x.1) IsOther (first_at total bytes) f (first_keeps total bytes u) e
 
-leads_leave : (bytes : List ℕ) (v : Plain) (rest : List ℕ) → LeadsTo bytes v rest → IsUtf8 bytes → IsUtf8 rest
-leads_leave bytes v rest (g, t, is, gap, s) u = values_leave READ_DEPTH false t v rest s g (subst IsUtf8 is u)
+lead_on : (bytes : List ℕ) (vs : List Plain) (rest : List ℕ) → LeadsOver LeadsTo bytes vs rest → IsUtf8 bytes
+    → IsUtf8 rest
+lead_on bytes [] rest is u = subst IsUtf8 is u
+lead_on bytes (v ∷ vs) rest (more, to, leads) u =
+    lead_on more vs rest leads (told_ok (λ (x : Plain × List ℕ). IsUtf8 x.1) IsOther (first_at 0 bytes) (v, more)
+    (first_keeps 0 bytes u) (first_read 0 bytes v more to))
 
-all_leave : (bytes : List ℕ) (vs : List Plain) (rest : List ℕ) → LeadsOver bytes vs rest → IsUtf8 bytes → IsUtf8 rest
-all_leave bytes [] rest is u = subst IsUtf8 is u
-all_leave bytes (v ∷ vs) rest (more, first, others) u = all_leave more vs rest others (leads_leave bytes v more first u)
+pub first_judged : (text : List ℕ) (f : Fault TextKind) → TextStands text f → f.kind ≡ fault.BadUtf8 → (IsUtf8 text → ⊥)
+    × (f.place ≡ 0)
+first_judged text f (inl h) e = (h.0, ap (λ (x : Fault TextKind). x.place) h.1)
+first_judged text f (inr h) e = absurd (stops_other (length text) text f (first_fails (length text) text f h.1) h.0 e)
 
-pub first_judged : (text : List ℕ) (f : Fault) → TextStands text f → f.kind ≡ fault.BadUtf8 → (IsUtf8 text → ⊥) × (f.place ≡ 0)
-first_judged text f (inl h) e = (h.0, ap (λ (x : Fault). x.place) h.1)
-first_judged text f (inr h) e = absurd (stops_other (length text) text f h.1 h.0 e)
-
-pub all_judged : (text : List ℕ) (f : Fault) → ValuesStand text f → f.kind ≡ fault.BadUtf8 → (IsUtf8 text → ⊥) × (f.place ≡ 0)
-all_judged text f (inl h) e = (h.0, ap (λ (x : Fault). x.place) h.1)
-all_judged text f (inr (u, vs, rest, leads, stops)) e = absurd (stops_other (length text) rest f stops.1 (all_leave text vs rest leads u) e)
+pub all_judged : (text : List ℕ) (f : Fault TextKind) → ValuesStand text f → f.kind ≡ fault.BadUtf8 → (IsUtf8 text → ⊥)
+    × (f.place ≡ 0)
+all_judged text f (inl h) e = (h.0, ap (λ (x : Fault TextKind). x.place) h.1)
+all_judged text f (inr (u, vs, rest, leads, stops)) e =
+    absurd (stops_other (length text) rest f (first_fails (length text) rest f stops.1) (lead_on text vs rest leads u)
+    e)

@@ -1,82 +1,87 @@
--- Values level by level: what a value without annotations is, at each number of levels that may be opened.
-use Rattle.std.proofs.Common.{◌≡◌, ◌≢◌, ℕ, zero, suc, Bool, true, false, List, [], ◌∷◌, length, Err, refl, sym, ap, ◌∙◌, length-append, inl, inr, arith}
-use Rattle.pv_value.specs.Plain.{Plain, boolean, double, integer, string, byte_string, symbol, record_of, sequence, set_of, dictionary, embedded}
-use Rattle.pv_lex.specs.Results.{Fault}
-use Rattle.pv_text.specs.Gaps.{after_blank}
-use Rattle.pv_text.specs.Spells.{IsAtom, IsCompoundOf, Annotated, SpellsIn}
-use Rattle.pv_text.specs.Stops.{CompoundStops, CoreStops, IsTooDeep, DueStops, StopsIn}
-use Rattle.pv_text.specs.Reading.{core_at, deeper_at, value_at}
-use Rattle.pv_text.proofs.Promised.{AtomsBegin}
-use Rattle.pv_text.proofs.DueStops.{CoreBegins, ValueBegins, annotated_begins}
-use Rattle.pv_text.proofs.Marks.{compound_begins}
-use Rattle.pv_text.proofs.Steps.{due_read, due_fails, value_is}
-use Rattle.pv_text.proofs.DueFaults.{result_is}
+-- Values, level by level.
+use Rattle.std.proofs.Common.{◌≡◌, ℕ, zero, suc, Bool, List, ◌++◌, Result, Ok, Err, refl, sym, ap, ◌∙◌, subst, inl, inr}
+use Rattle.pv_value.specs.Plain.{Plain}
+use Rattle.pv_read.specs.Results.{Fault}
+use Rattle.pv_read.specs.Lemmas.Binds.{err}
+use Rattle.pv_lex.specs.declared.faults.TextKind.{TextKind}
+use Rattle.pv_lex.specs.declared.faults.TextKind.TheVariants.{TooDeep}
+use Rattle.pv_lex.specs.declared.kinds.Mark.{Mark}
+use Rattle.pv_lex.specs.Marks.{mark_text}
+use Rattle.pv_text.specs.Spells.{Spelling, BehindGap, IsCompound, IsCoreIn, SpellsIn}
+use Rattle.pv_text.specs.Stops.{Stopping, IsTooDeep, CompoundStops, CoreStopsIn, StopsIn}
+use Rattle.pv_text.specs.Reading.{Reader, fault_at, core_at, too_deep, compound_at, deeper_at, value_at}
+use Rattle.pv_text.specs.Lemmas.Begins.{BeginsUnannotated, unannotated, opening_begins, core_begins}
+use Rattle.pv_text.proofs.Readers.{IsTrueOf, IsReader, SkipsGaps}
+use Rattle.pv_text.proofs.Dues.{ReadsCores, due_reads, due_skips}
+use Rattle.pv_text.proofs.Steps.{value_is}
+use Rattle.pv_text.proofs.Cores.{core_opens, core_atom, cores_read}
+use Rattle.pv_text.proofs.Compounds.{compound_tells, compound_read, compound_told}
 
--- ---- the levels by one name
+-- ---- too deep
 
-abbrev pub CoreIn : ℕ → Bool → List ℕ → Plain → List ℕ → Type 0
-CoreIn zero commas = IsAtom
-CoreIn (suc d) commas = IsCompoundOf (SpellsIn d) commas
+too_deep_told : (total : ℕ) (commas : Bool) (bytes : List ℕ) (f : Fault TextKind) → IsTooDeep total bytes f
+    → (core_at total (too_deep total) bytes ≡ Err f) × BeginsUnannotated commas bytes
+too_deep_told total commas bytes f (m, r, is, o, e) =
+    subst (λ (y : List ℕ). (core_at total (too_deep total) y ≡ Err f) × BeginsUnannotated commas y) (sym is) (
+      core_opens total (too_deep total) m r o ∙ ap (λ (y : List ℕ). err {A = Plain × List ℕ} (fault_at total TooDeep y))
+          (sym is) ∙ ap (λ (q : Fault TextKind). err {A = Plain × List ℕ} q) e,
+      unannotated commas (mark_text m ++ r) (opening_begins commas m r o),
+    )
 
-abbrev pub CoreStopsIn : ℕ → ℕ → Bool → List ℕ → Fault → Type 0
-CoreStopsIn total zero commas = CoreStops total commas (IsTooDeep total)
-CoreStopsIn total (suc d) commas = CoreStops total commas (CompoundStops total (SpellsIn d) (StopsIn total d) commas)
+-- ---- level by level
 
-pub spells_so : (d : ℕ) (commas : Bool) (t : List ℕ) (v : Plain) (r : List ℕ) → SpellsIn d commas t v r → Annotated (CoreIn d commas) commas t v r
-spells_so zero commas t v r h = h
-spells_so (suc d) commas t v r h = h
+abbrev pub Cores : ℕ → ℕ → Type 0
+Cores total d = (c : Bool) → ReadsCores c (core_at total (deeper_at total d c)) (IsCoreIn d c) (CoreStopsIn total d c)
 
-pub so_spells : (d : ℕ) (commas : Bool) (t : List ℕ) (v : Plain) (r : List ℕ) → Annotated (CoreIn d commas) commas t v r → SpellsIn d commas t v r
-so_spells zero commas t v r h = h
-so_spells (suc d) commas t v r h = h
+abbrev pub Value : ℕ → Bool → Spelling Plain
+Value d c t v r = BehindGap c (SpellsIn d c) t v r
 
-pub stops_so : (total d : ℕ) (commas : Bool) (at_end : Fault) (bytes : List ℕ) (f : Fault) → StopsIn total d commas at_end bytes f → DueStops total (CoreIn d commas) (CoreStopsIn total d commas) commas at_end bytes f
-stops_so total zero commas at_end bytes f h = h
-stops_so total (suc d) commas at_end bytes f h = h
+reads : (total d : ℕ) → Cores total d → (c : Bool) (at_end : Fault TextKind)
+    → IsReader (value_at total d c at_end) (Value d c) (StopsIn total d c at_end)
+reads total d cores c at_end =
+    subst (λ (r : Reader Plain). IsReader r (Value d c) (StopsIn total d c at_end)) (value_is total d c at_end)
+    (due_reads total c (core_at total (deeper_at total d c)) (IsCoreIn d c) (CoreStopsIn total d c) (cores c) at_end)
 
-pub so_stops : (total d : ℕ) (commas : Bool) (at_end : Fault) (bytes : List ℕ) (f : Fault) → DueStops total (CoreIn d commas) (CoreStopsIn total d commas) commas at_end bytes f → StopsIn total d commas at_end bytes f
-so_stops total zero commas at_end bytes f h = h
-so_stops total (suc d) commas at_end bytes f h = h
+skips : (total d : ℕ) → Cores total d → (c : Bool) (at_end : Fault TextKind)
+    → SkipsGaps c at_end (value_at total d c at_end) (Value d c)
+skips total d cores c at_end =
+    subst (λ (r : Reader Plain). SkipsGaps c at_end r (Value d c)) (value_is total d c at_end)
+    (due_skips total c (core_at total (deeper_at total d c)) (IsCoreIn d c) (CoreStopsIn total d c) (cores c) at_end)
 
-pub value_ended : (total d : ℕ) (commas : Bool) (at_end : Fault) → value_at total d commas at_end [] ≡ Err at_end
-value_ended total d commas at_end = value_is total d commas at_end []
+module _ (total d : ℕ) (reads : (c : Bool) (at_end : Fault TextKind) → IsReader (value_at total d c at_end) (Value d c)
+    (StopsIn total d c at_end))
+    (skips : (c : Bool) (at_end : Fault TextKind) → SkipsGaps c at_end (value_at total d c at_end) (Value d c))
+    (c : Bool) where
+  abbrev deep : List ℕ → Mark → Reader Plain
+  deep = compound_at total (value_at total d) c
 
--- where no gap stands first and no annotation, a value is what it is without annotations
-pub value_alone : (total d : ℕ) (commas : Bool) (at_end : Fault) (b : ℕ) (bs : List ℕ) → after_blank commas (b ∷ bs) ≡ b ∷ bs → b ≢ 64 → value_at total d commas at_end (b ∷ bs) ≡ core_at total (deeper_at total d commas) (b ∷ bs)
-value_alone total d commas at_end b bs e n =
-    elim (result_is (core_at total (deeper_at total d commas) (b ∷ bs))) [
-      | inl (x, c) ↦ value_is total d commas at_end (b ∷ bs) ∙ due_read total (core_at total (deeper_at total d commas)) commas (length bs) at_end [] (b ∷ bs) b bs x.0 x.1 e n c ∙ sym c
-      | inr (q, c) ↦ value_is total d commas at_end (b ∷ bs) ∙ due_fails total (core_at total (deeper_at total d commas)) commas (length bs) at_end q [] (b ∷ bs) b bs e n c ∙ sym c
-    ]
+  abbrev Deeper : Stopping
+  Deeper bytes f = CompoundStops total (Value d) (StopsIn total d) c bytes f
 
--- ---- what a value begins with
+  deep_read : (t : List ℕ) (v : Plain) (r : List ℕ) → IsCoreIn (suc d) c t v r → core_at total deep (t ++ r) ≡ Ok (v, r)
+  deep_read t v r (inl a) = core_atom total deep t v r a
+  deep_read t v r (inr h) = compound_read total (value_at total d) (Value d) (StopsIn total d) reads skips c t v r h
 
--- an atom is one whatever follows, and at the end too
-atom_alone : (t : List ℕ) (v : Plain) (r : List ℕ) → IsAtom t v r → IsAtom t v []
-atom_alone t (boolean true) r h = h
-atom_alone t (boolean false) r h = h
-atom_alone t (double n) r h = h
-atom_alone t (integer z) r (bare, is, ends) = (bare, is, refl)
-atom_alone t (string s) r h = h
-atom_alone t (byte_string s) r h = h
-atom_alone t (symbol s) r (utf8, inl q) = (utf8, inl q)
-atom_alone t (symbol s) r (utf8, inr (is, bare, ends)) = (utf8, inr (is, bare, refl))
-atom_alone t (record_of l fs) r h = h
-atom_alone t (sequence xs) r h = h
-atom_alone t (set_of xs) r h = h
-atom_alone t (dictionary es) r h = h
-atom_alone t (embedded x) r h = h
+  as_core : (bytes : List ℕ) (o : Result (Plain × List ℕ) (Fault TextKind))
+      → IsTrueOf (IsCompound (Value d) c) Deeper bytes o
+      → IsTrueOf (IsCoreIn (suc d) c) Deeper bytes o
+  as_core bytes (Ok x) h = (h.0, h.1, inr h.2)
+  as_core bytes (Err f) h = h
 
-module _ (atoms_begin : AtomsBegin) where
-  atom_begins : (commas : Bool) → CoreBegins commas IsAtom
-  atom_begins commas t v r a =
-      let h = atoms_begin commas t v [] (atom_alone t v r a) in
-      (atoms_begin commas t v r a, omega (arith, ap length h.2, length-append t [], length-append t r))
+  deep_cores : ReadsCores c (core_at total deep) (IsCoreIn (suc d) c) (CoreStopsIn total (suc d) c)
+  deep_cores =
+      cores_read total c deep (IsCoreIn (suc d) c) Deeper (core_begins (suc d) c) (λ t v r a. inl a) deep_read
+      (λ m bs o. as_core (mark_text m ++ bs) (deep (mark_text m ++ bs) m bs)
+      (compound_tells total (value_at total d) (Value d) (StopsIn total d) reads skips c m bs o))
+      (compound_told total (value_at total d) (Value d) (StopsIn total d) reads skips c)
 
-  pub core_begins : (d : ℕ) (commas : Bool) → CoreBegins commas (CoreIn d commas)
-  core_begins zero commas t v r a = atom_begins commas t v r a
-  core_begins (suc d) commas t v r (inl a) = atom_begins commas t v r a
-  core_begins (suc d) commas t v r (inr c) = compound_begins (SpellsIn d) commas t v r c
+cores : (total d : ℕ) → Cores total d
+cores total zero c =
+    cores_read total c (too_deep total) (IsCoreIn zero c) (IsTooDeep total) (core_begins zero c) (λ t v r a. a)
+    (core_atom total (too_deep total))
+    (λ m bs o. (m, bs, refl, o, refl)) (too_deep_told total c)
+cores total (suc d) c = deep_cores total d (reads total d (cores total d)) (skips total d (cores total d)) c
 
-  pub value_begins : (d : ℕ) (commas : Bool) → ValueBegins commas (SpellsIn d commas)
-  value_begins d commas t v r s = annotated_begins commas (CoreIn d commas) (core_begins d commas) t v r (spells_so d commas t v r s)
+pub values_read : (total d : ℕ) (c : Bool) (at_end : Fault TextKind)
+    → IsReader (value_at total d c at_end) (BehindGap c (SpellsIn d c)) (StopsIn total d c at_end)
+values_read total d = reads total d (cores total d)

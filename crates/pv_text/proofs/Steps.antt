@@ -1,138 +1,179 @@
--- One step of each part of the reader: of its loops, by what follows the gap, and of its chains, by what each link gives.
-use Rattle.std.proofs.Common.{◌≡◌, ◌≢◌, ℕ, zero, suc, ◌-◌, Bool, true, false, List, [], ◌∷◌, ◌++◌, length, Result, Ok, Err, refl, ap, append_assoc}
-use Rattle.std.proofs.lemmas.Bool.{ne_eqb, eq-eqb}
+-- One step where a value is due, and the loop that takes these steps.
+use Rattle.std.specs.Prelude.{reverse}
+use Rattle.std.proofs.lemmas.List.{reverse-append}
+use Rattle.std.proofs.Common.{◌≡◌, ◌≢◌, ℕ, zero, suc, ◌+◌, ◌-◌, ◌<◌, Bool, List, [], ◌∷◌, ◌++◌, length, Result, Ok, Err}
+use Rattle.std.proofs.Common.{refl, sym, ap, ◌∙◌, append-nil, arith}
+use Rattle.std.proofs.lemmas.Bool.{ne_eqb}
 use Rattle.pv_value.specs.Plain.{Plain}
-use Rattle.pv_lex.specs.Results.{Fault, ◌>>=◌}
-use Rattle.pv_lex.specs.Lexing.{before, token_at}
-use Rattle.pv_lex.specs.declared.kinds.TokenKind.{TokenKind}
+use Rattle.pv_read.specs.Results.{Fault}
+use Rattle.pv_read.specs.Elements.{elements_at}
+use Rattle.pv_read.specs.Lemmas.Elements.{elements_none, elements_end, elements_fail, elements_step}
+use Rattle.pv_read.specs.Lemmas.Fronts.{behind_front}
+use Rattle.pv_lex.specs.Gaps.{after_blank}
 use Rattle.pv_lex.specs.declared.faults.TextKind.{TextKind}
-use Rattle.pv_lex.specs.declared.faults.TextKind.TheVariants.{Unclosed, Unexpected}
-use Rattle.pv_text.specs.Gaps.{after_blank}
-use Rattle.pv_text.specs.Reading.{fault_at, unclosed, atom_of, opens, behind, core_at, deeper_at, due_at, value_at, items_at, colon_at, entry_at, entries_at}
+use Rattle.pv_lex.specs.declared.faults.TextKind.TheVariants.{Unclosed}
+use Rattle.pv_text.specs.Reading.{Reader, unclosed, due_at, behind_gap_at, closed_at, core_at, deeper_at, value_at}
 
--- ---- a value without annotations, by its token
+abbrev pub inside : ℕ → Fault TextKind
+inside p = record { kind = Unclosed; place = p }
 
-module _ (total : ℕ) (deeper : List ℕ → TokenKind → List ℕ → Result (Plain × List ℕ) Fault) (whole : List ℕ) where
-  -- behind a mark that opens a level stands what is deeper
-  pub core_opens : (k : TokenKind) (r : List ℕ) → token_at whole ≡ Ok (k, r) → opens k ≡ true → core_at total deeper whole ≡ deeper whole k r
-  unfolding core_at behind
-  core_opens k r e o = rw (e, o)
+module _ (total : ℕ) (commas : Bool) (core : Reader Plain) where
+  abbrev due : ℕ → Fault TextKind → List ℕ → Reader Plain
+  due k at_end pending bytes = due_at total core commas k at_end pending bytes
 
-  pub token_fails : (k : TextKind) → token_at whole ≡ Err k → core_at total deeper whole ≡ Err (fault_at total k whole)
-  unfolding core_at
-  token_fails k e = rw e
+  -- what comes behind a value that was due, before those that are due to these places
+  abbrev pub goes_on : ℕ → List ℕ → Plain → List ℕ → Result (Plain × List ℕ) (Fault TextKind)
+  goes_on k [] v r = Ok (v, r)
+  goes_on k (p ∷ ps) v r = due_at total core commas k (inside p) ps (after_blank commas r)
 
-  pub atom_fails : (k : TokenKind) (r : List ℕ) (f : TextKind) → token_at whole ≡ Ok (k, r) → opens k ≡ false → atom_of k (before whole r) ≡ Err f → core_at total deeper whole ≡ Err (fault_at total f whole)
-  unfolding core_at behind
-  atom_fails k r f e o a = rw (e, o, a)
+  pub due_fails : (k : ℕ) (at_end f : Fault TextKind) (pending : List ℕ) (b : ℕ) (bs : List ℕ) → b ≢ 64
+      → core (b ∷ bs) ≡ Err f
+      → due (suc k) at_end pending (b ∷ bs) ≡ Err f
+  due_fails k at_end f pending b bs n h = rw (due_at, ne_eqb b 64 n, h)
 
-  pub atom_gives : (k : TokenKind) (r : List ℕ) (v : Plain) → token_at whole ≡ Ok (k, r) → opens k ≡ false → atom_of k (before whole r) ≡ Ok v → core_at total deeper whole ≡ Ok (v, r)
-  unfolding core_at behind
-  atom_gives k r v e o a = rw (e, o, a)
+  pub due_read : (k : ℕ) (at_end : Fault TextKind) (pending : List ℕ) (b : ℕ) (bs : List ℕ) (v : Plain) (r : List ℕ)
+      → b ≢ 64
+      → core (b ∷ bs) ≡ Ok (v, r) → due (suc k) at_end pending (b ∷ bs) ≡ goes_on k pending v r
+  due_read k at_end [] b bs v r n h = rw (due_at, ne_eqb b 64 n, h)
+  due_read k at_end (p ∷ ps) b bs v r n h = rw (due_at, ne_eqb b 64 n, h)
 
--- ---- where a value is due
-
--- what comes behind a value that was due, before those that are due to these places
-abbrev pub goes_on_at : ℕ → (List ℕ → Result (Plain × List ℕ) Fault) → Bool → ℕ → List ℕ → Plain → List ℕ → Result (Plain × List ℕ) Fault
-goes_on_at total core commas k [] v r = Ok (v, r)
-goes_on_at total core commas k (p ∷ ps) v r = due_at total core commas k (record { kind = Unclosed; place = p }) ps r
-
-module _ (total : ℕ) (core : List ℕ → Result (Plain × List ℕ) Fault) (commas : Bool) where
-  pub due_none : (k : ℕ) (at_end : Fault) (pending bytes : List ℕ) → after_blank commas bytes ≡ [] → due_at total core commas k at_end pending bytes ≡ Err at_end
-  due_none zero at_end pending bytes e = refl
-  due_none (suc k) at_end pending bytes e = rw (e, due_at)
-
-  pub due_mark : (k : ℕ) (at_end : Fault) (pending bytes bs : List ℕ) → after_blank commas bytes ≡ 64 ∷ bs
-      → due_at total core commas (suc k) at_end pending bytes ≡ due_at total core commas k (unclosed total (64 ∷ bs)) ((total - length (64 ∷ bs)) ∷ pending) bs
-  due_mark k at_end pending bytes bs e = rw (e, due_at)
-
-  pub due_fails : (k : ℕ) (at_end f : Fault) (pending bytes : List ℕ) (b : ℕ) (bs : List ℕ) → after_blank commas bytes ≡ b ∷ bs → b ≢ 64 → core (b ∷ bs) ≡ Err f
-      → due_at total core commas (suc k) at_end pending bytes ≡ Err f
-  due_fails k at_end f pending bytes b bs e n h = rw (e, due_at, ne_eqb b 64 n, h)
-
-  pub due_read : (k : ℕ) (at_end : Fault) (pending bytes : List ℕ) (b : ℕ) (bs : List ℕ) (v : Plain) (r : List ℕ) → after_blank commas bytes ≡ b ∷ bs → b ≢ 64 → core (b ∷ bs) ≡ Ok (v, r)
-      → due_at total core commas (suc k) at_end pending bytes ≡ goes_on_at total core commas k pending v r
-  due_read k at_end [] bytes b bs v r e n h = rw (e, due_at, ne_eqb b 64 n, h)
-  due_read k at_end (p ∷ ps) bytes b bs v r e n h = rw (e, due_at, ne_eqb b 64 n, h)
-
--- a value is what is due, with nothing due behind it
-pub value_is : (total d : ℕ) (commas : Bool) (at_end : Fault) (bytes : List ℕ) → value_at total d commas at_end bytes ≡ due_at total (core_at total (deeper_at total d commas)) commas (length bytes) at_end [] bytes
+-- a value is what is behind a gap and annotations
+pub value_is : (total d : ℕ) (c : Bool) (at_end : Fault TextKind)
+    → behind_gap_at total (core_at total (deeper_at total d c)) c at_end ≡ value_at total d c at_end
 unfolding value_at
-value_is total zero commas at_end bytes = refl
-value_is total (suc d) commas at_end bytes = refl
+value_is total zero c at_end = refl
+value_is total (suc d) c at_end = refl
 
--- ---- up to the close of a compound
+pub no_items : {A : Type 0} (xs : List A) → length xs ≡ 0 → xs ≡ []
+no_items [] e = refl
+no_items (x ∷ xs) e = cc
 
--- what was read before, and what is read now
-abbrev pub with_front : {A : Type 0} → List A → Result (List A × List ℕ) Fault → Result (List A × List ℕ) Fault
-with_front front read = read >>= λ x. Ok (front ++ x.0, x.1)
+-- ---- the loop of read_value, whose stack of places has its top at the end
 
-pub front_none : {A : Type 0} (o : Result (List A × List ℕ) Fault) → o ≡ with_front [] o
-front_none (Ok x) = refl
-front_none (Err e) = refl
+module _ (total d : ℕ) (commas : Bool) (at_first : Fault TextKind) (bytes : List ℕ) where
+  abbrev core : Reader Plain
+  core = core_at total (deeper_at total d commas)
 
-pub front_more : {A : Type 0} (front more : List A) (o : Result (List A × List ℕ) Fault) → with_front (front ++ more) o ≡ with_front front (with_front more o)
-front_more front more (Err f) = refl
-front_more {A} front more (Ok r) = ap (λ (ys : List A). Ok (ys, r.1)) (append_assoc front more r.0)
+  -- what is left to do leads to the value
+  abbrev pub Leads : ℕ → Fault TextKind → List ℕ → List ℕ → Type 0
+  Leads n at_end pending whole =
+      due_at total (core_at total (deeper_at total d commas)) commas n at_end (reverse pending) whole ≡ value_at total d
+      commas at_first bytes
 
-module _ (inner : List ℕ → Result (Plain × List ℕ) Fault) (commas : Bool) (close : ℕ) (at_end : Fault) where
-  pub items_none : (k : ℕ) (bytes : List ℕ) → after_blank commas bytes ≡ [] → items_at inner commas close at_end k bytes ≡ Err at_end
-  items_none zero bytes e = refl
-  items_none (suc k) bytes e = rw (e, items_at)
+  pub leads_first : (n : ℕ) (whole : List ℕ) → n ≡ length whole → whole ≡ after_blank commas bytes
+      → Leads n at_first [] whole
+  leads_first n whole l e =
+      ap (λ (k : ℕ). due_at total core commas k at_first [] whole) l
+      ∙ ap (λ (y : List ℕ). due_at total core commas (length y) at_first [] y) e
+      ∙ ap (λ (r : Reader Plain). r bytes) (value_is total d commas at_first)
 
-  pub items_close : (k : ℕ) (bytes : List ℕ) (b : ℕ) (bs : List ℕ) → after_blank commas bytes ≡ b ∷ bs → b ≡ close → items_at inner commas close at_end (suc k) bytes ≡ Ok ([], bs)
-  items_close k bytes b bs e c = rw (e, items_at, eq-eqb b close c)
+  pub leads_to_end : (n : ℕ) (at_end : Fault TextKind) (pending whole : List ℕ) → Leads n at_end pending whole
+      → length whole ≡ 0
+      → value_at total d commas at_first bytes ≡ Err at_end
+  leads_to_end n at_end pending whole i z =
+      sym i ∙ ap (due_at total core commas n at_end (reverse pending)) (no_items whole z) ∙ none n
+    where
+      none : (n : ℕ) → due_at total core commas n at_end (reverse pending) [] ≡ Err at_end
+      none zero = refl
+      none (suc n) = refl
 
-  pub items_fail : (k : ℕ) (bytes : List ℕ) (b : ℕ) (bs : List ℕ) (f : Fault) → after_blank commas bytes ≡ b ∷ bs → b ≢ close → inner (b ∷ bs) ≡ Err f → items_at inner commas close at_end (suc k) bytes ≡ Err f
-  items_fail k bytes b bs f e n h = rw (e, items_at, ne_eqb b close n, h)
+  pub leads_nowhere : (at_end : Fault TextKind) (pending whole : List ℕ) (n : ℕ) → Leads n at_end pending whole → n ≡ 0
+      → value_at total d commas at_first bytes ≡ Err at_end
+  leads_nowhere at_end pending whole zero i z = sym i
+  leads_nowhere at_end pending whole (suc n) i z = cc
 
-  pub items_first : (k : ℕ) (bytes : List ℕ) (b : ℕ) (bs : List ℕ) (v : Plain) (r : List ℕ) → after_blank commas bytes ≡ b ∷ bs → b ≢ close → inner (b ∷ bs) ≡ Ok (v, r)
-      → items_at inner commas close at_end (suc k) bytes ≡ with_front (v ∷ []) (items_at inner commas close at_end k r)
-  items_first k bytes b bs v r e n h = rw (e, items_at, ne_eqb b close n, h)
+  pub leads_to_fault : (n : ℕ) (at_end : Fault TextKind) (pending whole after : List ℕ) (b : ℕ) (f : Fault TextKind)
+      → Leads n at_end pending whole → 0 < n
+      → whole ≡ b ∷ after → (b ≡ 64 → ⊥) → core_at total (deeper_at total d commas) whole ≡ Err f
+      → value_at total d commas at_first bytes ≡ Err f
+  leads_to_fault zero at_end pending whole after b f i h w t c = absurd (omega (arith, h))
+  leads_to_fault (suc k) at_end pending whole after b f i h w t c =
+      sym i ∙ ap (due_at total core commas (suc k) at_end (reverse pending)) w
+      ∙ due_fails total commas core k at_end f (reverse pending) b after t (ap core (sym w) ∙ c)
 
--- ---- the colon
+  -- behind a value that was read
+  pub leads_on : (n m : ℕ) (at_end : Fault TextKind) (pending whole after : List ℕ) (b : ℕ) (v : Plain) (r : List ℕ)
+      → Leads n at_end pending whole → m + 1 ≡ n
+      → whole ≡ b ∷ after → (b ≡ 64 → ⊥) → core_at total (deeper_at total d commas) whole ≡ Ok (v, r)
+      → goes_on total commas core m (reverse pending) v r ≡ value_at total d commas at_first bytes
+  leads_on zero m at_end pending whole after b v r i h w t c = absurd (omega (arith, h))
+  leads_on (suc k) m at_end pending whole after b v r i h w t c =
+      let same : m ≡ k = omega (arith, h) in
+      ap (λ (x : ℕ). goes_on total commas core x (reverse pending) v r) same
+      ∙ sym (due_read total commas core k at_end (reverse pending) b after v r t (ap core (sym w) ∙ c))
+      ∙ ap (due_at total core commas (suc k) at_end (reverse pending)) (sym w) ∙ i
 
-module _ (total : ℕ) (at_end : Fault) (bytes : List ℕ) where
-  pub colon_none : after_blank true bytes ≡ [] → colon_at total at_end bytes ≡ Err at_end
-  colon_none e = rw (e, colon_at)
+  pub leads_to_value : (m : ℕ) (pending : List ℕ) (v : Plain) (r : List ℕ)
+      → goes_on total commas core m (reverse pending) v r ≡ value_at total d commas at_first bytes
+      → pending ≡ [] → value_at total d commas at_first bytes ≡ Ok (v, r)
+  leads_to_value m pending v r i p = sym i ∙ ap (λ (q : List ℕ). goes_on total commas core m (reverse q) v r) p
 
-  pub colon_here : (b : ℕ) (bs : List ℕ) → after_blank true bytes ≡ b ∷ bs → b ≡ 58 → colon_at total at_end bytes ≡ Ok bs
-  colon_here b bs e c = rw (e, colon_at, eq-eqb b 58 c)
+  pub leads_past_value : (m : ℕ) (pending less : List ℕ) (p : ℕ) (v : Plain) (r next : List ℕ)
+      → goes_on total commas core m (reverse pending) v r ≡ value_at total d commas at_first bytes
+      → pending ≡ less ++ p ∷ [] → next ≡ after_blank commas r
+      → Leads m (inside p) less next
+  leads_past_value m pending less p v r next i q e =
+      let top : reverse pending ≡ p ∷ reverse less = ap reverse q ∙ reverse-append less (p ∷ []) in
+      ap (due_at total core commas m (inside p) (reverse less)) e
+      ∙ sym (ap (λ (x : List ℕ). goes_on total commas core m x v r) top) ∙ i
 
-  pub colon_missing : (b : ℕ) (bs : List ℕ) → after_blank true bytes ≡ b ∷ bs → b ≢ 58 → colon_at total at_end bytes ≡ Err (fault_at total Unexpected (b ∷ bs))
-  colon_missing b bs e n = rw (e, colon_at, ne_eqb b 58 n)
+  pub leads_into_annotation : (n m : ℕ) (at_end : Fault TextKind) (pending more whole after next : List ℕ) (b p : ℕ)
+      → Leads n at_end pending whole → m + 1 ≡ n
+      → whole ≡ b ∷ after → b ≡ 64 → p ≡ total - length whole → more ≡ pending ++ p ∷ []
+      → next ≡ after_blank commas after → Leads m (inside p) more next
+  leads_into_annotation zero m at_end pending more whole after next b p i h w t is q e = absurd (omega (arith, h))
+  leads_into_annotation (suc k) m at_end pending more whole after next b p i h w t is q e =
+      let mark : whole ≡ 64 ∷ after = w ∙ ap (λ (x : ℕ). x ∷ after) t in
+      let here : p ≡ total - length (64 ∷ after) = is ∙ ap (λ (x : List ℕ). total - length x) mark in
+      let top : reverse more ≡ p ∷ reverse pending = ap reverse q ∙ reverse-append pending (p ∷ []) in
+      let same : m ≡ k = omega (arith, h) in
+      ap (due_at total core commas m (inside p) (reverse more)) e
+      ∙ ap (λ (q : List ℕ). due_at total core commas m (inside p) q (after_blank commas after)) top
+      ∙ ap (λ (x : ℕ). due_at total core commas m (inside x) (x ∷ reverse pending) (after_blank commas after)) here
+      ∙ ap (λ (y : ℕ). due_at total core commas y (unclosed total (64 ∷ after))
+      ((total - length (64 ∷ after)) ∷ reverse pending) (after_blank commas after)) same
+      ∙ ap (due_at total core commas (suc k) at_end (reverse pending)) (sym mark) ∙ i
 
-module _ (total : ℕ) (inner : List ℕ → Result (Plain × List ℕ) Fault) (at_end : Fault) where
-  -- ---- an entry
+-- ---- the loops over elements
 
-  pub entry_read : (bytes : List ℕ) (k : Plain) (r s : List ℕ) (v : Plain) (q : List ℕ) → inner bytes ≡ Ok (k, r) → colon_at total at_end r ≡ Ok s → inner s ≡ Ok (v, q) → entry_at total inner at_end bytes ≡ Ok ((k, v), q)
-  unfolding entry_at
-  entry_read bytes k r s v q e c h = rw (e, c, h)
+module _ {A : Type 0} (commas : Bool) (close : ℕ) (at_end : Fault TextKind) (element : Reader A) (bytes : List ℕ) where
+  abbrev elements : ℕ → Reader (List A)
+  elements n rest = elements_at (after_blank commas) close at_end element n rest
 
-  pub key_fails : (bytes : List ℕ) (f : Fault) → inner bytes ≡ Err f → entry_at total inner at_end bytes ≡ Err f
-  unfolding entry_at
-  key_fails bytes f e = rw e
+  -- what was read and what is left lead to what all is
+  abbrev pub Gathers : ℕ → List A → List ℕ → Type 0
+  Gathers n front rest =
+      behind_front front (elements_at (after_blank commas) close at_end element n rest) ≡ closed_at commas close at_end
+      element bytes
 
-  pub colon_fails : (bytes : List ℕ) (k : Plain) (r : List ℕ) (f : Fault) → inner bytes ≡ Ok (k, r) → colon_at total at_end r ≡ Err f → entry_at total inner at_end bytes ≡ Err f
-  unfolding entry_at
-  colon_fails bytes k r f e c = rw (e, c)
+  pub gathers_end : (n : ℕ) (front : List A) (rest next : List ℕ) → Gathers n front rest
+      → next ≡ after_blank commas rest → length next ≡ 0
+      → closed_at commas close at_end element bytes ≡ Err at_end
+  gathers_end n front rest next i e z =
+      sym i ∙ ap (λ (o : Result (List A × List ℕ) (Fault TextKind)). behind_front front o)
+      (elements_none (after_blank commas) close at_end element n rest (sym e ∙ no_items next z))
 
-  pub value_fails : (bytes : List ℕ) (k : Plain) (r s : List ℕ) (f : Fault) → inner bytes ≡ Ok (k, r) → colon_at total at_end r ≡ Ok s → inner s ≡ Err f → entry_at total inner at_end bytes ≡ Err f
-  unfolding entry_at
-  value_fails bytes k r s f e c h = rw (e, c, h)
+  pub gathers_all : (n : ℕ) (front : List A) (rest next after : List ℕ) (b : ℕ) → Gathers n front rest → 0 < n
+      → next ≡ after_blank commas rest
+      → next ≡ b ∷ after → b ≡ close → closed_at commas close at_end element bytes ≡ Ok (front, after)
+  gathers_all zero front rest next after b i h e w c = absurd (omega (arith, h))
+  gathers_all (suc k) front rest next after b i h e w c =
+      sym i ∙ ap (λ (o : Result (List A × List ℕ) (Fault TextKind)). behind_front front o)
+      (elements_end (after_blank commas) close at_end element k rest after b (sym e ∙ w) c)
+      ∙ ap (λ (xs : List A). Ok (xs, after)) (append-nil front)
 
-  -- ---- entries up to the close
+  pub gathers_fault : (n : ℕ) (front : List A) (rest next after : List ℕ) (b : ℕ) (f : Fault TextKind)
+      → Gathers n front rest → 0 < n → next ≡ after_blank commas rest
+      → next ≡ b ∷ after → (b ≡ close → ⊥) → element next ≡ Err f → closed_at commas close at_end element bytes ≡ Err f
+  gathers_fault zero front rest next after b f i h e w n c = absurd (omega (arith, h))
+  gathers_fault (suc k) front rest next after b f i h e w n c =
+      sym i ∙ ap (λ (o : Result (List A × List ℕ) (Fault TextKind)). behind_front front o)
+      (elements_fail (after_blank commas) close at_end element k rest after b f (sym e ∙ w) n (ap element (sym w) ∙ c))
 
-  pub entries_none : (k : ℕ) (bytes : List ℕ) → after_blank true bytes ≡ [] → entries_at total inner at_end k bytes ≡ Err at_end
-  entries_none zero bytes e = refl
-  entries_none (suc k) bytes e = rw (e, entries_at)
-
-  pub entries_close : (k : ℕ) (bytes : List ℕ) (b : ℕ) (bs : List ℕ) → after_blank true bytes ≡ b ∷ bs → b ≡ 125 → entries_at total inner at_end (suc k) bytes ≡ Ok ([], bs)
-  entries_close k bytes b bs e c = rw (e, entries_at, eq-eqb b 125 c)
-
-  pub entries_fail : (k : ℕ) (bytes : List ℕ) (b : ℕ) (bs : List ℕ) (f : Fault) → after_blank true bytes ≡ b ∷ bs → b ≢ 125 → entry_at total inner at_end (b ∷ bs) ≡ Err f → entries_at total inner at_end (suc k) bytes ≡ Err f
-  entries_fail k bytes b bs f e n h = rw (e, entries_at, ne_eqb b 125 n, h)
-
-  pub entries_first : (k : ℕ) (bytes : List ℕ) (b : ℕ) (bs : List ℕ) (p : Plain × Plain) (r : List ℕ) → after_blank true bytes ≡ b ∷ bs → b ≢ 125 → entry_at total inner at_end (b ∷ bs) ≡ Ok (p, r)
-      → entries_at total inner at_end (suc k) bytes ≡ with_front (p ∷ []) (entries_at total inner at_end k r)
-  entries_first k bytes b bs p r e n h = rw (e, entries_at, ne_eqb b 125 n, h)
+  pub gathers_more : (n m : ℕ) (front new : List A) (rest next after : List ℕ) (b : ℕ) (x : A) (more : List ℕ)
+      → Gathers n front rest → m + 1 ≡ n
+      → next ≡ after_blank commas rest → next ≡ b ∷ after → (b ≡ close → ⊥) → element next ≡ Ok (x, more)
+      → new ≡ front ++ x ∷ [] → Gathers m new more
+  gathers_more n m front new rest next after b x more i h e w c r is =
+      elements_step (after_blank commas) close at_end element n m front new rest after b x more _ i h (sym e ∙ w) c
+      (ap element (sym w) ∙ r) is

@@ -1,9 +1,7 @@
 pub mod Ends
-pub mod Gaps
+pub mod Lemmas
 pub mod OneWay
 pub mod Reading
 pub mod Reads
-pub mod Results
 pub mod Spells
 pub mod Stops
-pub mod TokenFaults

@@ -1,8 +1,6 @@
 //! The text form of values: reading it, by the Preserves text syntax.
 #![tactic(auto)]
 
-mod atoms;
-mod gaps;
 mod laws;
 mod reading;
 #[cfg(test)]
@@ -10,6 +8,8 @@ mod tests;
 mod values;
 
 pub use laws::{text_is_judged_as_a_whole, texts_are_read_one_way};
-pub use pv_binary::READ_DEPTH;
 pub use pv_lex::{TextFault, TextKind};
 pub use values::{next_value, read_all, read_text};
+
+/// How many levels of nesting are read.
+pub const READ_DEPTH: u32 = 64;

@@ -1,20 +1,21 @@
 //! Reading values.
-ghost use Rattle.std.specs.Prelude.{◌≡◌, true, ◌∷◌, ◌++◌, [], length, OnOk, IfErr};
-ghost use Rattle.pv_lex.specs.Results.{within, Gives};
-ghost use Rattle.pv_lex.specs.declared.faults.TextFault.TheVariants.{Bad, NoMemory};
+ghost use Rattle.std.specs.Prelude.{◌≡◌, ◌-◌, true, map, length, Option};
+ghost use Rattle.pv_read.specs.Answers.{Gives};
 ghost use Rattle.pv_lex.specs.declared.faults.TextKind.TheVariants as text;
+ghost use Rattle.pv_read.specs.declared.ReadFault.TheVariants.{Bad};
 ghost use Rattle.pv_text.specs.Ends.{end_fault};
-ghost use Rattle.pv_text.specs.Reading.{or_duplicate, items_at, colon_at, entry_at, entries_at, compound_at, opens, core_at, deeper_at, value_at};
+ghost use Rattle.pv_text.specs.Reading.{closed_at, colon_at, entry_at, or_duplicate};
+ghost use Rattle.pv_text.specs.Reading.{compound_at, opens, core_at, deeper_at, value_at};
+ghost use Rattle.pv_value.specs.Plain.{Plain};
+ghost use Rattle.pv_value.specs.Sets.{IsMade};
 ghost use Rattle.pv_value.specs.View.{key_and_value};
-ghost use Rattle.pv_binary.specs.Reading.{set_from, dictionary_from};
 
-use crate::atoms::{in_memory, read_atom};
-use crate::gaps::skip_blank;
-use pv_lex::{TextFault, TextKind, TokenKind, token_at};
-use pv_value::{Entry, Items, Pairs, SetFault, Value};
+use pv_lex::{Lexeme, Mark, TextFault, TextKind, lexeme_at, skip_blank};
+use pv_value::{Entry, Items, SetFault, Value};
 use std::alloc::Global;
 
-/// What the end of the text is: the place of what isn't closed, or the end where no value was begun.
+/// What the end of the text is: the place of what isn't closed, or the end where no value was
+/// begun.
 #[derive(Clone, Copy)]
 pub(crate) struct End {
     pub(crate) kind: TextKind,
@@ -39,8 +40,9 @@ impl End {
     }
 }
 
-/// The value behind a gap that nests at most `budget` deep, and the bytes after it, which are the last of `total`.
-/// Annotations before it are read and dropped; they open no level, so they are read without recursion.
+/// The value behind a gap that nests at most `budget` deep, and the bytes after it, which are the
+/// last of `total`. Annotations before it are read and dropped; they open no level, so they are
+/// read without recursion.
 #[cycle(read)]
 pub(crate) fn read_value<'a>(
     alloc: Global,
@@ -50,13 +52,14 @@ pub(crate) fn read_value<'a>(
     at_end: End,
     bytes: &'a [u8],
 ) -> Result<(Value, &'a [u8]), TextFault>
-    ensures { Gives (λ x. (x.0, x.1.now)) result (value_at total budget commas (end_fault at_end) bytes.now) }
+    ensures { Gives (λ x. (x.0, x.1.now)) result
+        (value_at total budget commas (end_fault at_end) bytes.now) }
 {
     let mut pending = Vec::new(alloc);
     let mut at_end = at_end;
-    let mut rest = bytes;
-    for _ in 0..bytes.len() {
-        let whole = skip_blank(commas, rest);
+    let mut whole = skip_blank(commas, bytes);
+    let most = whole.len();
+    for _ in 0..most {
         let Some((first, after)) = whole.split_first() else {
             return Err(at_end.fault());
         };
@@ -64,7 +67,7 @@ pub(crate) fn read_value<'a>(
             let place = total.saturating_sub(whole.len());
             pending.push(place)?;
             at_end = End::inside(place);
-            rest = after;
+            whole = skip_blank(commas, after);
             continue;
         }
         let (value, after) = read_core(alloc, total, budget, commas, whole)?;
@@ -72,7 +75,7 @@ pub(crate) fn read_value<'a>(
             return Ok((value, after));
         };
         at_end = End::inside(place);
-        rest = after;
+        whole = skip_blank(commas, after);
     }
     Err(at_end.fault())
 }
@@ -87,38 +90,40 @@ fn read_core<'a>(
     commas: bool,
     whole: &'a [u8],
 ) -> Result<(Value, &'a [u8]), TextFault>
-    ensures { Gives (λ x. (x.0, x.1.now)) result (core_at total (deeper_at total budget commas) whole.now) }
+    ensures { Gives (λ x. (x.0, x.1.now)) result
+        (core_at total (deeper_at total budget commas) whole.now) }
 {
-    let place = total.saturating_sub(whole.len());
-    let (kind, rest) = match token_at(whole) {
-        Ok(token) => token,
-        Err(kind) => return Err(TextFault::Bad(kind, place)),
+    let (lexeme, rest) = lexeme_at(alloc, total, whole)?;
+    let mark = match lexeme {
+        Lexeme::Atom(_, value) => return Ok((value, rest)),
+        Lexeme::Mark(mark) => mark,
     };
-    if !opens(kind) {
-        let text = &whole[..whole.len() - rest.len()];
-        return Ok((read_atom(alloc, kind, text, place)?, rest));
+    let place = total.saturating_sub(whole.len());
+    if !opens(mark) {
+        return Err(TextFault::Bad(TextKind::Unexpected, place));
     }
     if budget == 0 {
         return Err(TextFault::Bad(TextKind::TooDeep, place));
     }
-    read_compound(alloc, total, budget - 1, commas, whole, kind, rest)
+    read_compound(alloc, total, budget - 1, commas, whole, mark, rest)
 }
 
-/// Whether a token opens a level of nesting.
-fn opens(kind: TokenKind) -> bool
-    ensures { result ≡ opens kind }
+/// Whether a mark opens a level of nesting.
+fn opens(mark: Mark) -> bool
+    ensures { result ≡ opens mark }
 {
-    match kind {
-        TokenKind::Embedded
-        | TokenKind::RecordOpen
-        | TokenKind::SequenceOpen
-        | TokenKind::SetOpen
-        | TokenKind::DictionaryOpen => true,
+    match mark {
+        Mark::Embedded
+        | Mark::RecordOpen
+        | Mark::SequenceOpen
+        | Mark::SetOpen
+        | Mark::DictionaryOpen => true,
         _ => false,
     }
 }
 
-/// What stands behind the mark of the compound that `whole` begins with, whose values nest at most `budget` deep.
+/// What stands behind the mark of the compound that `whole` begins with, whose values nest at most
+/// `budget` deep.
 #[cycle(read)]
 #[tactic(auto, unfolding(crate::specs::Reading::compound_at))]
 fn read_compound<'a>(
@@ -127,34 +132,35 @@ fn read_compound<'a>(
     budget: u32,
     commas: bool,
     whole: &[u8],
-    kind: TokenKind,
+    mark: Mark,
     bytes: &'a [u8],
 ) -> Result<(Value, &'a [u8]), TextFault>
-    ensures { Gives (λ x. (x.0, x.1.now)) result (compound_at total (value_at total budget) commas whole.now kind bytes.now) }
+    ensures { Gives (λ x. (x.0, x.1.now)) result
+        (compound_at total (value_at total budget) commas whole.now mark bytes.now) }
 {
     let place = total.saturating_sub(whole.len());
     let at_end = End::inside(place);
-    match kind {
-        TokenKind::Embedded => {
+    match mark {
+        Mark::Embedded => {
             let (inside, rest) = read_value(alloc, total, budget, commas, at_end, bytes)?;
-            Ok((in_memory(Value::embedded(alloc, inside))?, rest))
+            Ok((Value::embedded(alloc, inside)?, rest))
         }
-        TokenKind::RecordOpen => {
+        Mark::RecordOpen => {
             let (label, rest) = read_value(alloc, total, budget, false, at_end, bytes)?;
             let (fields, rest) = read_items(alloc, total, budget, false, b'>', at_end, rest)?;
-            Ok((in_memory(Value::record(alloc, label, fields))?, rest))
+            Ok((Value::record(alloc, label, fields)?, rest))
         }
-        TokenKind::SequenceOpen => {
+        Mark::SequenceOpen => {
             let (items, rest) = read_items(alloc, total, budget, true, b']', at_end, bytes)?;
-            Ok((Value::sequence(items), rest))
+            Ok((Value::sequence(Items::from_vec(alloc, items)?), rest))
         }
-        TokenKind::SetOpen => {
+        Mark::SetOpen => {
             let (items, rest) = read_items(alloc, total, budget, true, b'}', at_end, bytes)?;
-            Ok((set_of(alloc, items, place)?, rest))
+            Ok((or_duplicate(place, Value::set(alloc, items))?, rest))
         }
-        TokenKind::DictionaryOpen => {
+        Mark::DictionaryOpen => {
             let (entries, rest) = read_entries(alloc, total, budget, at_end, bytes)?;
-            Ok((dictionary_of(alloc, entries, place)?, rest))
+            Ok((or_duplicate(place, Value::dict(alloc, entries))?, rest))
         }
         _ => Err(TextFault::Bad(TextKind::Unexpected, place)),
     }
@@ -170,10 +176,12 @@ fn read_items<'a>(
     close: u8,
     at_end: End,
     bytes: &'a [u8],
-) -> Result<(Items, &'a [u8]), TextFault>
-    ensures { Gives (λ x. (x.0, x.1.now)) result (items_at (value_at total budget commas (end_fault at_end)) commas close (end_fault at_end) (length bytes.now) bytes.now) }
+) -> Result<(Vec<Value>, &'a [u8]), TextFault>
+    ensures { Gives (λ x. (x.0.items, x.1.now)) result
+        (closed_at commas close (end_fault at_end)
+        (value_at total budget commas (end_fault at_end)) bytes.now) }
 {
-    let mut items = Items::new(alloc);
+    let mut items = Vec::new(alloc);
     let mut rest = bytes;
     for _ in 0..bytes.len() {
         let next = skip_blank(commas, rest);
@@ -184,7 +192,7 @@ fn read_items<'a>(
             return Ok((items, after));
         }
         let (value, after) = read_value(alloc, total, budget, commas, at_end, next)?;
-        push_value(&mut items, value)?;
+        items.push(value)?;
         rest = after;
     }
     Err(at_end.fault())
@@ -198,10 +206,13 @@ fn read_entries<'a>(
     budget: u32,
     at_end: End,
     bytes: &'a [u8],
-) -> Result<(Pairs, &'a [u8]), TextFault>
-    ensures { Gives (λ x. (x.0, x.1.now)) result (entries_at total (value_at total budget true (end_fault at_end)) (end_fault at_end) (length bytes.now) bytes.now) }
+) -> Result<(Vec<Entry>, &'a [u8]), TextFault>
+    ensures { Gives (λ x. (map key_and_value x.0.items, x.1.now)) result
+        (closed_at true 125 (end_fault at_end)
+        (entry_at total (value_at total budget true (end_fault at_end)) (end_fault at_end))
+        bytes.now) }
 {
-    let mut entries = Pairs::new(alloc);
+    let mut entries = Vec::new(alloc);
     let mut rest = bytes;
     for _ in 0..bytes.len() {
         let next = skip_blank(true, rest);
@@ -212,7 +223,7 @@ fn read_entries<'a>(
             return Ok((entries, after));
         }
         let (entry, after) = read_entry(alloc, total, budget, at_end, next)?;
-        push_entry(&mut entries, entry)?;
+        entries.push(entry)?;
         rest = after;
     }
     Err(at_end.fault())
@@ -228,7 +239,9 @@ fn read_entry<'a>(
     at_end: End,
     bytes: &'a [u8],
 ) -> Result<(Entry, &'a [u8]), TextFault>
-    ensures { Gives (λ x. (key_and_value x.0, x.1.now)) result (entry_at total (value_at total budget true (end_fault at_end)) (end_fault at_end) bytes.now) }
+    ensures { Gives (λ x. (key_and_value x.0, x.1.now)) result
+        (entry_at total (value_at total budget true (end_fault at_end)) (end_fault at_end)
+        bytes.now) }
 {
     let (key, rest) = read_value(alloc, total, budget, true, at_end, bytes)?;
     let rest = behind_colon(total, at_end, rest)?;
@@ -248,43 +261,12 @@ fn behind_colon(total: usize, at_end: End, bytes: &[u8]) -> Result<&[u8], TextFa
     }
 }
 
-pub(crate) fn push_value(items: &mut Items, value: Value) -> Result<(), TextFault>
-    ensures ok { OnOk result (items.new ≡ items.old ++ value ∷ []) }
-    ensures err { IfErr result (λ e. e ≡ NoMemory) }
+/// The set or dictionary that was made of what begins at this place.
+fn or_duplicate(place: usize, made: Result<Value, SetFault>) -> Result<Value, TextFault>
+    ensures { (o : Option Plain) → IsMade made o → Gives (λ v. v) result (or_duplicate place o) }
 {
-    match items.push(value) {
-        Ok(()) => Ok(()),
-        Err(_) => Err(TextFault::NoMemory),
-    }
-}
-
-fn push_entry(entries: &mut Pairs, entry: Entry) -> Result<(), TextFault>
-    ensures ok { OnOk result (entries.new ≡ entries.old ++ key_and_value entry ∷ []) }
-    ensures err { IfErr result (λ e. e ≡ NoMemory) }
-{
-    match entries.push(entry.key, entry.value) {
-        Ok(()) => Ok(()),
-        Err(_) => Err(TextFault::NoMemory),
-    }
-}
-
-/// The set of these elements, which begins at this place.
-fn set_of(alloc: Global, items: Items, place: usize) -> Result<Value, TextFault>
-    ensures { Gives (λ v. v) result (within place (or_duplicate (set_from items))) }
-{
-    match Value::set(alloc, items) {
-        Ok(set) => Ok(set),
-        Err(SetFault::NoMemory) => Err(TextFault::NoMemory),
-        Err(SetFault::Duplicate(_)) => Err(TextFault::Bad(TextKind::Duplicate, place)),
-    }
-}
-
-/// The dictionary of these entries, which begins at this place.
-fn dictionary_of(alloc: Global, entries: Pairs, place: usize) -> Result<Value, TextFault>
-    ensures { Gives (λ v. v) result (within place (or_duplicate (dictionary_from entries))) }
-{
-    match Value::dict(alloc, entries) {
-        Ok(dictionary) => Ok(dictionary),
+    match made {
+        Ok(v) => Ok(v),
         Err(SetFault::NoMemory) => Err(TextFault::NoMemory),
         Err(SetFault::Duplicate(_)) => Err(TextFault::Bad(TextKind::Duplicate, place)),
     }

@@ -1,31 +1,35 @@
 //! Values of whole texts.
-ghost use Rattle.std.specs.Prelude.{◌≡◌, ◌<◌, ◌++◌, ◌∷◌, [], ℕ, List, length, false, Option, option_map, IfOk, IfSome, Some, None};
+ghost use Rattle.std.specs.Prelude.{◌≡◌, ◌<◌, ◌++◌, ◌∷◌, [], ℕ, List, length, false};
+ghost use Rattle.std.specs.Prelude.{Option, option_map, IfOk, IfSome, Some, None};
 ghost use Rattle.pv_value.specs.Plain.{Plain};
-ghost use Rattle.pv_lex.specs.Results.{Fault, Gives};
+ghost use Rattle.pv_read.specs.Results.{Fault};
+ghost use Rattle.pv_read.specs.Answers.{Gives, IsAnswer, IsFault, IsExact};
+ghost use Rattle.pv_lex.specs.declared.faults.TextKind.{TextKind};
 ghost use Rattle.pv_text.specs.Ends.{end_fault};
-ghost use Rattle.pv_text.specs.Gaps.{IsLastGap};
+ghost use Rattle.pv_lex.specs.Gaps.{IsLastGap};
 ghost use Rattle.pv_text.specs.Reading.{no_value, next_at, values_in, text_value, text_values};
 ghost use Rattle.pv_text.specs.Stops.{TextStands};
-ghost use Rattle.pv_text.specs.Reads.{LeadsTo, NextStops, BeginsWith, AreValuesOf, ValuesStand, IsAnswer, IsFault, IsExact, IsNext};
+ghost use Rattle.pv_text.specs.Reads.{LeadsTo, NextStops, BeginsWith, AreValuesOf};
+ghost use Rattle.pv_text.specs.Reads.{ValuesStand, IsNext};
 
-use crate::gaps::skip_blank;
-use crate::reading::{End, push_value, read_value};
-use pv_binary::READ_DEPTH;
-use pv_lex::{TextFault, TextKind};
+use crate::READ_DEPTH;
+use crate::reading::{End, read_value};
+use pv_lex::{TextFault, TextKind, skip_blank};
 use pv_value::{Items, Value};
 use simdutf8::compat::from_utf8;
 use std::alloc::Global;
 
-/// The first value of a text, and how many bytes it ends behind. White space, comments and annotations may stand before
-/// it; anything may follow, so long as the text is UTF-8.
+/// The first value of a text, and how many bytes it ends behind. White space, comments and
+/// annotations may stand before it; anything may follow, so long as the text is UTF-8.
 pub fn read_text(alloc: Global, text: &[u8]) -> Result<(Value, usize), TextFault>
     // What is read is spelled so, and what is spelled so is read.
     ensures found { IfOk result (λ x. BeginsWith text.now x.1 x.0) }
-    ensures only { (n : ℕ) (v : Plain) → BeginsWith text.now n v → IsAnswer {Y = Plain × ℕ} (λ x. (x.0, x.1)) result (v, n) }
+    ensures only { (n : ℕ) (v : Plain) → BeginsWith text.now n v
+        → IsAnswer {Y = Plain × ℕ} (λ x. (x.0, x.1)) result (v, n) }
 
     // A fault that is answered stands, and one that stands is answered.
     ensures exact { IsExact result (TextStands text.now) }
-    ensures only_fault { (f : Fault) → TextStands text.now f → IsFault result f }
+    ensures only_fault { (f : Fault TextKind) → TextStands text.now f → IsFault result f }
 {
     let (value, rest) = first_value(alloc, text)?;
     Ok((value, text.len() - rest.len()))
@@ -53,9 +57,9 @@ fn no_value(total: usize) -> End
     }
 }
 
-/// The next value of a text of `total` bytes, of which these are the last, and the bytes after it; none where only a gap
-/// is left. Whether the text as a whole is UTF-8 is for the caller to ask; here a fault of that kind stands at the token
-/// that isn't.
+/// The next value of a text of `total` bytes, of which these are the last, and the bytes after it;
+/// none where only a gap is left. Whether the text as a whole is UTF-8 is for the caller to ask;
+/// here a fault of that kind stands at the token that isn't.
 pub fn next_value(
     alloc: Global,
     bytes: &[u8],
@@ -64,12 +68,15 @@ pub fn next_value(
     // What is read is spelled so, and what is spelled so is read.
     ensures next { IfOk result (λ o. IsNext bytes.now (option_map (λ x. (x.0, x.1.now)) o)) }
     ensures shorter { IfOk result (λ o. IfSome o (λ x. length x.1.now < length bytes.now)) }
-    ensures only { (v : Plain) (rest : List ℕ) → LeadsTo bytes.now v rest → IsAnswer {Y = Option (Plain × List ℕ)} (option_map (λ x. (x.0, x.1.now))) result (Some (v, rest)) }
-    ensures only_end { IsLastGap false bytes.now → IsAnswer {Y = Option (Plain × List ℕ)} (option_map (λ x. (x.0, x.1.now))) result None }
+    ensures only { (v : Plain) (rest : List ℕ) → LeadsTo bytes.now v rest
+        → IsAnswer {Y = Option (Plain × List ℕ)} (option_map (λ x. (x.0, x.1.now))) result
+        (Some (v, rest)) }
+    ensures only_end { IsLastGap false bytes.now
+        → IsAnswer {Y = Option (Plain × List ℕ)} (option_map (λ x. (x.0, x.1.now))) result None }
 
     // A fault that is answered stands, and one that stands is answered.
     ensures exact { IsExact result (NextStops total bytes.now) }
-    ensures only_fault { (f : Fault) → NextStops total bytes.now f → IsFault result f }
+    ensures only_fault { (f : Fault TextKind) → NextStops total bytes.now f → IsFault result f }
 {
     next_of(alloc, bytes, total)
 }
@@ -94,7 +101,7 @@ pub fn read_all(alloc: Global, text: &[u8]) -> Result<Items, TextFault>
 
     // A fault that is answered stands, and one that stands is answered.
     ensures exact { IsExact result (ValuesStand text.now) }
-    ensures only_fault { (f : Fault) → ValuesStand text.now f → IsFault result f }
+    ensures only_fault { (f : Fault TextKind) → ValuesStand text.now f → IsFault result f }
 {
     checked_values(alloc, text)
 }
@@ -114,14 +121,14 @@ fn checked_values(alloc: Global, text: &[u8]) -> Result<Items, TextFault>
 fn all_values(alloc: Global, text: &[u8]) -> Result<Items, TextFault>
     ensures { Gives (λ vs. vs) result (values_in (length text.now) (length text.now) text.now) }
 {
-    let mut values = Items::new(alloc);
+    let mut values = Vec::new(alloc);
     let mut rest = text;
     for _ in 0..text.len() {
         let Some((value, after)) = next_of(alloc, rest, text.len())? else {
-            return Ok(values);
+            return Ok(Items::from_vec(alloc, values)?);
         };
-        push_value(&mut values, value)?;
+        values.push(value)?;
         rest = after;
     }
-    Ok(values)
+    Ok(Items::from_vec(alloc, values)?)
 }

@@ -1,15 +1,10 @@
-pub mod Coded
 pub mod Depth
 pub mod EntryOrder
-pub mod Falls
-pub mod Laws
-pub mod Listed
-pub mod Nodes
+pub mod Kept
+pub mod Lemmas
 pub mod Order
 pub mod Plain
 pub mod Sets
 pub mod View
 pub mod Weight
-pub mod WeightLaws
 pub mod WellFormed
-pub mod WellFormedLaws

@@ -1,95 +1,87 @@
-//! Copies of values.
-ghost use Rattle.std.specs.Prelude.{◌≡◌, IfOk, map};
+//! Copies of values, which share what is inside with the original: a copy costs one count and takes
+//! no
+//! memory, but fails where there are as many copies as can be counted.
+ghost use Rattle.std.specs.Prelude.{◌≡◌, IfOk};
 ghost use Rattle.pv_value.specs.View.{view_node};
 
-use crate::{Entries, Entry, Items, NoMemory, Node, Rec, SetItems, Value};
-use std::alloc::Global;
+use crate::{Blob, Entries, Entry, Items, NoMemory, Node, SetItems, Value};
+use std::sync::Arc;
 
 impl Value {
     /// An equal value.
-    pub fn copy(&self, alloc: Global) -> Result<Value, NoMemory>
+    pub fn copy(&self) -> Result<Value, NoMemory>
         ensures { IfOk result (λ w. w ≡ self.now) }
     {
-        copy_value(alloc, self)
+        let node = copy_node(&self.node)?;
+        Ok(Value { node })
+    }
+}
+
+impl Entry {
+    /// An equal entry.
+    pub fn copy(&self) -> Result<Entry, NoMemory>
+        ensures { IfOk result (λ e. e ≡ self.now) }
+    {
+        let key = self.key.copy()?;
+        let value = self.value.copy()?;
+        Ok(Entry { key, value })
+    }
+}
+
+impl Blob {
+    /// Equal bytes.
+    pub fn copy(&self) -> Result<Blob, NoMemory>
+        ensures { IfOk result (λ b. b ≡ self.now) }
+    {
+        let bytes = self.bytes.clone()?;
+        Ok(Blob { bytes })
     }
 }
 
 impl Items {
     /// An equal list.
-    pub fn copy(&self, alloc: Global) -> Result<Items, NoMemory>
+    pub fn copy(&self) -> Result<Items, NoMemory>
         ensures { IfOk result (λ xs. xs ≡ self.now) }
     {
-        let list = copy_list(alloc, &self.list)?;
+        let list = Arc::try_clone(&self.list)?;
         Ok(Items { list })
     }
 }
 
-#[cycle(copy)]
-fn copy_value(alloc: Global, v: &Value) -> Result<Value, NoMemory>
-    ensures { IfOk result (λ w. w ≡ v.now) }
-{
-    Ok(Value {
-        node: copy_node(alloc, &v.node)?,
-    })
+impl SetItems {
+    /// The elements of the same set.
+    pub fn copy(&self) -> Result<SetItems, NoMemory>
+        ensures { IfOk result (λ xs. xs ≡ self.now) }
+    {
+        let list = Arc::try_clone(&self.list)?;
+        Ok(SetItems { list })
+    }
 }
 
-#[cycle(copy)]
-fn copy_node(alloc: Global, node: &Node) -> Result<Node, NoMemory>
+impl Entries {
+    /// The entries of the same dictionary.
+    pub fn copy(&self) -> Result<Entries, NoMemory>
+        ensures { IfOk result (λ ps. ps ≡ self.now) }
+    {
+        let list = Arc::try_clone(&self.list)?;
+        Ok(Entries { list })
+    }
+}
+
+fn copy_node(node: &Node) -> Result<Node, NoMemory>
     ensures { IfOk result (λ copied. view_node copied ≡ view_node node.now) }
 {
     match node {
         Node::Bool(b) => Ok(Node::Bool(*b)),
         Node::Double(bits) => Ok(Node::Double(*bits)),
         Node::Int(n) => Ok(Node::Int(*n)),
-        Node::Str(text) => Ok(Node::Str(text.copy(alloc)?)),
-        Node::Bytes(bytes) => Ok(Node::Bytes(bytes.copy(alloc)?)),
-        Node::Sym(text) => Ok(Node::Sym(text.copy(alloc)?)),
-        Node::Rec(rec) => {
-            let label = copy_value(alloc, &rec.label)?;
-            let fields: &Items = &rec.fields;
-            let list = copy_list(alloc, &fields.list)?;
-            let fields = Items { list };
-            Ok(Node::Rec(Box::new(alloc, Rec { label, fields })?))
-        }
-        Node::Seq(items) => {
-            let list = copy_list(alloc, &items.list)?;
-            Ok(Node::Seq(Items { list }))
-        }
-        Node::Set(set) => {
-            let list = copy_list(alloc, &set.list)?;
-            Ok(Node::Set(SetItems { list }))
-        }
-        Node::Dict(entries) => {
-            let list = copy_entries(alloc, &entries.list)?;
-            Ok(Node::Dict(Entries { list }))
-        }
-        Node::Emb(inside) => {
-            let copied = copy_value(alloc, inside)?;
-            Ok(Node::Emb(Box::new(alloc, copied)?))
-        }
+        Node::Str(text) => Ok(Node::Str(text.copy()?)),
+        Node::Bytes(bytes) => Ok(Node::Bytes(bytes.copy()?)),
+        Node::Sym(text) => Ok(Node::Sym(text.copy()?)),
+        Node::Rec(rec) => Ok(Node::Rec(Arc::try_clone(rec)?)),
+        Node::Seq(items) => Ok(Node::Seq(items.copy()?)),
+        Node::Set(set) => Ok(Node::Set(set.copy()?)),
+        Node::Dict(entries) => Ok(Node::Dict(entries.copy()?)),
+        Node::Emb(inside) => Ok(Node::Emb(Arc::try_clone(inside)?)),
     }
-}
-
-#[cycle(copy)]
-fn copy_list(alloc: Global, items: &[Value]) -> Result<Vec<Value>, NoMemory>
-    ensures { IfOk result (λ copied. copied.items ≡ items.now) }
-{
-    let mut copied = Vec::new(alloc);
-    for x in items {
-        copied.push(copy_value(alloc, x)?)?;
-    }
-    Ok(copied)
-}
-
-#[cycle(copy)]
-fn copy_entries(alloc: Global, entries: &[Entry]) -> Result<Vec<Entry>, NoMemory>
-    ensures { IfOk result (λ copied. copied.items ≡ entries.now) }
-{
-    let mut copied = Vec::new(alloc);
-    for e in entries {
-        let key = copy_value(alloc, &e.key)?;
-        let value = copy_value(alloc, &e.value)?;
-        copied.push(Entry { key, value })?;
-    }
-    Ok(copied)
 }

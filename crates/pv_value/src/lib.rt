@@ -1,7 +1,13 @@
-//! Values of the Preserves data model: plain data of eleven kinds, their total order, how deep they nest and how
+//! Values of the Preserves data model: plain data of eleven kinds, their total order, how deep they
+//! nest and how
 //! much they weigh.
 //!
-//! Contracts see a [`Value`] as the data `Plain` of `specs/Plain.antt`, and the small lists as lists of it.
+//! Contracts see a [`Value`] as the data `Plain` of `specs/Plain.antt`, and the small lists as
+//! lists of it.
+//!
+//! A value never changes once it is made, and what is inside is shared: a copy costs one count,
+//! whatever
+//! the value's size.
 #![tactic(auto)]
 
 mod copying;
@@ -9,15 +15,19 @@ mod lists;
 mod making;
 mod nesting;
 mod order;
+mod sets;
+mod sorting;
 #[cfg(test)]
 mod tests;
+mod texts;
 mod weighing;
 
-pub use making::SetFault;
 pub use nesting::depth;
 pub use order::{compare, order_is_total};
+pub use sets::SetFault;
 use std::alloc::{AllocError, AllocFailed};
 use std::marker::Model;
+use std::sync::{Arc, ArcSlice, ArcStr};
 use thiserror::Error;
 pub use weighing::{canonical_size, weight};
 
@@ -38,7 +48,8 @@ impl<T: Drop> From<AllocFailed<T>> for NoMemory {
     }
 }
 
-/// A value, which keeps at every level that sets and dictionaries ascend strictly, that text is UTF-8
+/// A value, which keeps at every level that sets and dictionaries ascend strictly, that text is
+/// UTF-8
 /// and that lengths and numbers are such as every spelling needs.
 ///
 /// Match on `&value.node` to look inside.
@@ -59,12 +70,12 @@ pub enum Node {
     Str(Text),
     Bytes(Blob),
     Sym(Text),
-    Rec(Box<Rec>),
+    Rec(Arc<Rec>),
     Seq(Items),
     Set(SetItems),
     Dict(Entries),
     /// An embedded value, as the value inside it.
-    Emb(Box<Value>),
+    Emb(Arc<Value>),
 }
 
 /// A label and the fields behind it.
@@ -72,7 +83,7 @@ pub enum Node {
 #[derive(Drop)]
 pub struct Rec {
     pub label: Value,
-    pub fields: Items,
+    pub fields: Vec<Value>,
 }
 
 /// A key and its value.
@@ -83,64 +94,78 @@ pub struct Entry {
     pub value: Value,
 }
 
-/// UTF-8 text, as its bytes.
+/// UTF-8 text, as its bytes. Short text stands in place, and copies share longer text.
 #[derive(Drop)]
 pub struct Text {
-    string: String,
+    kept: Kept,
 }
 
-/// Bytes.
+/// Where the bytes of a text are.
+#[derive(Drop)]
+enum Kept {
+    /// How many there are, and these, with zeros behind them.
+    Short(u8, [u8; SHORT]),
+    Long(ArcStr),
+}
+
+/// The most bytes of a text that stands in place.
+const SHORT: usize = 22;
+
+/// Bytes, which copies share.
 #[derive(Drop)]
 pub struct Blob {
-    bytes: Vec<u8>,
+    bytes: ArcSlice<u8>,
 }
 
-/// A list of values.
+/// A list of values, which copies share.
 #[cycle(value)]
 #[derive(Drop)]
 pub struct Items {
-    list: Vec<Value>,
+    list: Arc<Vec<Value>>,
 }
 
-/// A list of entries, in any order.
-#[derive(Drop)]
-pub struct Pairs {
-    list: Vec<Entry>,
-}
-
-/// The elements of a set, each once, in ascending order.
+/// The elements of a set, each once, in ascending order, which copies share.
 #[cycle(value)]
 #[derive(Drop)]
 pub struct SetItems {
-    list: Vec<Value>,
+    list: Arc<Vec<Value>>,
 }
 
-/// The entries of a dictionary, each key once, in ascending order of the keys.
+/// The entries of a dictionary, each key once, in ascending order of the keys, which copies share.
 #[cycle(value)]
 #[derive(Drop)]
 pub struct Entries {
-    list: Vec<Entry>,
+    list: Arc<Vec<Entry>>,
 }
 
 impl Model for Text {
-    ghost use Rattle.std.specs.Prelude.{List, ℕ, string_bytes};
+    ghost use Rattle.std.specs.Prelude.{List, ℕ};
+    ghost use Rattle.std.specs.Coded.{coded_list, coded_ℕ};
 
     ghost Value = { List ℕ };
 
-    ghost view = { λ a. string_bytes a.string };
+    ghost coded = { coded_list coded_ℕ };
+
+    ghost use Rattle.pv_value.specs.Kept.{kept_bytes, IsKept};
+
+    ghost view = { λ a. kept_bytes a.kept };
+
+    ghost invariant = { λ a. IsKept a.kept };
 }
 
 impl Model for Blob {
     ghost use Rattle.std.specs.Prelude.{List, ℕ};
+    ghost use Rattle.std.specs.Arc.{arc_slice_items};
 
     ghost Value = { List ℕ };
 
-    ghost view = { λ a. a.bytes.items };
+    ghost view = { λ a. arc_slice_items a.bytes };
 }
 
 impl Model for Value {
-    ghost use Rattle.pv_value.specs.Plain.{Plain, nodes};
-    ghost use Rattle.pv_value.specs.Coded.{plain_code};
+    ghost use Rattle.pv_value.specs.Plain.{Plain};
+    ghost use Rattle.pv_value.specs.Lemmas.Measures.{measure};
+    ghost use Rattle.pv_value.specs.Lemmas.Coded.{plain_code};
 
     ghost Value = { Plain };
 
@@ -153,9 +178,9 @@ impl Model for Value {
 
     ghost invariant = { λ a. IsWellFormed (view_node a.node) };
 
-    ghost size = { nodes };
+    ghost size = { measure };
 
-    ghost use Rattle.pv_value.specs.Falls.{falls};
+    ghost use Rattle.pv_value.specs.Lemmas.Falls.{falls};
 
     ghost size_decreases = { λ a h. falls a.node };
 }
@@ -163,72 +188,57 @@ impl Model for Value {
 impl Model for Items {
     ghost use Rattle.std.specs.Prelude.{List};
     ghost use Rattle.std.specs.Coded.{coded_list};
-    ghost use Rattle.pv_value.specs.Plain.{Plain, plains, nodes_in};
-    ghost use Rattle.pv_value.specs.Coded.{plain_code};
+    ghost use Rattle.pv_value.specs.Plain.{Plain, plains};
+    ghost use Rattle.pv_value.specs.Lemmas.Measures.{measure_all};
+    ghost use Rattle.pv_value.specs.Lemmas.Coded.{plain_code};
     ghost use Rattle.pv_value.specs.WellFormed.{AreWellFormed};
 
     ghost Value = { List Plain };
 
     ghost coded = { coded_list plain_code };
 
-    ghost view = { λ a. a.list.items };
+    ghost view = { λ a. a.list.value.items };
 
-    ghost invariant = { λ a. AreWellFormed (plains a.list.items) };
+    ghost invariant = { λ a. AreWellFormed (plains a.list.value.items) };
 
-    ghost size = { λ xs. nodes_in (plains xs) };
+    ghost size = { λ xs. measure_all (plains xs) };
 
     ghost use Rattle.std.proofs.Common.{arith};
-    ghost use Rattle.pv_value.specs.Falls.{most-items};
+    ghost use Rattle.pv_value.specs.Lemmas.Falls.{most-items};
 
-    ghost size_decreases = { λ a h. Prim.omega (arith, most-items a.list.items) };
+    ghost size_decreases = { λ a h. Prim.omega (arith, most-items a.list.value.items) };
 }
 
 impl Model for SetItems {
     ghost use Rattle.std.specs.Prelude.{List};
     ghost use Rattle.std.specs.Coded.{coded_list};
-    ghost use Rattle.pv_value.specs.Plain.{Plain, plains, nodes_in};
-    ghost use Rattle.pv_value.specs.Coded.{plain_code};
+    ghost use Rattle.pv_value.specs.Plain.{Plain, plains};
+    ghost use Rattle.pv_value.specs.Lemmas.Measures.{measure_all};
+    ghost use Rattle.pv_value.specs.Lemmas.Coded.{plain_code};
     ghost use Rattle.pv_value.specs.WellFormed.{IsWellFormedSet};
 
     ghost Value = { List Plain };
 
     ghost coded = { coded_list plain_code };
 
-    ghost view = { λ a. a.list.items };
+    ghost view = { λ a. a.list.value.items };
 
-    ghost invariant = { λ a. IsWellFormedSet (plains a.list.items) };
+    ghost invariant = { λ a. IsWellFormedSet (plains a.list.value.items) };
 
-    ghost size = { λ xs. nodes_in (plains xs) };
+    ghost size = { λ xs. measure_all (plains xs) };
 
     ghost use Rattle.std.proofs.Common.{arith};
-    ghost use Rattle.pv_value.specs.Falls.{most-items};
+    ghost use Rattle.pv_value.specs.Lemmas.Falls.{most-items};
 
-    ghost size_decreases = { λ a h. Prim.omega (arith, most-items a.list.items) };
-}
-
-impl Model for Pairs {
-    ghost use Rattle.std.specs.Prelude.{List, map};
-    ghost use Rattle.std.specs.Coded.{coded_list, coded×};
-    ghost use Rattle.pv_value.specs.Plain.{Plain, pairs};
-    ghost use Rattle.pv_value.specs.Coded.{plain_code};
-    ghost use Rattle.pv_value.specs.WellFormed.{ArePairsWellFormed};
-
-    ghost Value = { List (Plain × Plain) };
-
-    ghost coded = { coded_list (coded× plain_code plain_code) };
-
-    ghost use Rattle.pv_value.specs.View.{key_and_value};
-
-    ghost view = { λ a. map key_and_value a.list.items };
-
-    ghost invariant = { λ a. ArePairsWellFormed (pairs (map key_and_value a.list.items)) };
+    ghost size_decreases = { λ a h. Prim.omega (arith, most-items a.list.value.items) };
 }
 
 impl Model for Entries {
     ghost use Rattle.std.specs.Prelude.{List, map};
     ghost use Rattle.std.specs.Coded.{coded_list, coded×};
-    ghost use Rattle.pv_value.specs.Plain.{Plain, pairs, nodes_in_pairs};
-    ghost use Rattle.pv_value.specs.Coded.{plain_code};
+    ghost use Rattle.pv_value.specs.Plain.{Plain, pairs};
+    ghost use Rattle.pv_value.specs.Lemmas.Measures.{measure_pairs};
+    ghost use Rattle.pv_value.specs.Lemmas.Coded.{plain_code};
     ghost use Rattle.pv_value.specs.WellFormed.{IsWellFormedDictionary};
 
     ghost Value = { List (Plain × Plain) };
@@ -237,14 +247,15 @@ impl Model for Entries {
 
     ghost use Rattle.pv_value.specs.View.{key_and_value};
 
-    ghost view = { λ a. map key_and_value a.list.items };
+    ghost view = { λ a. map key_and_value a.list.value.items };
 
-    ghost invariant = { λ a. IsWellFormedDictionary (pairs (map key_and_value a.list.items)) };
+    ghost invariant = { λ a.
+        IsWellFormedDictionary (pairs (map key_and_value a.list.value.items)) };
 
-    ghost size = { λ ps. nodes_in_pairs (pairs ps) };
+    ghost size = { λ ps. measure_pairs (pairs ps) };
 
     ghost use Rattle.std.proofs.Common.{arith};
-    ghost use Rattle.pv_value.specs.Falls.{most-entries};
+    ghost use Rattle.pv_value.specs.Lemmas.Falls.{most-entries};
 
-    ghost size_decreases = { λ a h. Prim.omega (arith, most-entries a.list.items) };
+    ghost size_decreases = { λ a h. Prim.omega (arith, most-entries a.list.value.items) };
 }

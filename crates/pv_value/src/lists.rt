@@ -1,114 +1,34 @@
-//! The small lists. Each is made from a `Vec` or a `String` and gives it back, without memory.
-ghost use Rattle.std.specs.Prelude.{◌≡◌, [], ◌∷◌, ◌++◌, map, length, string_bytes, IfOk, OnOk, OnErr, ◌==◌};
+//! The small lists, which copies share.
+ghost use Rattle.std.specs.Prelude.{◌≡◌, map, length, IfOk, ◌==◌};
 ghost use Rattle.pv_value.specs.Plain.{plains, pairs};
 ghost use Rattle.pv_value.specs.View.{key_and_value};
-ghost use Rattle.pv_value.specs.WellFormed.{IsText, IsBlob, AreWellFormed, ArePairsWellFormed, Ascend, KeysAscend};
+ghost use Rattle.pv_value.specs.WellFormed.{IsBlob, AreWellFormed, ArePairsWellFormed, Ascend};
+ghost use Rattle.pv_value.specs.WellFormed.{KeysAscend};
 
-use crate::{Blob, Entries, Entry, Items, NoMemory, Pairs, SetItems, Text, Value};
+use crate::{Blob, Entries, Entry, Items, NoMemory, SetItems, Value};
 use std::alloc::Global;
-
-impl Text {
-    /// No text.
-    pub fn new(alloc: Global) -> Text
-        ensures { result ≡ [] }
-    {
-        Text {
-            string: String::new(alloc),
-        }
-    }
-
-    /// A copy of a text.
-    pub fn from_str(alloc: Global, text: &str) -> Result<Text, NoMemory>
-        ensures { IfOk result (λ t. t ≡ text.now) }
-    {
-        let string = String::from_str(alloc, text)?;
-        Ok(Text { string })
-    }
-
-    pub fn from_string(string: String) -> Text
-        ensures { result ≡ string_bytes string }
-    {
-        Text { string }
-    }
-
-    pub fn into_string(self) -> String
-        ensures { string_bytes result ≡ self }
-    {
-        let Text { string } = self;
-        string
-    }
-
-    pub fn as_str(&self) -> &str
-        ensures same { result.now ≡ self.now }
-        ensures text { IsText self.now }
-    {
-        self.string.as_str()
-    }
-
-    pub fn as_bytes(&self) -> &[u8]
-        ensures same { result.now ≡ self.now }
-        ensures text { IsText self.now }
-    {
-        self.as_str().as_bytes()
-    }
-
-    /// How many bytes there are.
-    pub fn len(&self) -> usize
-        ensures { result ≡ length self.now }
-    {
-        self.as_bytes().len()
-    }
-
-    pub fn is_empty(&self) -> bool
-        ensures { result ≡ (length self.now == 0) }
-    {
-        self.as_bytes().is_empty()
-    }
-
-    /// An equal text.
-    pub fn copy(&self, alloc: Global) -> Result<Text, NoMemory>
-        ensures { IfOk result (λ t. t ≡ self.now) }
-    {
-        Text::from_str(alloc, self.string.as_str())
-    }
-}
+use std::sync::{Arc, ArcSlice};
 
 impl Blob {
-    /// No bytes.
-    pub fn new(alloc: Global) -> Blob
-        ensures { result ≡ [] }
-    {
-        Blob {
-            bytes: Vec::new(alloc),
-        }
-    }
-
-    /// A copy of the bytes.
+    /// The same bytes.
     pub fn from_slice(alloc: Global, bytes: &[u8]) -> Result<Blob, NoMemory>
         ensures { IfOk result (λ b. b ≡ bytes.now) }
     {
-        let bytes = Vec::from_slice(alloc, bytes)?;
+        Blob::from_vec(Vec::from_slice(alloc, bytes)?)
+    }
+
+    pub fn from_vec(bytes: Vec<u8>) -> Result<Blob, NoMemory>
+        ensures { IfOk result (λ b. b ≡ bytes.items) }
+    {
+        let bytes = ArcSlice::from_vec(fitted(bytes))?;
         Ok(Blob { bytes })
-    }
-
-    pub fn from_vec(bytes: Vec<u8>) -> Blob
-        ensures { result ≡ bytes.items }
-    {
-        Blob { bytes }
-    }
-
-    pub fn into_vec(self) -> Vec<u8>
-        ensures { result.items ≡ self }
-    {
-        let Blob { bytes } = self;
-        bytes
     }
 
     pub fn as_slice(&self) -> &[u8]
         ensures same { result.now ≡ self.now }
         ensures blob { IsBlob self.now }
     {
-        let bytes: &[u8] = &self.bytes;
+        let bytes: &[u8] = self.bytes.as_slice();
         bytes
     }
 
@@ -123,54 +43,22 @@ impl Blob {
     {
         self.as_slice().is_empty()
     }
-
-    /// Equal bytes.
-    pub fn copy(&self, alloc: Global) -> Result<Blob, NoMemory>
-        ensures { IfOk result (λ b. b ≡ self.now) }
-    {
-        Blob::from_slice(alloc, &self.bytes)
-    }
 }
 
 impl Items {
-    /// No values.
-    pub fn new(alloc: Global) -> Items
-        ensures { result ≡ [] }
-    {
-        Items {
-            list: Vec::new(alloc),
-        }
-    }
-
-    pub fn from_vec(list: Vec<Value>) -> Items
-        ensures { result ≡ list.items }
+    pub fn from_vec(alloc: Global, list: Vec<Value>) -> Result<Items, NoMemory>
+        ensures { IfOk result (λ xs. xs ≡ list.items) }
     {
         see_all(&list);
-        Items { list }
-    }
-
-    pub fn into_vec(self) -> Vec<Value>
-        ensures { result.items ≡ self }
-    {
-        let Items { list } = self;
-        list
-    }
-
-    /// One more value, at the end. For want of memory the list stays as it was.
-    pub fn push(&mut self, value: Value) -> Result<(), NoMemory>
-        ensures ok { OnOk result (self.new ≡ self.old ++ value ∷ []) }
-        ensures err { OnErr result (self.new ≡ self.old) }
-    {
-        let _ = &value.node;
-        self.list.push(value)?;
-        Ok(())
+        let list = Arc::new(alloc, fitted(list))?;
+        Ok(Items { list })
     }
 
     pub fn as_slice(&self) -> &[Value]
         ensures same { result.now ≡ self.now }
         ensures well_formed { AreWellFormed (plains self.now) }
     {
-        &self.list
+        self.list.as_slice()
     }
 
     pub fn len(&self) -> usize
@@ -186,8 +74,18 @@ impl Items {
     }
 }
 
+/// The same list, without the room for more where it has room for as many again.
+pub(crate) fn fitted<T: Drop>(mut list: Vec<T>) -> Vec<T>
+    ensures { result.items ≡ list.items }
+{
+    if list.capacity() / 2 >= list.len() {
+        list.shrink_to_fit();
+    }
+    list
+}
+
 /// Each value keeps what is true of all values.
-fn see_all(values: &[Value])
+pub(crate) fn see_all(values: &[Value])
     ensures { AreWellFormed (plains values.now) }
 {
     for value in values {
@@ -195,63 +93,8 @@ fn see_all(values: &[Value])
     }
 }
 
-impl Pairs {
-    /// No entries.
-    pub fn new(alloc: Global) -> Pairs
-        ensures { result ≡ [] }
-    {
-        Pairs {
-            list: Vec::new(alloc),
-        }
-    }
-
-    pub fn from_vec(list: Vec<Entry>) -> Pairs
-        ensures { result ≡ map key_and_value list.items }
-    {
-        see_all_entries(&list);
-        Pairs { list }
-    }
-
-    pub fn into_vec(self) -> Vec<Entry>
-        ensures { map key_and_value result.items ≡ self }
-    {
-        let Pairs { list } = self;
-        list
-    }
-
-    /// One more entry, at the end. For want of memory the list stays as it was.
-    pub fn push(&mut self, key: Value, value: Value) -> Result<(), NoMemory>
-        ensures ok { OnOk result (self.new ≡ self.old ++ (key, value) ∷ []) }
-        ensures err { OnErr result (self.new ≡ self.old) }
-    {
-        let _ = &key.node;
-        let _ = &value.node;
-        self.list.push(Entry { key, value })?;
-        Ok(())
-    }
-
-    pub fn as_slice(&self) -> &[Entry]
-        ensures same { map key_and_value result.now ≡ self.now }
-        ensures well_formed { ArePairsWellFormed (pairs self.now) }
-    {
-        &self.list
-    }
-
-    pub fn len(&self) -> usize
-        ensures { result ≡ length self.now }
-    {
-        self.as_slice().len()
-    }
-
-    pub fn is_empty(&self) -> bool
-        ensures { result ≡ (length self.now == 0) }
-    {
-        self.as_slice().is_empty()
-    }
-}
-
 /// Each key and each value keeps what is true of all values.
-fn see_all_entries(entries: &[Entry])
+pub(crate) fn see_all_entries(entries: &[Entry])
     ensures { ArePairsWellFormed (pairs (map key_and_value entries.now)) }
 {
     for entry in entries {
@@ -268,7 +111,7 @@ impl SetItems {
         ensures same { result.now ≡ self.now }
         ensures ascending { Ascend self.now }
     {
-        &self.list
+        self.list.as_slice()
     }
 
     pub fn len(&self) -> usize
@@ -290,7 +133,7 @@ impl Entries {
         ensures same { map key_and_value result.now ≡ self.now }
         ensures ascending { KeysAscend self.now }
     {
-        &self.list
+        self.list.as_slice()
     }
 
     pub fn len(&self) -> usize

@@ -1,14 +1,16 @@
 use Rattle.std.proofs.Common.{refl}
-use Rattle.pv_text.specs.Reads.{LeadsTo}
-use Rattle.dsd_top.proofs.TextReadings.{rest_is_shorter, stopped}
 use Rattle.dsd_top.proofs.texts.push_next.Goals as goal
 
 pub returns-in_ok-push_last-in-Ok-Some-clause-shorter : goal.returns-in_ok-push_last-in-Ok-Some-clause-shorter
-returns-in_ok-push_last-in-Ok-Some-clause-shorter c =
-    let to : LeadsTo c.args.rest.now c.in-Ok-Some.value c.in-Ok-Some.more.now = rw c.in-Ok-Some.field-0-is at c.in-Ok-Some.ensures.next in
-    rest_is_shorter c.args.rest.now c.in-Ok-Some.value c.in-Ok-Some.more.now to
+returns-in_ok-push_last-in-Ok-Some-clause-shorter c = rw c.in-Ok-Some.field-0-is at c.in-Ok-Some.ensures.shorter
 
 pub returns-in-Err-Bad-clause-stops : goal.returns-in-Err-Bad-clause-stops
 returns-in-Err-Bad-clause-stops c =
-    let e = c.in-Err-Bad.field-0-is in
-    (refl, stopped c.args.total c.args.rest.now _ (rw e at c.in-Err-Bad.ensures.exact) (λ v more to. let h = c.in-Err-Bad.ensures.only v more to in rw e at h))
+    let e = c.in-Err-Bad.field-0-is in (
+      refl,
+      (
+        (_, rw e at c.in-Err-Bad.ensures.exact),
+        λ v more to. let h =
+            c.in-Err-Bad.ensures.only v more to in rw e at h,
+      ),
+    )

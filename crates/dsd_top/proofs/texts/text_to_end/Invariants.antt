@@ -1,13 +1,12 @@
 use Rattle.std.proofs.Common.{◌≤◌, ◌+◌, length}
 use Rattle.std.specs.Str.{IsUtf8}
 use Rattle.dsd_top.specs.Texts.{IsTextSoFar}
-use Rattle.dsd_top.specs.declared.values.TheConstants.{INPUT_BYTES}
 use Rattle.dsd_top.proofs.texts.text_to_end.Given as goal
 
 -- the values so far are written in the form
 abbrev pub invariant-loop-out : goal.invariant-loop-out
 invariant-loop-out l = record {
-  small : length l.text ≤ INPUT_BYTES;
+  small : length l.text ≤ 67108864;
   utf8 : IsUtf8 l.text;
   place : l.place + length l.rest ≤ length l.text;
   forms : IsTextSoFar l.form l.text l.out.items l.place l.rest;

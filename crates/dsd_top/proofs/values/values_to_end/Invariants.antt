@@ -1,12 +1,11 @@
 use Rattle.std.proofs.Common.{◌≤◌, ◌+◌, length}
 use Rattle.dsd_top.specs.Values.{IsInSoFar}
-use Rattle.dsd_top.specs.declared.values.TheConstants.{INPUT_BYTES}
 use Rattle.dsd_top.proofs.values.values_to_end.Given as goal
 
 -- the values so far are written in the form
 abbrev pub invariant-loop-rest : goal.invariant-loop-rest
 invariant-loop-rest l = record {
-  small : length l.bytes ≤ INPUT_BYTES;
+  small : length l.bytes ≤ 67108864;
   place : l.place + length l.rest ≤ length l.bytes;
   forms : IsInSoFar l.form l.bytes l.out.items l.place l.rest;
 }

@@ -5,4 +5,6 @@ use Rattle.hub_core.proofs.holding.place_for.Given as goal
 
 -- those so far come before it
 abbrev pub invariant-loop-i : goal.invariant-loop-i
-invariant-loop-i l = (x : Holding) → x.oid ≡ l.oid → x.handle ≡ l.handle → insert_holding x l.holdings ≡ take l.i l.holdings ++ insert_holding x (drop l.i l.holdings)
+invariant-loop-i l =
+    (x : Holding) → x.oid ≡ l.oid → x.handle ≡ l.handle → insert_holding x l.holdings ≡ take l.i l.holdings
+    ++ insert_holding x (drop l.i l.holdings)

@@ -5,4 +5,6 @@ use Rattle.hub_core.specs.Matching.{value_under}
 use Rattle.hub_core.proofs.patterns.value_under.Given as goal
 
 abbrev pub invariant-loop-e : goal.invariant-loop-e
-invariant-loop-e l = value_under (pairs (map key_and_value (drop l.e-index l.entries))) l.key ≡ value_under (pairs (map key_and_value l.entries)) l.key
+invariant-loop-e l =
+    value_under (pairs (map key_and_value (drop l.e-index l.entries))) l.key
+    ≡ value_under (pairs (map key_and_value l.entries)) l.key

@@ -7,5 +7,6 @@ use Rattle.hub_core.proofs.spaces.wants.Given as goal
 -- what is left to do leads to what all leads to
 abbrev pub invariant-loop-delivery : goal.invariant-loop-delivery
 invariant-loop-delivery l =
-    in_order l.wants.items (flat_map (λ o. wants_by o (observer_of o) (values_of l.got)) (values_of (drop l.delivery-index l.got)))
+    in_order l.wants.items
+    (flat_map (λ o. wants_by o (observer_of o) (values_of l.got)) (values_of (drop l.delivery-index l.got)))
     ≡ space_wants (values_of l.got)

@@ -1,6 +1,7 @@
-use Rattle.std.proofs.Common.{◌≡◌, ◌+◌, ◌-◌, ◌*◌, length}
-use Rattle.pv_binary.specs.Reading.{items_at, pairs_at, value_at}
-use Rattle.pv_binary.proofs.Items.{with_front}
+use Rattle.std.proofs.Common.{◌≡◌, ◌+◌, ◌-◌, ◌*◌, length, map}
+use Rattle.pv_value.specs.View.{key_and_value}
+use Rattle.pv_read.specs.Lemmas.Fronts.{behind_front}
+use Rattle.pv_binary.specs.Reading.{entry_at, up_to_end, items_at, pairs_at, value_at}
 use Rattle.pv_binary.proofs.reading.+read.Given as goal
 
 abbrev pub decreases-read_value : goal.decreases-read_value
@@ -17,8 +18,11 @@ decreases-read_compound l = 3 * l.budget + 2
 
 abbrev pub invariant-read_items-loop : goal.invariant-read_items-loop
 invariant-read_items-loop l =
-    with_front l.items (items_at l.total (value_at l.total l.budget) (length l.bytes - l.counter) l.rest) ≡ items_at l.total (value_at l.total l.budget) (length l.bytes) l.bytes
+    behind_front l.items.items (up_to_end l.total (value_at l.total l.budget) (length l.bytes - l.counter) l.rest)
+    ≡ items_at l.total (value_at l.total l.budget) l.bytes
 
 abbrev pub invariant-read_pairs-loop : goal.invariant-read_pairs-loop
 invariant-read_pairs-loop l =
-    with_front l.pairs (pairs_at l.total (value_at l.total l.budget) (length l.bytes - l.counter) l.rest) ≡ pairs_at l.total (value_at l.total l.budget) (length l.bytes) l.bytes
+    behind_front (map key_and_value l.entries.items)
+    (up_to_end l.total (entry_at (value_at l.total l.budget)) (length l.bytes - l.counter) l.rest)
+    ≡ pairs_at l.total (value_at l.total l.budget) l.bytes

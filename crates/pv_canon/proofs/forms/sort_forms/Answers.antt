@@ -5,4 +5,5 @@ use Rattle.pv_canon.proofs.Sorting.{sorted_seen}
 use Rattle.pv_canon.proofs.forms.sort_forms.Goals as goal
 
 pub returns : goal.returns
-returns c = sorted_seen byte_order nat_list_cmp_total exact_bytes (λ f. f.items) _ _ c.sort_unstable.ensures.permutation c.sort_unstable.ensures.sorted
+returns c = sorted_seen byte_order nat_list_cmp_total exact_bytes
+    (λ f. f.items) _ _ c.sort_unstable.ensures.permutation c.sort_unstable.ensures.sorted

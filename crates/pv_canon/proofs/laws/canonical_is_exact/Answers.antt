@@ -5,4 +5,10 @@ use Rattle.pv_canon.proofs.laws.canonical_is_exact.Goals as goal
 pub returns : goal.returns
 returns c =
     let told = c.spellings_are_unique.ensures in
-    record { spells = canonical_spells told.written; exact = canonical_exact told.written told.unique; length = length-canonical; size = canonical_sized }
+    record {
+      spells = canonical_spells told.written;
+      exact = canonical_exact told.written told.unique;
+      length =
+          length-canonical;
+      size = canonical_sized;
+    }

@@ -1,8 +1,11 @@
-use Rattle.std.proofs.Common.{◌≡◌, ◌+◌, ◌-◌, ◌*◌, [], length, true}
+use Rattle.std.proofs.Common.{◌≡◌, ◌+◌, ◌-◌, ◌*◌, length, map, true}
 use Rattle.std.specs.Prelude.{reverse}
+use Rattle.pv_read.specs.Elements.{elements_at}
+use Rattle.pv_read.specs.Lemmas.Fronts.{behind_front}
+use Rattle.pv_value.specs.View.{key_and_value}
+use Rattle.pv_lex.specs.Gaps.{after_blank}
 use Rattle.pv_text.specs.Ends.{end_fault}
-use Rattle.pv_text.specs.Reading.{items_at, entries_at, core_at, deeper_at, due_at, value_at}
-use Rattle.pv_text.proofs.Loops.{with_front}
+use Rattle.pv_text.specs.Reading.{closed_at, entry_at, core_at, deeper_at, due_at, value_at}
 use Rattle.pv_text.proofs.reading.+read.Given as goal
 
 abbrev pub decreases-read_value : goal.decreases-read_value
@@ -25,15 +28,20 @@ decreases-read_entries l = 5 * l.budget + 3
 
 abbrev pub invariant-read_value-loop : goal.invariant-read_value-loop
 invariant-read_value-loop l =
-    due_at l.total (core_at l.total (deeper_at l.total l.budget l.commas)) l.commas (length l.bytes - l.counter) (end_fault l.at_end) (reverse l.pending.items) l.rest
-    ≡ due_at l.total (core_at l.total (deeper_at l.total l.budget l.commas)) l.commas (length l.bytes) (end_fault l.fn.at_end) [] l.bytes
+    due_at l.total (core_at l.total (deeper_at l.total l.budget l.commas)) l.commas (l.most - l.counter)
+    (end_fault l.at_end) (reverse l.pending.items) l.whole
+    ≡ value_at l.total l.budget l.commas (end_fault l.fn.at_end) l.bytes
 
 abbrev pub invariant-read_items-loop : goal.invariant-read_items-loop
 invariant-read_items-loop l =
-    with_front l.items (items_at (value_at l.total l.budget l.commas (end_fault l.at_end)) l.commas l.close (end_fault l.at_end) (length l.bytes - l.counter) l.rest)
-    ≡ items_at (value_at l.total l.budget l.commas (end_fault l.at_end)) l.commas l.close (end_fault l.at_end) (length l.bytes) l.bytes
+    let element = value_at l.total l.budget l.commas (end_fault l.at_end) in
+    behind_front l.items.items (elements_at (after_blank l.commas) l.close (end_fault l.at_end) element
+    (length l.bytes - l.counter) l.rest)
+    ≡ closed_at l.commas l.close (end_fault l.at_end) element l.bytes
 
 abbrev pub invariant-read_entries-loop : goal.invariant-read_entries-loop
 invariant-read_entries-loop l =
-    with_front l.entries (entries_at l.total (value_at l.total l.budget true (end_fault l.at_end)) (end_fault l.at_end) (length l.bytes - l.counter) l.rest)
-    ≡ entries_at l.total (value_at l.total l.budget true (end_fault l.at_end)) (end_fault l.at_end) (length l.bytes) l.bytes
+    let element = entry_at l.total (value_at l.total l.budget true (end_fault l.at_end)) (end_fault l.at_end) in
+    behind_front (map key_and_value l.entries.items) (elements_at (after_blank true) 125 (end_fault l.at_end) element
+    (length l.bytes - l.counter) l.rest)
+    ≡ closed_at true 125 (end_fault l.at_end) element l.bytes

@@ -6,7 +6,8 @@ use Rattle.hub_core.proofs.holding.Kept.event_before.Goals as goal
 pub returns-in_ok-insert-in-Assert : goal.returns-in_ok-insert-in-Assert
 returns-in_ok-insert-in-Assert c = λ later k.
     kept_assertion later c.args.self.now _ c.args.event.now c.in-Assert.value c.in-Assert.handle c.in-Assert.is
-    (ap (list_any (λ n. eqb n c.in-Assert.handle)) (sym c.deref.ensures.value) ∙ (sym c.contains.ensures.value ∙ c.if-not-contains.true))
+    (ap (list_any (λ n. eqb n c.in-Assert.handle)) (sym c.deref.ensures.value)
+    ∙ (sym c.contains.ensures.value ∙ c.if-not-contains.true))
     refl
     (cc (c.in_ok-insert-in-Assert.ensures, c.in_ok-copy-in-Assert.ensures))
     k
@@ -14,5 +15,6 @@ returns-in_ok-insert-in-Assert c = λ later k.
 pub returns-else-not-contains : goal.returns-else-not-contains
 returns-else-not-contains c = λ later k.
     retracted_assertion later c.args.self.now _ c.args.event.now c.in-Assert.value c.in-Assert.handle c.in-Assert.is
-    (ap (list_any (λ n. eqb n c.in-Assert.handle)) (sym c.deref.ensures.value) ∙ (sym c.contains.ensures.value ∙ c.if-not-contains.false))
+    (ap (list_any (λ n. eqb n c.in-Assert.handle)) (sym c.deref.ensures.value)
+    ∙ (sym c.contains.ensures.value ∙ c.if-not-contains.false))
     refl refl k

@@ -8,10 +8,26 @@ use Rattle.hub_core.proofs.hub.Hub.connection_turn.Goals as goal
 
 pub returns : goal.returns
 returns c =
-    let s : State = record { next = c.self.inside.next; opened = c.self.inside.opened; rows = c.self.inside.rows.items; actors = c.self.inside.actors.items } in
-    let left : State = record { next = c.self.inside.next; opened = c.self.inside.opened; rows = c.self.inside.rows.items; actors = c.give_back.new.actors.items } in
-    let turn : record { state = left; reply = Sent c.in_ok-sent.sent } ≡ turn_of spaces s (find_actor c.args.actor s.actors) =
-    connection_given spaces s c.args.actor c.in-Some.i c.in-Some-take_batch.from c.in-Some-take_batch.events.items c.in-Some-take_batch.got.items c.take_events.new.got.items
+    let s : State =
+    record {
+      next = c.self.inside.next;
+      opened = c.self.inside.opened;
+      rows = c.self.inside.rows.items;
+      actors =
+          c.self.inside.actors.items;
+    } in
+    let left : State =
+    record {
+      next = c.self.inside.next;
+      opened = c.self.inside.opened;
+      rows = c.self.inside.rows.items;
+      actors =
+          c.give_back.new.actors.items;
+    } in
+    let turn : record { state = left; reply = Sent c.in_ok-sent.sent }
+    ≡ turn_of spaces s (find_actor c.args.actor s.actors) =
+    connection_given spaces s c.args.actor c.in-Some.i c.in-Some-take_batch.from c.in-Some-take_batch.events.items
+    c.in-Some-take_batch.got.items c.take_events.new.got.items
     c.take_batch.new.actors.items c.give_back.new.actors.items c.in_ok-sent.sent
     (subst (λ (xs : List Actor). IsPlace c.args.actor xs c.in-Some.i) c.deref.ensures.value c.in-Some.ensures)
     c.in-Some-take_batch.ensures
@@ -20,6 +36,9 @@ returns c =
     c.give_back.ensures
     (cc (c.in_ok-sent.ensures, c.deref-3.ensures.value)) in
     record {
-      state = subst (λ (z : State). left ≡ (turn_of spaces z (find_actor c.args.actor z.actors)).state) c.self.view_is (ap (λ (r : After). r.state) turn);
-      reply = subst (λ (z : State). Sent c.in_ok-sent.sent ≡ (turn_of spaces z (find_actor c.args.actor z.actors)).reply) c.self.view_is (ap (λ (r : After). r.reply) turn);
+      state = subst (λ (z : State). left ≡ (turn_of spaces z (find_actor c.args.actor z.actors)).state) c.self.view_is
+          (ap (λ (r : After). r.state) turn);
+      reply = subst
+          (λ (z : State). Sent c.in_ok-sent.sent ≡ (turn_of spaces z (find_actor c.args.actor z.actors)).reply)
+          c.self.view_is (ap (λ (r : After). r.reply) turn);
     }

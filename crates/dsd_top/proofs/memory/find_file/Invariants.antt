@@ -1,8 +1,0 @@
-use Rattle.std.proofs.Common.{◌≡◌, drop}
-use Rattle.dsd_top.specs.Ports.{contents_of}
-use Rattle.dsd_top.specs.Memory.{told_files}
-use Rattle.dsd_top.proofs.memory.find_file.Given as goal
-
--- no file so far has the name
-abbrev pub invariant-loop-file : goal.invariant-loop-file
-invariant-loop-file l = contents_of l.name (told_files l.files) ≡ contents_of l.name (told_files (drop l.file-index l.files))

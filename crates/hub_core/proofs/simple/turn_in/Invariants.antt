@@ -1,7 +1,0 @@
-use Rattle.std.proofs.Common.{◌≡◌, map, take}
-use Rattle.hub_core.specs.Packets.{aimed_value}
-use Rattle.hub_core.specs.FirstPath.{IsSimpleTurn}
-use Rattle.hub_core.proofs.simple.turn_in.Given as goal
-
-abbrev pub invariant-loop-item : goal.invariant-loop-item
-invariant-loop-item l = record { simple : IsSimpleTurn l.events.items; same : map aimed_value l.events.items ≡ take l.item-index l.item-items }

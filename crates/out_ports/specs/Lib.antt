@@ -1,0 +1,6 @@
+pub mod Calls
+pub mod MemHost
+pub mod MemListen
+pub mod MemSink
+pub mod MemSource
+pub mod Ports

@@ -1,0 +1,207 @@
+//! The outside world as the program sees it: sources, sinks, listeners and hosts.
+//!
+//! Each of them counts its own faults, in a count that never falls and stops at the greatest u64.
+//! A call that answers `Failed` has raised that count, and code that is generic over a trait can't
+//! raise it. What a source has left, what a sink holds and what files a host has is told by some
+//! and not by others.
+ghost use Rattle.std.specs.Prelude.{◌≡◌, ℕ, ◌<◌, ◌≤◌, Bool, List, length, vec_len, Option};
+ghost use Rattle.std.specs.Prelude.{IfOk, IsErrOf, OnOk, OnErr};
+ghost use Rattle.out_ports.specs.declared.ports.HostFault.TheVariants.{NoMemory};
+ghost use Rattle.out_ports.specs.Ports.{raised, Rose, FitsBuffer, IsTaken, given_after};
+ghost use Rattle.out_ports.specs.Ports.{ended_after, FitsPiece, IsPut, gave_after, stops_after};
+ghost use Rattle.out_ports.specs.Ports.{IsFile};
+
+use std::alloc::{AllocError, Global};
+use thiserror::Error;
+
+/// The most bytes of a file that a host gives: one more than a file may have, so that a longer one
+/// shows.
+pub const FILE_READ: usize = 1_048_577;
+
+/// The answer of a [`Source`] to a take.
+#[derive(Clone, Copy, Debug, PartialEq, Eq)]
+pub enum Took {
+    /// The first so many bytes of the buffer are written.
+    Some(usize),
+    /// Nothing is left.
+    End,
+    Failed,
+}
+
+/// Something that gives bytes, as standard input or the reading half of a link.
+pub trait Source {
+    /// What is left to be taken, where the source tells it.
+    ghost left: { Self → Option (List ℕ) };
+
+    /// How many bytes it has given, at most the greatest u64.
+    ghost given: { Self → ℕ };
+
+    /// Whether a take has answered the end.
+    ghost ended: { Self → Bool };
+
+    /// How often it has failed.
+    ghost faults: { Self → ℕ };
+
+    /// How often it has failed.
+    fn faults(&self) -> u64
+        ensures { result ≡ faults self.now };
+
+    /// Writes the next bytes to the front of the buffer, as many as the source likes to give at
+    /// once.
+    fn take(&mut self, buf: &mut [u8]) -> Took
+        requires { 0 < length buf.old }
+        ensures size { FitsBuffer result (length buf.old) }
+        ensures content { IsTaken result buf.new (left self.old) (left self.new) }
+        ensures counted { given self.new ≡ given_after result (given self.old) }
+        ensures at_end { ended self.new ≡ ended_after result (ended self.old) }
+        ensures lasting { faults self.old ≤ faults self.new }
+        ensures cause { result ≡ Took.Failed → Rose (faults self.old) (faults self.new) };
+}
+
+/// The answer of a [`Sink`] to a put.
+#[derive(Clone, Copy, Debug, PartialEq, Eq)]
+pub enum Put {
+    /// The first so many bytes of the piece are taken.
+    Some(usize),
+    Failed,
+}
+
+/// Something that takes bytes, as standard output or the writing half of a link.
+pub trait Sink {
+    /// What it holds, where it tells that.
+    ghost held: { Self → Option (List ℕ) };
+
+    /// How often it was finished, at most the greatest u64.
+    ghost finishes: { Self → ℕ };
+
+    /// How often it has failed.
+    ghost faults: { Self → ℕ };
+
+    /// How often it has failed.
+    fn faults(&self) -> u64
+        ensures { result ≡ faults self.now };
+
+    /// Appends the front of the piece, as much as the sink likes to take at once.
+    fn put(&mut self, piece: &[u8]) -> Put
+        requires { 0 < length piece.now }
+        ensures size { FitsPiece result (length piece.now) }
+        ensures content { IsPut result piece.now (held self.old) (held self.new) }
+        ensures unfinished { finishes self.new ≡ finishes self.old }
+        ensures lasting { faults self.old ≤ faults self.new }
+        ensures cause { result ≡ Put.Failed → Rose (faults self.old) (faults self.new) };
+
+    /// Says that no more comes. A link is shut down both ways by it.
+    fn finish(&mut self)
+        ensures finished { finishes self.new ≡ raised 1 (finishes self.old) }
+        ensures content { held self.new ≡ held self.old }
+        ensures count { faults self.new ≡ faults self.old };
+}
+
+/// The answer of a [`Listen`] to an accept.
+#[derive(Debug, Drop)]
+pub enum Accepted<R, W> {
+    /// A new link's reading and writing half.
+    Link(R, W),
+    /// No more links come.
+    Stopped,
+    Failed,
+    NoMemory,
+}
+
+/// Something that gives links.
+pub trait Listen {
+    type R: Source;
+
+    type W: Sink;
+
+    /// How many links it has given, at most the greatest u64.
+    ghost gave: { Self → ℕ };
+
+    /// How often it has answered that no more come, at most the greatest u64.
+    ghost stops: { Self → ℕ };
+
+    /// How often an accept has failed.
+    ghost faults: { Self → ℕ };
+
+    /// Where it accepts, none before it has a port.
+    ghost address: { Self → Option (List ℕ) };
+
+    /// How often an accept has failed.
+    fn faults(&self) -> u64
+        ensures { result ≡ faults self.now };
+
+    /// The next link.
+    fn accept(&mut self, alloc: Global) -> Accepted<Self::R, Self::W>
+        ensures links { gave self.new ≡ gave_after result (gave self.old) }
+        ensures ends { stops self.new ≡ stops_after result (stops self.old) }
+        ensures no_port { address self.old ≡ None → result ≡ Accepted.Stopped }
+        ensures place { address self.new ≡ address self.old }
+        ensures lasting { faults self.old ≤ faults self.new }
+        ensures cause { result ≡ Accepted.Failed → Rose (faults self.old) (faults self.new) };
+}
+
+/// Why a host's call failed.
+#[derive(Clone, Copy, Debug, PartialEq, Eq, Error)]
+pub enum HostFault {
+    #[error("the file or the port failed")]
+    Failed,
+    #[error("out of memory")]
+    NoMemory,
+}
+
+impl From<AllocError> for HostFault {
+    ghost from_gives = { λ _ fault. fault ≡ NoMemory };
+
+    fn from(_: AllocError) -> Self {
+        HostFault::NoMemory
+    }
+}
+
+/// The files and the port that a program is given.
+pub trait Host: Listen {
+    /// The files, as names and contents, where the host tells them. The first of a name counts.
+    ghost files: { Self → Option (List (List ℕ × List ℕ)) };
+
+    /// How often a file couldn't be read.
+    ghost file_faults: { Self → ℕ };
+
+    /// How often a port couldn't be opened.
+    ghost port_faults: { Self → ℕ };
+
+    /// How often a file couldn't be read.
+    fn file_faults(&self) -> u64
+        ensures { result ≡ file_faults self.now };
+
+    /// How often a port couldn't be opened.
+    fn port_faults(&self) -> u64
+        ensures { result ≡ port_faults self.now };
+
+    /// The first [`FILE_READ`] bytes of a file.
+    fn file(&mut self, alloc: Global, name: &str) -> Result<Vec<u8>, HostFault>
+        ensures size { IfOk result (λ bytes. vec_len bytes ≤ 1048577) }
+        ensures content { IfOk result (λ bytes. IsFile (files self.old) name.now bytes.items) }
+        ensures cause { IsErrOf result HostFault.Failed →
+            Rose (file_faults self.old) (file_faults self.new) }
+        ensures lasting { file_faults self.old ≤ file_faults self.new }
+        ensures same_files { files self.new ≡ files self.old }
+        // What is told of ports and links stays.
+        ensures place { Self.address self.new ≡ Self.address self.old }
+        ensures links { Self.gave self.new ≡ Self.gave self.old }
+        ensures ends { Self.stops self.new ≡ Self.stops self.old }
+        ensures port_lasting { port_faults self.old ≤ port_faults self.new }
+        ensures accept_lasting { Self.faults self.old ≤ Self.faults self.new };
+
+    /// Opens a port, from which links are accepted from then on.
+    fn port(&mut self, alloc: Global, addr: &str) -> Result<(), HostFault>
+        ensures open { OnOk result (Self.address self.new ≡ Some addr.now) }
+        ensures stays { OnErr result (Self.address self.new ≡ Self.address self.old) }
+        ensures cause { IsErrOf result HostFault.Failed →
+            Rose (port_faults self.old) (port_faults self.new) }
+        ensures lasting { port_faults self.old ≤ port_faults self.new }
+        // What is told of files and links stays.
+        ensures same_files { files self.new ≡ files self.old }
+        ensures links { Self.gave self.new ≡ Self.gave self.old }
+        ensures ends { Self.stops self.new ≡ Self.stops self.old }
+        ensures file_lasting { file_faults self.old ≤ file_faults self.new }
+        ensures accept_lasting { Self.faults self.old ≤ Self.faults self.new };
+}

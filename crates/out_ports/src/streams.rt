@@ -1,0 +1,73 @@
+//! Whole texts over sources and sinks: reading one to its end, and writing one.
+ghost use Rattle.std.specs.Prelude.{◌≡◌, ◌≤◌, true, IfOk, IfSome, IsErrOf, OnOk, OnErr};
+ghost use Rattle.out_ports.specs.declared.streams.ReadFault.TheVariants.{NoMemory};
+ghost use Rattle.out_ports.specs.Ports.{Rose, Appends, AppendsFront};
+
+use crate::ports::{Put, Sink, Source, Took};
+use std::alloc::{AllocError, Global};
+use thiserror::Error;
+
+/// How many bytes one take asks for.
+const PIECE: usize = 4096;
+
+/// Why a source couldn't be read to its end.
+#[derive(Clone, Copy, Debug, PartialEq, Eq, Error)]
+pub enum ReadFault {
+    #[error("the source failed")]
+    Failed,
+    #[error("out of memory")]
+    NoMemory,
+}
+
+impl From<AllocError> for ReadFault {
+    ghost from_gives = { λ _ fault. fault ≡ NoMemory };
+
+    fn from(_: AllocError) -> Self {
+        ReadFault::NoMemory
+    }
+}
+
+/// The sink failed.
+#[derive(Clone, Copy, Debug, PartialEq, Eq, Error)]
+#[error("the sink failed")]
+pub struct WriteFault;
+
+/// Reads all that a source gives until it ends. A source that gives 2^64 - 1 pieces without an end
+/// counts as more than there is memory for. After a fault, what was read is gone.
+pub fn read_to_end<I: Source>(alloc: Global, source: &mut I) -> Result<Vec<u8>, ReadFault>
+    ensures content { IfOk result (λ all. IfSome (I.left source.old) (λ bytes. all.items ≡ bytes)) }
+    ensures at_end { OnOk result (I.ended source.new ≡ true) }
+    ensures lasting { I.faults source.old ≤ I.faults source.new }
+    ensures cause { IsErrOf result ReadFault.Failed →
+        Rose (I.faults source.old) (I.faults source.new) }
+{
+    let mut all = Vec::new(alloc);
+    let mut buf = [0; PIECE];
+    for _ in 0..u64::MAX {
+        match source.take(&mut buf) {
+            Took::Some(n) => all.extend_from_slice(&buf[..n])?,
+            Took::End => return Ok(all),
+            Took::Failed => return Err(ReadFault::Failed),
+        }
+    }
+    Err(ReadFault::NoMemory)
+}
+
+/// Writes all the bytes, in as many pieces as the sink wants. After a fault the sink holds a front
+/// of them.
+pub fn write_all<O: Sink>(sink: &mut O, bytes: &[u8]) -> Result<(), WriteFault>
+    ensures written { OnOk result (Appends (O.held sink.old) (O.held sink.new) bytes.now) }
+    ensures front { OnErr result (AppendsFront (O.held sink.old) (O.held sink.new) bytes.now) }
+    ensures cause { OnErr result (Rose (O.faults sink.old) (O.faults sink.new)) }
+    ensures lasting { O.faults sink.old ≤ O.faults sink.new }
+    ensures unfinished { O.finishes sink.new ≡ O.finishes sink.old }
+{
+    let mut at = 0;
+    while at < bytes.len() {
+        match sink.put(&bytes[at..]) {
+            Put::Some(n) => at += n,
+            Put::Failed => return Err(WriteFault),
+        }
+    }
+    Ok(())
+}

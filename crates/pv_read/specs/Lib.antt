@@ -1,0 +1,5 @@
+pub mod Answers
+pub mod Elements
+pub mod Leading
+pub mod Lemmas
+pub mod Results

@@ -1,0 +1,8 @@
+use Rattle.pv_value.proofs.Ascends.{keys_ascend_from_sort, never_so}
+use Rattle.pv_value.proofs.sets.in_order_of_keys.Goals as goal
+
+pub returns-clause-none : goal.returns-clause-none
+returns-clause-none c = λ e apart.
+    let sorted = keys_ascend_from_sort _ _ apart c.sort_unstable.ensures.permutation c.sort_unstable.ensures.sorted in
+    never_so c.do_keys_ascend-2.result c.if-do_keys_ascend-2.false
+    (c.do_keys_ascend-2.ensures.no (rw c.deref-2.ensures.value sorted))

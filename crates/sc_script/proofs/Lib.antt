@@ -1,0 +1,12 @@
+pub mod Deciding
+pub mod Drained
+pub mod FirstTurns
+pub mod Handles
+pub mod Opened
+pub mod Readings
+pub mod Replays
+pub mod Standing
+pub mod TextVerdicts
+pub mod Turns
+pub mod Verdicts
+pub mod Wording
