@@ -1,0 +1,55 @@
+use Rattle.std.proofs.Common.{◌≡◌, ◌∙◌, sym, ap, refl, arith, Some}
+use Rattle.std.specs.BTreeSet.{btree_set_len}
+use Rattle.ac_table.specs.Faults.{actor_fault}
+use Rattle.ac_table.specs.declared.table.Seat.{Seat}
+use Rattle.ac_table.proofs.Becomes.{ended_is}
+use Rattle.ac_table.proofs.Finding.{fault_from, no_fault, memory_fault}
+use Rattle.ac_table.proofs.Keeps.{kept_ended}
+use Rattle.ac_table.proofs.table.Table.end_actor.Goals as goal
+
+pub returns-in_default-clause-fault : goal.returns-in_default-clause-fault
+returns-in_default-clause-fault c = let i = c.self.inside in (
+  sym (ap (actor_fault c.args.actor) c.self.view_is)
+      ∙ fault_from c.args.actor i.next i.rows.entries i.seats.entries (sym c.in_default.ensures.value),
+  refl,
+)
+
+pub returns-in_err-room-clause-fault : goal.returns-in_err-room-clause-fault
+returns-in_err-room-clause-fault c = let i = c.self.inside in
+    memory_fault _ _ _ _ (sym (ap (actor_fault c.args.actor) c.self.view_is)
+    ∙ no_fault c.args.actor i.next i.rows.entries i.seats.entries _ (sym c.in-Some.ensures.value))
+    c.from_residual.ensures.0 c.from_residual.ensures.1
+
+pub take_rows-requires : goal.take_rows-requires
+take_rows-requires c =
+    let seat : Some c.in-Some.seat.now ≡ Some c.in-Some-remove.seat =
+    c.in-Some.ensures.value ∙ sym c.in-Some-remove.ensures.value in
+    let same : c.in-Some.seat.now ≡ c.in-Some-remove.seat = grind (arith, seat) in
+    let len : btree_set_len c.in-Some.seat.now.own ≡ btree_set_len c.in-Some-remove.seat.own =
+    ap (λ (s : Seat). btree_set_len s.own) same in
+    record {
+      keyed = c.self.invariant.keyed;
+      ordered = c.self.invariant.rows_ascend;
+      room = omega (arith, c.in_ok-room.ensures.capacity, c.len.ensures.len, len);
+      empty = c.in_ok-room.ensures.items;
+    }
+
+pub invariant_of-self-2 : goal.invariant_of-self-2
+invariant_of-self-2 c = let i = c.self.inside in
+    let own = c.self.invariant.owned c.args.actor c.in-Some-remove.seat (sym c.in-Some-remove.ensures.value) in
+    let taken = c.take_rows.ensures.taken c.args.actor own in
+    kept_ended c.args.actor i.next i.rows.entries c.take_rows.new.rows.entries i.seats.entries c.remove.new.self.entries
+    i.busy.keys c.remove-2.new.self.keys c.self.invariant c.remove.ensures.updates.0 c.remove.ensures.ordered
+    c.remove-2.ensures.updates.0 c.take_rows.ensures.keyed taken.0 c.take_rows.ensures.ordered
+
+pub returns-clause-fault : goal.returns-clause-fault
+returns-clause-fault c = let i = c.self.inside in
+    sym (ap (actor_fault c.args.actor) c.self.view_is)
+    ∙ no_fault c.args.actor i.next i.rows.entries i.seats.entries _ (sym c.in-Some.ensures.value)
+
+pub returns-clause-ended : goal.returns-clause-ended
+returns-clause-ended c = let i = c.self.inside in
+    let own = c.self.invariant.owned c.args.actor c.in-Some-remove.seat (sym c.in-Some-remove.ensures.value) in
+    let taken = c.take_rows.ensures.taken c.args.actor own in
+    ended_is c.args.actor i.next i.rows.entries c.take_rows.new.rows.entries i.seats.entries c.remove.new.self.entries _
+    c.self.view_is taken.0 c.self.invariant.seats_ascend c.remove.ensures.entries

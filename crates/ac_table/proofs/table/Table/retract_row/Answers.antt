@@ -1,0 +1,83 @@
+use Rattle.std.proofs.Common.{◌≡◌, ◌∙◌, sym, ap, refl, List, ℕ, Some, None, true, false, is_some, map}
+use Rattle.std.specs.Map.{values_of}
+use Rattle.ac_table.specs.Kept.{IsKept, value_at, state_of, seen}
+use Rattle.ac_table.specs.Faults.{row_fault}
+use Rattle.ac_table.specs.Tables.{Row}
+use Rattle.ac_table.specs.declared.table.Seat.{Seat}
+use Rattle.ac_table.proofs.Becomes.{retracted_is}
+use Rattle.ac_table.proofs.Changes.{seen-set_same}
+use Rattle.ac_table.proofs.Finding.{row_missing, row_present}
+use Rattle.ac_table.proofs.Keeps.{reseated_from, kept_retracted, owner_lives}
+use Rattle.ac_table.proofs.Removing.{found_from, values_removed, values_from}
+use Rattle.ac_table.proofs.table.Table.retract_row.Goals as goal
+
+pub returns-in_default-clause-fault : goal.returns-in_default-clause-fault
+returns-in_default-clause-fault c = let i = c.self.inside in
+    let gone = sym (found_from i.rows.entries c.args.handle c.self.invariant.keyed)
+    ∙ sym c.in_default.ensures.value in (
+      sym (ap (row_fault c.args.handle) c.self.view_is)
+          ∙ row_missing c.args.handle i.next i.rows.entries i.seats.entries gone,
+      ap (λ (rows : List (ℕ × Row)). state_of i.next rows i.seats.entries) c.in_default.ensures.unchanged
+          ∙ c.self.view_is,
+    )
+
+-- the owner of a row is live
+lives : (h : ℕ) (rows : List (ℕ × Row)) (seats : List (ℕ × Seat)) (busy : List ℕ) (next : ℕ) (r : Row)
+    → IsKept next rows seats busy → Some r ≡ value_at h rows → None ≡ value_at r.owner seats → ⊥
+lives h rows seats busy next r k found none =
+    let some : is_some (value_at r.owner seats) ≡ true =
+    owner_lives h seats (values_of rows) r k.owners (sym (found_from rows h k.keyed) ∙ sym found) in
+    let clash : is_some (value_at r.owner seats) ≡ false = ap is_some (sym none) in
+    absurd cc
+
+pub invariant_of-self-in_default-get_mut : goal.invariant_of-self-in_default-get_mut
+invariant_of-self-in_default-get_mut c =
+    absurd (lives _ _ _ _ _ _ c.self.invariant c.in-Some.ensures.value c.in_default-get_mut.ensures.value)
+
+pub returns-in_default-get_mut-clause-fault : goal.returns-in_default-get_mut-clause-fault
+returns-in_default-get_mut-clause-fault c =
+    absurd (lives _ _ _ _ _ _ c.self.invariant c.in-Some.ensures.value c.in_default-get_mut.ensures.value)
+
+pub returns-in_default-get_mut-clause-gone : goal.returns-in_default-get_mut-clause-gone
+returns-in_default-get_mut-clause-gone c =
+    absurd (lives _ _ _ _ _ _ c.self.invariant c.in-Some.ensures.value c.in_default-get_mut.ensures.value)
+
+pub returns-in_default-get_mut-clause-row : goal.returns-in_default-get_mut-clause-row
+returns-in_default-get_mut-clause-row c =
+    absurd (lives _ _ _ _ _ _ c.self.invariant c.in-Some.ensures.value c.in_default-get_mut.ensures.value)
+
+pub invariant_of-self-2 : goal.invariant_of-self-2
+invariant_of-self-2 c = let i = c.self.inside in
+    let k = c.self.invariant in
+    let t : Seat = record { own = c.remove-2.new.self; inbox = c.in-Some-get_mut.seat.now.inbox } in
+    let new = c.get_mut.follows.lender t in
+    let re = reseated_from c.in-Some.row.owner c.in-Some-get_mut.seat.now t i.seats new
+    (sym c.in-Some-get_mut.ensures.value) (c.get_mut.follows.holds t) in
+    let found = sym (found_from i.rows.entries c.args.handle k.keyed) ∙ sym c.in-Some.ensures.value in
+    kept_retracted c.args.handle i.next c.in-Some-get_mut.seat.now t c.in-Some.row i.rows.entries
+    c.remove.new.self.entries
+    i.seats.entries new.entries i.busy.keys k re c.remove-2.ensures.keys refl found
+    (values_removed _ _ _ k.keyed k.rows_ascend c.remove.ensures.entries) c.remove.ensures.ordered
+
+pub returns-clause-fault : goal.returns-clause-fault
+returns-clause-fault c = let i = c.self.inside in
+    let found = sym (found_from i.rows.entries c.args.handle c.self.invariant.keyed) ∙ sym c.in-Some.ensures.value in
+    sym (ap (row_fault c.args.handle) c.self.view_is)
+    ∙ row_present c.args.handle i.next i.rows.entries i.seats.entries c.in-Some.row found
+
+pub returns-clause-gone : goal.returns-clause-gone
+returns-clause-gone c = let i = c.self.inside in
+    let k = c.self.invariant in
+    let t : Seat = record { own = c.remove-2.new.self; inbox = c.in-Some-get_mut.seat.now.inbox } in
+    let new = c.get_mut.follows.lender t in
+    let w = c.get_mut.follows.holds t in
+    retracted_is c.args.handle i.next i.rows.entries c.remove.new.self.entries i.seats.entries new.entries _
+    c.self.view_is
+    (values_from _ _ (values_removed _ _ _ k.keyed k.rows_ascend c.remove.ensures.entries))
+    (ap (map seen) w.0 ∙ seen-set_same c.in-Some.row.owner c.in-Some-get_mut.seat.now t i.seats.entries
+    (sym c.in-Some-get_mut.ensures.value) refl)
+
+pub returns-clause-row : goal.returns-clause-row
+returns-clause-row c = let i = c.self.inside in
+    let found = sym (found_from i.rows.entries c.args.handle c.self.invariant.keyed) ∙ sym c.in-Some.ensures.value in
+    rw (← c.self.view_is) found

@@ -1,0 +1,247 @@
+//! The table, as ordered maps.
+ghost use Rattle.std.specs.Prelude.{◌≡◌, ◌<◌, ◌^◌, ◌-◌, false, min, IfOk, OnOk, OnErr, Err};
+ghost use Rattle.std.specs.Prelude.{option_copied, MatchOption, None, Some, IfNone, ◌≢◌};
+ghost use Rattle.ac_table.specs.declared.TableFault.TheVariants.{NoMemory as no_memory};
+ghost use Rattle.ac_table.specs.Faults.{actor_fault, facet_fault, row_fault, Faults, ExactFaults};
+ghost use Rattle.ac_table.specs.Tables.{opening, is_live, find_row, rows_of, handles, first_batch};
+ghost use Rattle.ac_table.specs.Tables.{lowest, waiting, joined, asserted, retracted, ended};
+ghost use Rattle.ac_table.specs.Tables.{pushed};
+ghost use Rattle.ac_table.specs.Tables.{popped, IsTable};
+
+use crate::TableFault;
+use crate::batches::{Batch, Row};
+use crate::keeping::{put_row, take_rows};
+use pv_value::{NoMemory, Value};
+use std::alloc::Global;
+use std::collections::{BTreeMap, BTreeSet, VecDeque};
+use std::marker::Model;
+
+/// A live actor: the handles of its rows, and what waits for it.
+#[derive(Drop)]
+struct Seat {
+    own: BTreeSet<u64>,
+    inbox: VecDeque<Batch>,
+}
+
+/// Live actors with their inboxes, and rows.
+#[derive(Drop)]
+pub struct Table {
+    alloc: Global,
+    next: u64,
+    rows: BTreeMap<u64, Row>,
+    seats: BTreeMap<u32, Seat>,
+    /// The actors for which a batch waits.
+    busy: BTreeSet<u32>,
+}
+
+impl Model for Table {
+    ghost use Rattle.std.specs.Coded.{codes};
+    ghost use Rattle.pv_value.specs.Lemmas.Coded.{plain_code};
+    ghost use Rattle.ac_table.specs.Tables.{TableState};
+
+    ghost Value = { TableState };
+
+    ghost coded = { Prim.hlevel (codes, plain_code) };
+
+    ghost use Rattle.ac_table.specs.Kept.{state_of, IsKept};
+
+    ghost view = { λ t. state_of t.next t.rows.entries t.seats.entries };
+
+    ghost invariant = { λ t. IsKept t.next t.rows.entries t.seats.entries t.busy.keys };
+}
+
+impl Table {
+    /// No actor is live, and the next handle is 1.
+    pub fn new(alloc: Global) -> Table
+        ensures { result ≡ opening }
+    {
+        Table {
+            alloc,
+            next: 1,
+            rows: BTreeMap::new(alloc),
+            seats: BTreeMap::new(alloc),
+            busy: BTreeSet::new(alloc),
+        }
+    }
+
+    pub fn live(&self, actor: u32) -> bool
+        ensures { result ≡ is_live actor self.now }
+    {
+        self.seats.contains_key(&actor)
+    }
+
+    pub fn row(&self, handle: u64) -> Option<&Row>
+        ensures { option_copied result ≡ find_row handle self.now.rows }
+    {
+        self.rows.get(&handle)
+    }
+
+    pub fn next_handle(&self) -> u64
+        ensures { result ≡ self.now.next }
+    {
+        self.next
+    }
+
+    /// The batch that the actor takes next.
+    pub fn first(&self, actor: u32) -> Option<&Batch>
+        ensures { option_copied result ≡ first_batch actor self.now }
+    {
+        let seat = self.seats.get(&actor)?;
+        seat.inbox.front()
+    }
+
+    /// The lowest of the actors for which a batch waits.
+    pub fn lowest(&self) -> Option<u32>
+        ensures { result ≡ lowest self.now }
+    {
+        self.busy.first().copied()
+    }
+
+    /// How many batches wait.
+    pub fn batches(&self) -> u64
+        ensures { result ≡ min (waiting self.now) (2 ^ 64 - 1) }
+    {
+        let mut waiting: u64 = 0;
+        for seat in self.seats.values() {
+            waiting = waiting.saturating_add(seat.inbox.len() as u64);
+        }
+        waiting
+    }
+
+    /// The handles of a live actor's rows, ascending.
+    pub fn own_handles(&self, actor: u32) -> Option<&BTreeSet<u64>>
+        ensures { MatchOption result (is_live actor self.now ≡ false)
+            (λ own. own.now.keys ≡ handles (rows_of actor self.now.rows)) }
+    {
+        let seat = self.seats.get(&actor)?;
+        Some(&seat.own)
+    }
+
+    /// What is true of every table.
+    pub fn keeps_its_order(&self)
+        ensures { IsTable self.now }
+    {
+        let _ = &self.next;
+    }
+
+    /// Makes an actor live that isn't, as one is whose number was never used.
+    pub fn add_actor(&mut self, actor: u32) -> Result<(), NoMemory>
+        requires { is_live actor self.old ≡ false }
+        ensures joined { OnOk result (self.new ≡ joined actor self.old) }
+        ensures unchanged { OnErr result (self.new ≡ self.old) }
+    {
+        let seat = Seat {
+            own: BTreeSet::new(self.alloc),
+            inbox: VecDeque::new(self.alloc),
+        };
+        self.seats.insert(actor, seat)?;
+        Ok(())
+    }
+
+    /// One more row of the owner, at the object `to.1` of the actor `to.0`; answers its handle.
+    /// A handle of 2^63 or more is never given: there memory is said to be wanting.
+    pub fn assert_row(
+        &mut self,
+        owner: u32,
+        facet: u32,
+        to: (u32, u64),
+        value: Value,
+    ) -> Result<u64, TableFault>
+        ensures fault { Faults (facet_fault owner facet self.old) self.old self.new result }
+        ensures made { OnOk result (self.new ≡ asserted owner facet to.0 to.1 value self.old) }
+        ensures handle { IfOk result (λ handle. handle ≡ self.old.next) }
+        ensures small { IfOk result (λ handle. handle < 2 ^ 63) }
+    {
+        if !self.live(owner) {
+            return Err(TableFault::NoActor);
+        }
+        if facet != 0 {
+            return Err(TableFault::NoFacet);
+        }
+        let handle = self.next;
+        if handle >= 1 << 63 {
+            return Err(TableFault::NoMemory);
+        }
+        let Some(seat) = self.seats.get_mut(&owner) else {
+            return Err(TableFault::NoActor);
+        };
+        let row = Row {
+            handle,
+            owner,
+            facet,
+            target: to.0,
+            entity: to.1,
+            value,
+        };
+        put_row(&mut self.rows, &mut seat.own, row)?;
+        self.next = handle + 1;
+        Ok(handle)
+    }
+
+    /// Takes a row out.
+    pub fn retract_row(&mut self, handle: u64) -> Result<Row, TableFault>
+        ensures fault { ExactFaults (row_fault handle self.old) self.old self.new result }
+        ensures memory { result ≢ Err no_memory }
+        ensures gone { OnOk result (self.new ≡ retracted handle self.old) }
+        ensures row { IfOk result (λ row. find_row handle self.old.rows ≡ Some row) }
+    {
+        let Some(row) = self.rows.remove(&handle) else {
+            return Err(TableFault::NoRow);
+        };
+        // The owner of each row is live.
+        let Some(seat) = self.seats.get_mut(&row.owner) else {
+            return Ok(row);
+        };
+        seat.own.remove(&handle);
+        Ok(row)
+    }
+
+    /// Takes an actor out, with its inbox; answers its rows, which go too, ascending by handle.
+    pub fn end_actor(&mut self, actor: u32) -> Result<Vec<Row>, TableFault>
+        ensures fault { Faults (actor_fault actor self.old) self.old self.new result }
+        ensures ended { OnOk result (self.new ≡ ended actor self.old) }
+        ensures rows { IfOk result (λ rows. rows.items ≡ rows_of actor self.old.rows) }
+    {
+        let Some(seat) = self.seats.get(&actor) else {
+            return Err(TableFault::NoActor);
+        };
+        let room = Vec::with_capacity(self.alloc, seat.own.len())?;
+        let Some(seat) = self.seats.remove(&actor) else {
+            return Err(TableFault::NoActor);
+        };
+        self.busy.remove(&actor);
+        Ok(take_rows(&mut self.rows, seat.own, room))
+    }
+
+    /// One more batch for a live actor, behind those that wait.
+    pub fn push_batch(&mut self, actor: u32, batch: Batch) -> Result<(), TableFault>
+        ensures fault { Faults (actor_fault actor self.old) self.old self.new result }
+        ensures pushed { OnOk result (self.new ≡ pushed actor batch self.old) }
+    {
+        let Some(seat) = self.seats.get_mut(&actor) else {
+            return Err(TableFault::NoActor);
+        };
+        seat.inbox.reserve(1)?;
+        self.busy.insert(actor)?;
+        seat.inbox.push_back(batch)?;
+        Ok(())
+    }
+
+    /// Takes the first batch for a live actor, where one waits.
+    pub fn pop_batch(&mut self, actor: u32) -> Result<Option<Batch>, TableFault>
+        ensures fault { ExactFaults (actor_fault actor self.old) self.old self.new result }
+        ensures memory { result ≢ Err no_memory }
+        ensures batch { IfOk result (λ batch. batch ≡ first_batch actor self.old) }
+        ensures popped { OnOk result (self.new ≡ popped actor self.old) }
+        ensures none { IfOk result (λ batch. IfNone batch (self.new ≡ self.old)) }
+    {
+        let Some(seat) = self.seats.get_mut(&actor) else {
+            return Err(TableFault::NoActor);
+        };
+        let batch = seat.inbox.pop_front();
+        if seat.inbox.is_empty() {
+            self.busy.remove(&actor);
+        }
+        Ok(batch)
+    }
+}

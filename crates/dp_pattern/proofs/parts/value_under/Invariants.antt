@@ -1,0 +1,10 @@
+use Rattle.std.proofs.Common.{◌≡◌, map, drop}
+use Rattle.pv_value.specs.Plain.{pairs}
+use Rattle.pv_value.specs.View.{key_and_value}
+use Rattle.dp_pattern.specs.Matching.{value_under}
+use Rattle.dp_pattern.proofs.parts.value_under.Given as goal
+
+abbrev pub invariant-loop-e : goal.invariant-loop-e
+invariant-loop-e l =
+    value_under (pairs (map key_and_value (drop l.e-index l.entries))) l.key
+    ≡ value_under (pairs (map key_and_value l.entries)) l.key

@@ -1,0 +1,38 @@
+//! Records whose label is a symbol, and numbers.
+ghost use Rattle.std.specs.Prelude.{◌≡◌, MatchOption};
+ghost use Rattle.dp_pattern.specs.Words.{is_word, labelled, number_in, HasNoWord};
+
+use pv_value::{Node, Text, Value};
+
+/// Whether a symbol's text is this word.
+pub fn is_word(text: &Text, word: &[u8]) -> bool
+    ensures { result ≡ is_word text.now word.now }
+{
+    text.as_bytes() == word
+}
+
+/// The word and the fields of a record whose label is a symbol.
+pub fn worded(value: &Value) -> Option<(&Text, &[Value])>
+    ensures { MatchOption result (HasNoWord value.now) (λ p. value.now ≡ labelled p.0.now p.1.now) }
+{
+    let Node::Rec(rec) = &value.node else {
+        return None;
+    };
+    let Node::Sym(word) = &rec.label.node else {
+        return None;
+    };
+    Some((word, rec.fields.as_slice()))
+}
+
+/// The number that a value is, where it is from 0 to `i64::MAX`.
+pub fn number_in(value: &Value) -> Option<u64>
+    ensures { result ≡ number_in value.now }
+{
+    let Node::Int(n) = &value.node else {
+        return None;
+    };
+    if *n < 0 || *n >= 1 << 63 {
+        return None;
+    }
+    Some(*n as u64)
+}

@@ -1,0 +1,28 @@
+//! Dataspaces as lists of numbered values: what is wanted over them, exact changes of it, and what
+//! a message
+//! fans out to.
+//!
+//! Contracts see a [`Space`] as its list of rows, a number and a value each, ascending by number.
+//! What is
+//! wanted over the values is `wants` of `specs/Wants.antt`.
+#![tactic(auto)]
+
+mod collecting;
+mod comparing;
+mod fanning;
+mod laws;
+mod observing;
+mod plain;
+mod references;
+mod space;
+#[cfg(test)]
+mod tests;
+mod weighing;
+
+pub use laws::{changes_are_exact, wants_are_in_order, wants_are_the_rule};
+pub use plain::PlainSpace;
+pub use references::{Reference, reference_of};
+pub use space::{Applied, Change, Changes, Fan, FanList, Fanned, Space, SpaceEvent};
+
+/// How much may be wanted over a space, and how much a message may fan out to.
+pub const WANTED_WEIGHT: u64 = 33_554_432;
