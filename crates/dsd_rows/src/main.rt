@@ -1,0 +1,120 @@
+//! Runs the worked rows and the tables of cases that lie in `data/`, prints which of them differ
+//! and how many of each file passed, and ends with 1 where one differs or a file can't be read.
+//!
+//! `data/rows/` has files of rows, each what dsd is given and what has to come of it:
+//!
+//!     row a set stands in the order of its bytes
+//!     words canon
+//!     input values #{1 -1 256 "a"}
+//!     status 0
+//!     output hex b6 b0 01 01 b0 01 ff b0 02 01 00 b1 01 61 84
+//!
+//! Bytes are written as `text`, in `hex` or as `values` in text, behind that word or below it on
+//! lines that begin with a bar. `%HH` is a byte, `%(N TEXT%)` a repetition, and `%[VALUES%]` a byte
+//! string of written spellings. Behind the status stands the line on standard error. `input` and
+//! `output` may also say which calls fail.
+//!
+//! `data/tables/` has tables for the calls of the codecs, a case a line: what the call is given, an
+//! arrow `=>`, and what it answers. `data/README` has all of it.
+#![tactic(auto)]
+
+ghost use Rattle.std.specs.Prelude.{◌≤◌};
+
+mod codecs;
+mod differences;
+mod faults;
+mod rows;
+mod runs;
+mod sections;
+mod shown;
+mod spelling;
+mod tables;
+mod tally;
+
+use faults::Fault;
+use std::alloc::{AllocError, Global};
+use std::process::ExitCode;
+use std::rt::Runtime;
+use std::{fs, io};
+use tally::{Findings, Tally, one_difference};
+
+fn main(rt: HostRuntime) -> ExitCode {
+    match run(&rt) {
+        Ok(tally) if tally.is_clean() => ExitCode::SUCCESS,
+        _ => ExitCode::FAILURE,
+    }
+}
+
+/// Runs all files, and prints what came of each.
+fn run<R: Runtime + AllocGlobal>(rt: &R) -> io::Result<Tally> {
+    let mut tally = Tally::new();
+    for folder in ["rows", "tables"] {
+        run_folder(rt, folder, &mut tally)?;
+    }
+    let (passed, failed) = (tally.passed, tally.failed);
+    println!(rt; "rows: {passed} passed, {failed} failed")?;
+    Ok(tally)
+}
+
+/// Runs the files of a folder, in the order of their names.
+fn run_folder<R: Runtime + AllocGlobal>(rt: &R, folder: &str, tally: &mut Tally) -> io::Result<()>
+    ensures lasting { tally.old.failed ≤ tally.new.failed }
+{
+    let Ok(names) = names_in(rt, folder) else {
+        println!(rt; "{folder}: it can't be listed")?;
+        tally.add(&one_difference(rt.alloc(), folder)?);
+        return Ok(());
+    };
+    for name in &names {
+        let name = name.as_str();
+        let findings = findings_of(rt, folder, name)?;
+        for line in &findings.differences {
+            println!(rt; "{folder}/{name}: {line}")?;
+        }
+        let (passed, failed) = (findings.passed, findings.failed());
+        println!(rt; "{folder}/{name}: {passed} passed, {failed} failed")?;
+        tally.add(&findings);
+    }
+    Ok(())
+}
+
+/// The names of what lies in a folder, in ascending order.
+fn names_in<R: Runtime + AllocGlobal>(rt: &R, folder: &str) -> io::Result<Vec<String>> {
+    let mut names = Vec::new(rt.alloc());
+    for entry in fs::read_dir(rt, folder)? {
+        let entry = entry?;
+        names.push(String::from_str(rt.alloc(), entry.file_name())?)?;
+    }
+    names.sort()?;
+    Ok(names)
+}
+
+/// What came of a file. One that can't be read or judged is one difference.
+fn findings_of<R: Runtime + AllocGlobal>(
+    rt: &R,
+    folder: &str,
+    name: &str,
+) -> Result<Findings, AllocError> {
+    let alloc = rt.alloc();
+    let path = format!(in alloc; "{folder}/{name}")?;
+    let Ok(text) = fs::read_to_string(rt, path.as_str()) else {
+        return one_difference(alloc, "it can't be read");
+    };
+    let text = text.as_str();
+    let judged = if folder == "rows" {
+        runs::judge_file(alloc, text)
+    } else {
+        tables_of(alloc, name, text)
+    };
+    match judged {
+        Ok(findings) => Ok(findings),
+        Err(fault) => one_difference(alloc, format!(in alloc; "{fault}")?.as_str()),
+    }
+}
+
+fn tables_of(alloc: Global, name: &str, text: &str) -> Result<Findings, Fault> {
+    match tables::find_table(name) {
+        Some(table) => tables::judge_table(alloc, table, text),
+        None => Err(Fault::Form("no table of this name")),
+    }
+}

@@ -1,0 +1,121 @@
+//! Bytes as a person writes them: as text, in hexadecimal, or as values.
+
+use crate::codecs::{Answer, written};
+use crate::faults::Fault;
+use std::alloc::Global;
+
+/// How bytes are written.
+#[derive(Clone, Copy)]
+pub enum Form {
+    /// As they are.
+    Text,
+    /// In pairs of hexadecimal digits.
+    Hex,
+    /// As values in text, for their written spellings.
+    Values,
+}
+
+/// The form that a word names.
+pub fn find_form(word: &str) -> Option<Form> {
+    match word {
+        "text" => Some(Form::Text),
+        "hex" => Some(Form::Hex),
+        "values" => Some(Form::Values),
+        _ => None,
+    }
+}
+
+/// The bytes that are written so.
+pub fn bytes_in(alloc: Global, form: Form, body: &str) -> Result<Vec<u8>, Fault> {
+    let body = repeated(alloc, body)?;
+    let body = with_packets(alloc, body.as_str())?;
+    match form {
+        Form::Text => escaped(alloc, body.as_str()),
+        Form::Hex => from_digits(alloc, body.as_str()),
+        Form::Values => from_values(alloc, &escaped(alloc, body.as_str())?),
+    }
+}
+
+/// `TEXT` so often for each `%(N TEXT%)`.
+fn repeated(alloc: Global, body: &str) -> Result<String, Fault> {
+    let mut out = String::new(alloc);
+    for (i, part) in body.split("%(").enumerate() {
+        if i == 0 {
+            out.push_str(part)?;
+            continue;
+        }
+        let Some((count, text, after)) = repetition(part) else {
+            return Err(Fault::Form("%( isn't followed by a number, a blank and %)"));
+        };
+        for _ in 0..count {
+            out.push_str(text)?;
+        }
+        out.push_str(after)?;
+    }
+    Ok(out)
+}
+
+/// The number, the text and what follows behind `%(`.
+fn repetition(part: &str) -> Option<(u32, &str, &str)> {
+    let (inside, after) = part.split_once("%)")?;
+    let (count, text) = inside.split_once(' ')?;
+    let count = count.parse().ok()?;
+    Some((count, text, after))
+}
+
+/// A byte string of the written spellings for each `%[VALUES%]`.
+fn with_packets(alloc: Global, body: &str) -> Result<String, Fault> {
+    let mut out = String::new(alloc);
+    for (i, part) in body.split("%[").enumerate() {
+        if i == 0 {
+            out.push_str(part)?;
+            continue;
+        }
+        let Some((values, after)) = part.split_once("%]") else {
+            return Err(Fault::Form("%[ isn't followed by %]"));
+        };
+        let bytes = from_values(alloc, &escaped(alloc, values)?)?;
+        out.push_str("#x\"")?;
+        out.push_str(hex::encode(alloc, &bytes)?.as_str())?;
+        out.push_str("\"")?;
+        out.push_str(after)?;
+    }
+    Ok(out)
+}
+
+/// The bytes of a text, with the byte HH for each `%HH`.
+pub fn escaped(alloc: Global, body: &str) -> Result<Vec<u8>, Fault> {
+    let mut out = Vec::new(alloc);
+    for (i, part) in body.split('%').enumerate() {
+        if i == 0 {
+            out.extend_from_slice(part.as_bytes())?;
+            continue;
+        }
+        let Some((digits, after)) = part.split_at_checked(2) else {
+            return Err(Fault::Form("% isn't followed by two digits"));
+        };
+        out.extend_from_slice(&from_digits(alloc, digits)?)?;
+        out.extend_from_slice(after.as_bytes())?;
+    }
+    Ok(out)
+}
+
+/// The bytes of these pairs of digits.
+fn from_digits(alloc: Global, body: &str) -> Result<Vec<u8>, Fault> {
+    let mut out = Vec::new(alloc);
+    for word in body.split_whitespace() {
+        match hex::decode(alloc, word) {
+            Ok(bytes) => out.extend_from_slice(&bytes)?,
+            Err(_) => return Err(Fault::Form("no pairs of hexadecimal digits")),
+        }
+    }
+    Ok(out)
+}
+
+/// The written spellings of the values of a text.
+fn from_values(alloc: Global, text: &[u8]) -> Result<Vec<u8>, Fault> {
+    match written(alloc, text)? {
+        Answer::Bytes(bytes) => Ok(bytes),
+        Answer::Text(text) | Answer::Stops(text) => Err(Fault::NoValues(text)),
+    }
+}
