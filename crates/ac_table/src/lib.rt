@@ -7,8 +7,6 @@
 mod batches;
 mod keeping;
 mod table;
-#[cfg(test)]
-mod tests;
 
 pub use batches::{Batch, BatchEvents, Event, Row};
 use pv_value::NoMemory;

@@ -3,7 +3,8 @@ ghost use Rattle.std.specs.Prelude.{◌≡◌, ◌<◌, ◌^◌, ◌-◌, false,
 ghost use Rattle.std.specs.Prelude.{option_copied, MatchOption, None, Some, IfNone, ◌≢◌};
 ghost use Rattle.ac_table.specs.declared.TableFault.TheVariants.{NoMemory as no_memory};
 ghost use Rattle.ac_table.specs.Faults.{actor_fault, facet_fault, row_fault, Faults, ExactFaults};
-ghost use Rattle.ac_table.specs.Tables.{opening, is_live, find_row, rows_of, handles, first_batch};
+ghost use Rattle.ac_table.specs.Tables.{opening, is_live, find_actor, find_row, rows_of, handles};
+ghost use Rattle.ac_table.specs.Tables.{first_batch};
 ghost use Rattle.ac_table.specs.Tables.{lowest, waiting, joined, asserted, retracted, ended};
 ghost use Rattle.ac_table.specs.Tables.{pushed};
 ghost use Rattle.ac_table.specs.Tables.{popped, IsTable};
@@ -88,6 +89,16 @@ impl Table {
     {
         let seat = self.seats.get(&actor)?;
         seat.inbox.front()
+    }
+
+    /// The batches that wait for a live actor, the earliest first.
+    pub fn inbox(&self, actor: u32) -> Option<&VecDeque<Batch>>
+        ensures { MatchOption result (find_actor actor self.now.actors ≡ None)
+            (λ inbox. find_actor actor self.now.actors
+            ≡ Some (record { number = actor; inbox = inbox.now.items })) }
+    {
+        let seat = self.seats.get(&actor)?;
+        Some(&seat.inbox)
     }
 
     /// The lowest of the actors for which a batch waits.

@@ -9,8 +9,6 @@ mod laws;
 mod matching;
 mod parsing;
 mod parts;
-#[cfg(test)]
-mod tests;
 mod words;
 
 pub use laws::captures_are_binds;
@@ -18,7 +16,7 @@ pub use matching::{captures, matches};
 pub use parsing::parse;
 use pv_value::Value;
 use std::marker::Model;
-pub use words::{is_word, number_in, worded};
+pub use words::{is_word, labelled, number, number_in, worded};
 
 /// A dataspace pattern.
 ///

@@ -1,8 +1,9 @@
 //! Records whose label is a symbol, and numbers.
-ghost use Rattle.std.specs.Prelude.{◌≡◌, MatchOption};
-ghost use Rattle.dp_pattern.specs.Words.{is_word, labelled, number_in, HasNoWord};
+ghost use Rattle.std.specs.Prelude.{◌≡◌, IfOk, MatchOption};
+ghost use Rattle.dp_pattern.specs.Words.{is_word, labelled, number, number_in, HasNoWord};
 
-use pv_value::{Node, Text, Value};
+use pv_value::{NoMemory, Node, Text, Value};
+use std::alloc::Global;
 
 /// Whether a symbol's text is this word.
 pub fn is_word(text: &Text, word: &[u8]) -> bool
@@ -22,6 +23,19 @@ pub fn worded(value: &Value) -> Option<(&Text, &[Value])>
         return None;
     };
     Some((word, rec.fields.as_slice()))
+}
+
+/// The record with this word as its label.
+pub fn labelled(alloc: Global, word: &str, fields: Vec<Value>) -> Result<Value, NoMemory>
+    ensures { IfOk result (λ v. v ≡ labelled word.now fields.items) }
+{
+    Value::record(alloc, Value::symbol(Text::from_str(alloc, word)?), fields)
+}
+
+pub fn number(n: u64) -> Value
+    ensures { result ≡ number n }
+{
+    Value::integer(n as i128)
 }
 
 /// The number that a value is, where it is from 0 to `i64::MAX`.

@@ -1,5 +1,5 @@
 -- What a space does: its meaning is its list of rows, a number and a value each, ascending by number.
-use Rattle.std.specs.Prelude.{◌≡◌, ℕ, ◌<◌, ◌≤◌, List, None}
+use Rattle.std.specs.Prelude.{◌≡◌, ℕ, ◌<◌, ◌≤◌, List, Bool, false, is_some}
 use Rattle.std.specs.Ordering.{nat_cmp}
 use Rattle.std.specs.Map.{values_of, lookup, remove_entry}
 use Rattle.std.specs.BTreeMap.{insert_entry, is_at}
@@ -17,9 +17,12 @@ use Rattle.ds_space.specs.declared.space.Fan.TheVariants as fan
 abbrev pub Rows : Type 0
 Rows = List (ℕ × Plain)
 
+abbrev pub has_row : ℕ → Rows → Bool
+has_row n rows = is_some (lookup (is_at (nat_cmp n)) rows)
+
 -- the number of a row that is to come stands in no row
 abbrev pub IsNew : Rows → SpaceEvent → Type 0
-IsNew rows (Add n v) = lookup (is_at (nat_cmp n)) rows ≡ None
+IsNew rows (Add n v) = has_row n rows ≡ false
 IsNew rows (Gone n) = Unit {0}
 
 -- the rows after an event: a row comes in its place by number, or goes where it is there

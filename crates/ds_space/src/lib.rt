@@ -15,8 +15,6 @@ mod observing;
 mod plain;
 mod references;
 mod space;
-#[cfg(test)]
-mod tests;
 mod weighing;
 
 pub use laws::{changes_are_exact, wants_are_in_order, wants_are_the_rule};

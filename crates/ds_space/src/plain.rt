@@ -95,6 +95,10 @@ impl Space for PlainSpace {
         }
     }
 
+    fn has(&self, number: u64) -> bool {
+        self.rows.contains_key(&number)
+    }
+
     fn fan(&self, alloc: Global, message: &Value) -> Result<Fan, NoMemory> {
         fan(alloc, &self.rows, message)
     }

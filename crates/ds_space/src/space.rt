@@ -2,7 +2,7 @@
 ghost use Rattle.std.specs.Prelude.{◌≡◌, ℕ, List, [], IfOk};
 ghost use Rattle.std.specs.Map.{values_of};
 ghost use Rattle.pv_value.specs.Plain.{Plain};
-ghost use Rattle.ds_space.specs.Spaces.{IsNew, IsApplied, IsFan};
+ghost use Rattle.ds_space.specs.Spaces.{IsNew, IsApplied, IsFan, has_row};
 
 use pv_value::{Items, NoMemory, Value};
 use std::alloc::Global;
@@ -66,6 +66,10 @@ pub trait Space {
     fn apply(self, alloc: Global, event: SpaceEvent) -> Result<Applied<Self>, NoMemory>
         requires { IsNew (rows self) event }
         ensures { IfOk result (IsApplied rows (rows self) event) };
+
+    /// Whether a row has this number.
+    fn has(&self, number: u64) -> bool
+        ensures { result ≡ has_row number (rows self.now) };
 
     /// The observations among the values that a message matches, with their captures.
     fn fan(&self, alloc: Global, message: &Value) -> Result<Fan, NoMemory>

@@ -20,23 +20,16 @@
 
 ghost use Rattle.std.specs.Prelude.{◌≤◌};
 
-mod codecs;
-mod differences;
 mod faults;
 mod rows;
 mod runs;
 mod sections;
-mod shown;
-mod spelling;
-mod tables;
-mod tally;
 
-use faults::Fault;
+use row_cases::{Fault, Findings, Tally, judge_table, one_difference};
 use std::alloc::{AllocError, Global};
 use std::process::ExitCode;
 use std::rt::Runtime;
 use std::{fs, io};
-use tally::{Findings, Tally, one_difference};
 
 fn main(rt: HostRuntime) -> ExitCode {
     match run(&rt) {
@@ -60,22 +53,45 @@ fn run<R: Runtime + AllocGlobal>(rt: &R) -> io::Result<Tally> {
 fn run_folder<R: Runtime + AllocGlobal>(rt: &R, folder: &str, tally: &mut Tally) -> io::Result<()>
     ensures lasting { tally.old.failed ≤ tally.new.failed }
 {
-    let Ok(names) = names_in(rt, folder) else {
-        println!(rt; "{folder}: it can't be listed")?;
-        tally.add(&one_difference(rt.alloc(), folder)?);
-        return Ok(());
-    };
-    for name in &names {
+    match names_in(rt, folder) {
+        Ok(names) => run_files(rt, folder, &names, tally),
+        Err(_) => {
+            println!(rt; "{folder}: it can't be listed")?;
+            tally.add(&one_difference(rt.alloc(), folder)?);
+            Ok(())
+        }
+    }
+}
+
+fn run_files<R: Runtime + AllocGlobal>(
+    rt: &R,
+    folder: &str,
+    names: &[String],
+    tally: &mut Tally,
+) -> io::Result<()>
+    ensures lasting { tally.old.failed ≤ tally.new.failed }
+{
+    for name in names {
         let name = name.as_str();
         let findings = findings_of(rt, folder, name)?;
-        for line in &findings.differences {
-            println!(rt; "{folder}/{name}: {line}")?;
-        }
-        let (passed, failed) = (findings.passed, findings.failed());
-        println!(rt; "{folder}/{name}: {passed} passed, {failed} failed")?;
+        print_findings(rt, folder, name, &findings)?;
         tally.add(&findings);
     }
     Ok(())
+}
+
+/// Prints what differs in a file, and how many of it passed and failed.
+fn print_findings<R: Runtime + AllocGlobal>(
+    rt: &R,
+    folder: &str,
+    name: &str,
+    findings: &Findings,
+) -> io::Result<()> {
+    for line in &findings.differences {
+        println!(rt; "{folder}/{name}: {line}")?;
+    }
+    let (passed, failed) = (findings.passed, findings.failed());
+    println!(rt; "{folder}/{name}: {passed} passed, {failed} failed")
 }
 
 /// The names of what lies in a folder, in ascending order.
@@ -97,24 +113,31 @@ fn findings_of<R: Runtime + AllocGlobal>(
 ) -> Result<Findings, AllocError> {
     let alloc = rt.alloc();
     let path = format!(in alloc; "{folder}/{name}")?;
-    let Ok(text) = fs::read_to_string(rt, path.as_str()) else {
-        return one_difference(alloc, "it can't be read");
-    };
-    let text = text.as_str();
-    let judged = if folder == "rows" {
-        runs::judge_file(alloc, text)
-    } else {
-        tables_of(alloc, name, text)
-    };
-    match judged {
-        Ok(findings) => Ok(findings),
-        Err(fault) => one_difference(alloc, format!(in alloc; "{fault}")?.as_str()),
+    match fs::read_to_string(rt, path.as_str()) {
+        Ok(text) => findings_in(alloc, folder, name, text.as_str()),
+        Err(_) => one_difference(alloc, "it can't be read"),
     }
 }
 
-fn tables_of(alloc: Global, name: &str, text: &str) -> Result<Findings, Fault> {
-    match tables::find_table(name) {
-        Some(table) => tables::judge_table(alloc, table, text),
-        None => Err(Fault::Form("no table of this name")),
+fn findings_in(
+    alloc: Global,
+    folder: &str,
+    name: &str,
+    text: &str,
+) -> Result<Findings, AllocError> {
+    match judge(alloc, folder, name, text) {
+        Ok(findings) => Ok(findings),
+        Err(fault) => {
+            let why = format!(in alloc; "{fault}")?;
+            one_difference(alloc, why.as_str())
+        }
+    }
+}
+
+fn judge(alloc: Global, folder: &str, name: &str, text: &str) -> Result<Findings, Fault> {
+    if folder == "rows" {
+        Ok(runs::judge_file(alloc, text)?)
+    } else {
+        judge_table(alloc, name, text)
     }
 }

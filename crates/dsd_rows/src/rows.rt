@@ -1,18 +1,9 @@
 //! Rows: what the program is given, and what it has to answer.
 
-use crate::faults::{Fault, LineFault};
+use crate::faults::LineFault;
 use crate::sections::{Section, sections_of};
-use crate::spelling::{bytes_in, escaped, find_form};
+use row_cases::{Fault, Outcome, bytes_in, escaped, find_form};
 use std::alloc::Global;
-
-/// What comes of a run.
-#[derive(Drop)]
-pub struct Outcome {
-    pub status: u8,
-    /// What is written to standard error.
-    pub line: Vec<u8>,
-    pub output: Vec<u8>,
-}
 
 /// What the program is given, and what has to come of it.
 #[derive(Drop)]

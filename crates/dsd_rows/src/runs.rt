@@ -1,15 +1,13 @@
 //! Rows as the program does them, over the outside world in memory.
-ghost use Rattle.std.specs.Prelude.{◌≡◌, ◌+◌, length, IfOk, vec_len};
+ghost use Rattle.std.specs.Prelude.{◌≡◌, ◌≤◌, ◌+◌, false, length, IfOk, vec_len};
 ghost use Rattle.dsd_top.specs.Commands.{texts, is_serve as begins_with_serve};
 ghost use Rattle.dsd_top.specs.Statuses.{IsStatus};
 
-use crate::differences::outcomes_differ;
-use crate::faults::Fault;
-use crate::rows::{Outcome, Row, rows_of};
-use crate::tally::{Findings, one_difference};
+use crate::rows::{Row, rows_of};
 use dsd_top::dsd_once;
 use out_ports::memory::{MemHost, MemListen, MemSink, MemSource};
-use std::alloc::Global;
+use row_cases::{Fault, Findings, Outcome, one_difference, outcomes_differ};
+use std::alloc::{AllocError, Global};
 
 /// How many bytes are kept of what is written to standard error.
 const LINE_ROOM: usize = 4096;
@@ -34,31 +32,83 @@ pub fn outcome_of(alloc: Global, row: &Row) -> Result<Outcome, Fault>
     if row.piece == 0 {
         return Err(Fault::Form("pieces of no byte"));
     }
-    let mut input = MemSource::new(row.input.clone()?, row.piece, row.takes.clone()?);
-    let mut out = MemSink::new(Vec::with_capacity(alloc, row.room)?, row.puts.clone()?);
-    let mut diag = MemSink::new(Vec::with_capacity(alloc, LINE_ROOM)?, Vec::new(alloc));
+    let input = source_of(row)?;
+    Ok(run_over(alloc, row, input)?)
+}
+
+/// The input that a row gives.
+fn source_of(row: &Row) -> Result<MemSource, AllocError>
+    requires { 1 ≤ row.now.piece }
+{
+    let bytes = row.input.clone()?;
+    let takes = row.takes.clone()?;
+    Ok(MemSource::new(bytes, row.piece, takes))
+}
+
+/// What comes of a row over its input.
+fn run_over(alloc: Global, row: &Row, input: MemSource) -> Result<Outcome, AllocError>
+    requires { begins_with_serve (texts row.now.words.items) ≡ false }
+    ensures { IfOk result (λ outcome. IsStatus outcome.status) }
+{
+    let mut out = sink_of(alloc, row.room, &row.puts)?;
+    let mut diag = sink_of(alloc, LINE_ROOM, &[])?;
+    let status = status_of(alloc, &row.words, input, &mut out, &mut diag);
+    outcome_with(alloc, status, &diag, &out)
+}
+
+/// A sink of so much room, whose puts of these numbers fail.
+fn sink_of(alloc: Global, room: usize, puts: &[u64]) -> Result<MemSink, AllocError> {
+    let puts = Vec::from_slice(alloc, puts)?;
+    Ok(MemSink::new(Vec::with_capacity(alloc, room)?, puts))
+}
+
+/// The program's status, over a host that has no files and no links.
+fn status_of(
+    alloc: Global,
+    words: &[String],
+    mut input: MemSource,
+    out: &mut MemSink,
+    diag: &mut MemSink,
+) -> u8
+    requires { begins_with_serve (texts words.now) ≡ false }
+    ensures { IsStatus result }
+{
     let links = MemListen::new(Vec::new(alloc), Vec::new(alloc));
     let mut host = MemHost::new(Vec::new(alloc), links, Vec::new(alloc), Vec::new(alloc));
-    let status = dsd_once(
-        alloc, &row.words, &mut input, &mut out, &mut diag, &mut host,
-    );
+    dsd_once(alloc, words, &mut input, out, diag, &mut host)
+}
+
+/// A status, and what two sinks hold.
+fn outcome_with(
+    alloc: Global,
+    status: u8,
+    diag: &MemSink,
+    out: &MemSink,
+) -> Result<Outcome, AllocError>
+    ensures { IfOk result (λ outcome. outcome.status ≡ status) }
+{
+    let line = Vec::from_slice(alloc, diag.held())?;
+    let output = Vec::from_slice(alloc, out.held())?;
     Ok(Outcome {
         status,
-        line: Vec::from_slice(alloc, diag.held())?,
-        output: Vec::from_slice(alloc, out.held())?,
+        line,
+        output,
     })
 }
 
 /// What came of the rows of a file. One that isn't written as it must be is one difference.
-pub fn judge_file(alloc: Global, text: &str) -> Result<Findings, Fault> {
+pub fn judge_file(alloc: Global, text: &str) -> Result<Findings, AllocError> {
     match rows_of(alloc, text) {
         Ok(rows) => judge_rows(alloc, &rows),
-        Err(fault) => Ok(one_difference(alloc, format!(in alloc; "{fault}")?.as_str())?),
+        Err(fault) => {
+            let why = format!(in alloc; "{fault}")?;
+            one_difference(alloc, why.as_str())
+        }
     }
 }
 
 /// What came of rows: each is counted.
-fn judge_rows(alloc: Global, rows: &[Row]) -> Result<Findings, Fault>
+fn judge_rows(alloc: Global, rows: &[Row]) -> Result<Findings, AllocError>
     ensures { IfOk result (λ found. found.passed + vec_len found.differences ≡ length rows.now) }
 {
     let mut findings = Findings::new(alloc);
@@ -69,19 +119,25 @@ fn judge_rows(alloc: Global, rows: &[Row]) -> Result<Findings, Fault>
 }
 
 /// What differs in a row, none where nothing does.
-fn judge_row(alloc: Global, row: &Row) -> Result<Option<String>, Fault> {
-    let given = match outcome_of(alloc, row) {
-        Ok(given) => given,
-        Err(fault) => return Ok(Some(named(alloc, row, format!(in alloc; "{fault}")?.as_str())?)),
-    };
-    match outcomes_differ(alloc, &row.wanted, &given)? {
+fn judge_row(alloc: Global, row: &Row) -> Result<Option<String>, AllocError> {
+    match outcome_of(alloc, row) {
+        Ok(given) => judge_outcome(alloc, row, &given),
+        Err(fault) => {
+            let why = format!(in alloc; "{fault}")?;
+            Ok(Some(named(alloc, row, why.as_str())?))
+        }
+    }
+}
+
+fn judge_outcome(alloc: Global, row: &Row, given: &Outcome) -> Result<Option<String>, AllocError> {
+    match outcomes_differ(alloc, &row.wanted, given)? {
         Some(what) => Ok(Some(named(alloc, row, what.as_str())?)),
         None => Ok(None),
     }
 }
 
-fn named(alloc: Global, row: &Row, what: &str) -> Result<String, Fault> {
+fn named(alloc: Global, row: &Row, what: &str) -> Result<String, AllocError> {
     let place = row.place;
     let name = row.name.as_str();
-    Ok(format!(in alloc; "{place}: {name}: {what}")?)
+    format!(in alloc; "{place}: {name}: {what}")
 }

@@ -1,6 +1,7 @@
 //! A file of rows as its sections: a line with a keyword, and the lines of its body.
 
-use crate::faults::{Fault, LineFault};
+use crate::faults::LineFault;
+use row_cases::Fault;
 use std::alloc::Global;
 
 /// A keyword and what stands behind it.

@@ -3,8 +3,6 @@
 
 mod forms;
 mod once;
-#[cfg(test)]
-mod tests;
 mod texts;
 mod values;
 mod words;

@@ -1,9 +1,4 @@
-pub mod Ascending
 pub mod Crossings
-pub mod Groups
+pub mod Firsts
 pub mod Keeping
-pub mod Places
 pub mod References
-pub mod Shapes
-pub mod Turning
-pub mod Wants

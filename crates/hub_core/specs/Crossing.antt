@@ -3,19 +3,14 @@
 -- actor,
 -- and what goes back to it has `#:[1 e]`. In what the first path takes no reference stands inside a set or a
 -- dictionary.
-use Rattle.std.specs.Prelude.{ℕ, pos, ◌^◌, ◌==◌, ◌&&◌, nat_lt, [], ◌∷◌, Option, Some, None, if◌then◌else◌}
-use Rattle.pv_value.specs.Plain.{Plain, integer, record_of, sequence, embedded, Plains, no_more, then_more, plains}
-use Rattle.hub_core.specs.Words.{number}
-pub use Rattle.hub_core.specs.declared.crossing.Reference.{Reference}
+use Rattle.std.specs.Prelude.{ℕ, ◌==◌, [], ◌∷◌, Option, Some, None, if◌then◌else◌}
+use Rattle.pv_value.specs.Plain.{Plain, record_of, sequence, embedded, Plains, no_more, then_more, plains}
+use Rattle.dp_pattern.specs.Words.{number}
+use Rattle.ds_space.specs.declared.references.Reference.{Reference}
+use Rattle.ds_space.specs.References.{reference_of}
 
 abbrev pub reference_value : ℕ → ℕ → Plain
 reference_value a e = sequence (plains (number a ∷ number e ∷ []))
-
--- `[a e]`: an actor's number is below 2 ^ 32, and an object's below 2 ^ 63
-abbrev pub reference_of : Plain → Option Reference
-reference_of (sequence (then_more (integer (pos a)) (then_more (integer (pos e)) no_more))) =
-    if nat_lt a (2 ^ 32) && nat_lt e (2 ^ 63) then Some (record { at = a; entity = e }) else None
-reference_of v = None
 
 -- the value inside an embedded one, with the actor `from` called `to`
 abbrev pub renamed : ℕ → ℕ → Plain → Option Reference → Plain

@@ -1,12 +1,14 @@
 -- What a peer holds by the packets that it was sent.
 use Rattle.std.specs.Prelude.{ℕ, List, [], ◌∷◌, Bool, false, ◌==◌, ◌||◌, ◌&&◌, nat_lt, if◌then◌else◌}
 use Rattle.std.specs.List.{list_any, flat_map}
-use Rattle.hub_core.specs.State.{Event, Assert, Retract, TurnEvent}
+use Rattle.hub_core.specs.State.{Event, Assert, Retract, Message, Sync, TurnEvent}
 use Rattle.hub_core.specs.declared.holding.Holding.{Holding}
 
 abbrev pub retracts : ℕ → Event → Bool
 retracts h (Assert v n) = false
 retracts h (Retract n) = n == h
+retracts h (Message v) = false
+retracts h (Sync peer) = false
 
 abbrev pub retracted_by : ℕ → TurnEvent → Bool
 retracted_by h e = retracts h e.event
@@ -16,6 +18,8 @@ abbrev pub kept : TurnEvent → Event → List TurnEvent → List Holding → Li
 kept e (Assert v h) later others =
     if list_any (retracted_by h) later then others else record { oid = e.oid; handle = h; value = v } ∷ others
 kept e (Retract h) later others = others
+kept e (Message v) later others = others
+kept e (Sync peer) later others = others
 
 abbrev pub all_kept : List TurnEvent → List Holding
 all_kept [] = []

@@ -2,40 +2,14 @@
 ghost use Rattle.std.specs.Prelude.{◌≡◌, ◌<◌, ◌+◌, ◌∷◌, ◌++◌, IfOk, map, take, drop, length};
 ghost use Rattle.std.specs.Prelude.{MatchOption, None};
 ghost use Rattle.std.specs.Prelude.{option_map, unwrap_or, vec_items};
-ghost use Rattle.hub_core.specs.Crossing.{reference_value, reference_of, renamed, crossed};
+ghost use Rattle.ds_space.specs.References.{reference_of};
+ghost use Rattle.hub_core.specs.Crossing.{reference_value, renamed, crossed};
 ghost use Rattle.hub_core.specs.Changes.{IsChange, record_or};
 
-use crate::words::{number, number_in};
+use dp_pattern::number;
+use ds_space::reference_of;
 use pv_value::{Items, NoMemory, Node, Rec, Value};
 use std::alloc::Global;
-
-/// An object of an actor; on the wire 0 stands for the sender's own and 1 for the receiver's.
-#[derive(Clone, Copy, Debug, PartialEq, Eq)]
-pub struct Reference {
-    pub at: u32,
-    pub entity: u64,
-}
-
-/// The reference that a value writes: `[at entity]`.
-pub fn reference_of(value: &Value) -> Option<Reference>
-    ensures { result ≡ reference_of value.now }
-{
-    let Node::Seq(items) = &value.node else {
-        return None;
-    };
-    let [at, entity] = items.as_slice() else {
-        return None;
-    };
-    let at = number_in(at)?;
-    let entity = number_in(entity)?;
-    if at >= 1 << 32 {
-        return None;
-    }
-    Some(Reference {
-        at: at as u32,
-        entity,
-    })
-}
 
 fn reference_value(alloc: Global, at: u32, entity: u64) -> Result<Value, NoMemory>
     ensures { IfOk result (λ v. v ≡ reference_value at entity) }

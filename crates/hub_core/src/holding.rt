@@ -64,6 +64,7 @@ impl Kept {
                 }
             }
             Event::Retract(handle) => self.retracted.push(*handle)?,
+            Event::Message(_) | Event::Sync(_) => {}
         }
         Ok(())
     }

@@ -3,7 +3,7 @@ ghost use Rattle.std.specs.Prelude.{◌≡◌, [], ◌∷◌, ◌++◌, length, 
 ghost use Rattle.hub_core.specs.Packets.{event_value, aimed_value, turn_value};
 ghost use Rattle.std.specs.Prelude.{◌==◌};
 
-use crate::words::{labelled, number};
+use dp_pattern::{labelled, number};
 use pv_value::{Items, NoMemory, Value};
 use std::alloc::Global;
 use std::marker::Model;
@@ -15,6 +15,10 @@ pub enum Event {
     Assert(Value, u64),
     /// The assertion under a handle is taken back.
     Retract(u64),
+    /// A value is said.
+    Message(Value),
+    /// A peer, an embedded value, asks for an answer.
+    Sync(Value),
 }
 
 /// An event, and the object at which it is aimed: on the wire an oid, inside the server an entity.
@@ -51,6 +55,8 @@ impl Event {
         match self {
             Event::Assert(value, handle) => Ok(Event::Assert(value.copy()?, *handle)),
             Event::Retract(handle) => Ok(Event::Retract(*handle)),
+            Event::Message(value) => Ok(Event::Message(value.copy()?)),
+            Event::Sync(peer) => Ok(Event::Sync(peer.copy()?)),
         }
     }
 }
@@ -122,7 +128,8 @@ impl Turn {
     }
 }
 
-/// The turn as a value: a sequence of events `[oid <A assertion handle>]` and `[oid <R handle>]`.
+/// The turn as a value: a sequence of events `[oid <A assertion handle>]`, `[oid <R handle>]`,
+/// `[oid <M body>]` and `[oid <S #:peer>]`.
 pub fn turn_value(alloc: Global, turn: &Turn) -> Result<Value, NoMemory>
     ensures { IfOk result (λ v. v ≡ turn_value turn.now) }
 {
@@ -155,6 +162,14 @@ fn event_value(alloc: Global, event: &Event) -> Result<Value, NoMemory>
         Event::Retract(handle) => {
             fields.push(number(*handle))?;
             labelled(alloc, "R", fields)
+        }
+        Event::Message(value) => {
+            fields.push(value.copy()?)?;
+            labelled(alloc, "M", fields)
+        }
+        Event::Sync(peer) => {
+            fields.push(peer.copy()?)?;
+            labelled(alloc, "S", fields)
         }
     }
 }

@@ -6,8 +6,6 @@ mod host;
 mod links;
 mod sink;
 mod source;
-#[cfg(test)]
-mod tests;
 
 pub use host::{MemFile, MemHost};
 pub use links::{MemLink, MemListen};

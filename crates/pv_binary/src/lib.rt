@@ -7,8 +7,6 @@ mod laws;
 mod reading;
 mod tag;
 pub mod tags;
-#[cfg(test)]
-mod tests;
 mod writing;
 
 pub use faults::{BinFault, BinKind};

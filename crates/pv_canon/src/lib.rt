@@ -3,8 +3,6 @@
 
 mod forms;
 mod laws;
-#[cfg(test)]
-mod tests;
 
 pub use forms::{canon, canon_into, canon_len};
 pub use laws::{canonical_is_exact, weight_counts_nodes};

@@ -16,8 +16,6 @@ mod numbers;
 mod quoted;
 mod runs;
 mod sextets;
-#[cfg(test)]
-mod tests;
 
 pub use characters::is_bare;
 pub use faults::{TextFault, TextKind};

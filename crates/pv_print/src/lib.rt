@@ -6,8 +6,6 @@ mod bytes;
 mod laws;
 mod printing;
 mod symbols;
-#[cfg(test)]
-mod tests;
 
 pub use laws::{printed_texts_read_back, printed_texts_spell};
 pub use printing::{print, print_into};

@@ -3,8 +3,6 @@
 
 mod laws;
 mod reading;
-#[cfg(test)]
-mod tests;
 mod values;
 
 pub use laws::{text_is_judged_as_a_whole, texts_are_read_one_way};

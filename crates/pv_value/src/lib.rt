@@ -17,8 +17,6 @@ mod nesting;
 mod order;
 mod sets;
 mod sorting;
-#[cfg(test)]
-mod tests;
 mod texts;
 mod weighing;
 

@@ -16,10 +16,10 @@ use Rattle.pv_binary.specs.OneOfThree.{AreBytes, OneOfThreeHolds}
 use Rattle.pv_binary.specs.Reads.{BeginsWith}
 use Rattle.pv_binary.specs.Spells.{Spells}
 use Rattle.pv_binary.specs.Lemmas.Begins.{IsUnique}
-use Rattle.hub_core.specs.Words.{labelled, number}
+use Rattle.dp_pattern.specs.Words.{labelled, number}
 use Rattle.hub_core.specs.Packets.{event_value, aimed_value, turn_value}
 use Rattle.hub_core.specs.declared.packets.Event.{Event}
-use Rattle.hub_core.specs.declared.packets.Event.TheVariants.{Assert, Retract}
+use Rattle.hub_core.specs.declared.packets.Event.TheVariants.{Assert, Retract, Message, Sync}
 use Rattle.hub_core.specs.declared.packets.TurnEvent.{TurnEvent}
 use Rattle.sc_script.specs.FirstPath.{is_simple, IsSimpleEvent, IsSimpleTurn}
 use Rattle.sc_script.specs.Events.{Before, handles_of, are_new, Writes, MayStand, IsEvent, IsNoEvent}
@@ -104,6 +104,8 @@ turn_read v = []
 event_back : (e : Event) → IsSimpleEvent e → event_read (event_value e) ≡ e
 event_back (Assert v h) simple = refl
 event_back (Retract h) simple = absurd simple
+event_back (Message v) simple = absurd simple
+event_back (Sync v) simple = absurd simple
 
 aimed_back : (e : TurnEvent) → IsSimpleEvent e.event → aimed_read (aimed_value e) ≡ e
 aimed_back e simple = λ i. record { oid = e.oid; event = event_back e.event simple i }
@@ -123,6 +125,8 @@ simple_event (Assert v h) =
     alike (λ p. (p.0, p.1.0, p.1.1)) (λ p. (p.0, (p.1, p.2)))
     (both (true_or_not (is_simple v)) (both (at_most (depth v) 48) (at_most (suc h) (2 ^ 63))))
 simple_event (Retract h) = inr (λ s. s)
+simple_event (Message v) = inr (λ s. s)
+simple_event (Sync v) = inr (λ s. s)
 
 simple_turn : (es : List TurnEvent) → Dec (IsSimpleTurn es)
 simple_turn [] = inl tt

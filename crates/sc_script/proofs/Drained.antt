@@ -1,7 +1,6 @@
 -- Drains: one turn more, and the end of the work.
 use Rattle.std.proofs.Common.{arith, ◌≡◌, ℕ, zero, suc, ◌+◌, ◌-◌, ◌≤◌, add-one, sym, subst, List, [], ◌∷◌, ◌++◌, refl}
 use Rattle.std.proofs.Common.{ap, ◌∙◌, Some, None}
-use Rattle.hub_core.specs.Machine.{spaces}
 use Rattle.hub_core.specs.Replays.{replay, lowest}
 use Rattle.hub_core.specs.State.{State}
 use Rattle.hub_core.specs.declared.packets.TurnEvent.{TurnEvent}
@@ -12,13 +11,13 @@ use Rattle.sc_script.specs.Runs.{with_turn, drained, after_event, after_events, 
 
 -- the steps with a turn of the lowest actor with work
 abbrev pub turned : List Step → List Step
-turned steps = with_turn steps (lowest (replay spaces steps))
+turned steps = with_turn steps (lowest (replay steps))
 
 pub drained-more : (steps : List Step) (n : ℕ) → drained steps (suc n) ≡ turned (drained steps n)
 drained-more steps zero = refl
 drained-more steps (suc n) = drained-more (turned steps) n
 
-pub drained-end : (steps : List Step) (n : ℕ) → lowest (replay spaces steps) ≡ None → drained steps n ≡ steps
+pub drained-end : (steps : List Step) (n : ℕ) → lowest (replay steps) ≡ None → drained steps n ≡ steps
 drained-end steps zero h = refl
 drained-end steps (suc n) h =
     let e : turned steps ≡ steps = ap (with_turn steps) h in
@@ -44,7 +43,7 @@ pub drain_more : (steps : List Step) (i : ℕ) (s now : State) (sent more : List
 drain_more steps i s now sent more a at is next =
     let P : List Step → Type 0 = λ ts. IsAt ts now more in
     let D = drained steps i in
-    let e : lowest (replay spaces D) ≡ Some a = ap lowest (sym at.0) ∙ is in
+    let e : lowest (replay D) ≡ Some a = ap lowest (sym at.0) ∙ is in
     let f : turned D ≡ D ++ Turn a ∷ [] = ap (with_turn D) e in
     let g : drained steps (i + 1) ≡ D ++ Turn a ∷ [] = ap (drained steps) (add-one i) ∙ drained-more steps i ∙ f in
     subst P (sym g) (next D at)
@@ -54,7 +53,7 @@ pub drain_end : (steps : List Step) (i n : ℕ) (s : State) (sent : List (List T
 drain_end steps i n s sent l at is =
     let P : List Step → Type 0 = λ ts. IsAt ts s sent in
     let D = drained steps i in
-    let e : lowest (replay spaces D) ≡ None = ap lowest (sym at.0) ∙ is in
+    let e : lowest (replay D) ≡ None = ap lowest (sym at.0) ∙ is in
     let k : n ≡ i + (n - i) = omega arith in
     let g : drained steps n ≡ D = ap (drained steps) k ∙ drained-sum steps i (n - i) ∙ drained-end D (n - i) e in
     subst P (sym g) at

@@ -1,20 +1,36 @@
 -- Turns as values: one value writes one turn, and a turn of the first path nests no deeper than is read.
-use Rattle.std.proofs.Common.{◌≡◌, ◌≤◌, List, [], ◌∷◌, map, refl, arith}
-use Rattle.pv_value.specs.Plain.{plains}
+use Rattle.std.proofs.Common.{◌≡◌, ℕ, ◌≤◌, List, [], ◌∷◌, map, refl, arith}
+use Rattle.pv_value.specs.Plain.{Plain, plains}
 use Rattle.pv_value.specs.Depth.{depth, deepest}
+use Rattle.dp_pattern.specs.Words.{labelled, number}
 use Rattle.hub_core.specs.Packets.{event_value, aimed_value, turn_value}
 use Rattle.sc_script.specs.FirstPath.{IsSimpleEvent, IsSimpleTurn}
 use Rattle.hub_core.specs.declared.packets.Event.{Event}
-use Rattle.hub_core.specs.declared.packets.Event.TheVariants.{Assert, Retract}
+use Rattle.hub_core.specs.declared.packets.Event.TheVariants.{Assert, Retract, Message, Sync}
 use Rattle.hub_core.specs.declared.packets.TurnEvent.{TurnEvent}
 
 -- ---- one value writes one turn
+
+one_letter : (m n : ℕ) (fs gs : List Plain) → labelled (m ∷ []) fs ≡ labelled (n ∷ []) gs → m ≡ n
+one_letter m n fs gs p = cc
 
 event_inj : (e d : Event) → event_value e ≡ event_value d → e ≡ d
 event_inj (Assert v h) (Assert w k) p = cc
 event_inj (Assert v h) (Retract k) p = cc
 event_inj (Retract h) (Assert w k) p = cc
 event_inj (Retract h) (Retract k) p = cc
+event_inj (Assert v h) (Message w) p = cc
+event_inj (Assert v h) (Sync w) p = cc
+event_inj (Retract h) (Message w) p = absurd (omega (arith, one_letter 82 77 (number h ∷ []) (w ∷ []) p))
+event_inj (Retract h) (Sync w) p = absurd (omega (arith, one_letter 82 83 (number h ∷ []) (w ∷ []) p))
+event_inj (Message v) (Assert w k) p = cc
+event_inj (Message v) (Retract k) p = absurd (omega (arith, one_letter 77 82 (v ∷ []) (number k ∷ []) p))
+event_inj (Message v) (Message w) p = cc
+event_inj (Message v) (Sync w) p = absurd (omega (arith, one_letter 77 83 (v ∷ []) (w ∷ []) p))
+event_inj (Sync v) (Assert w k) p = cc
+event_inj (Sync v) (Retract k) p = absurd (omega (arith, one_letter 83 82 (v ∷ []) (number k ∷ []) p))
+event_inj (Sync v) (Message w) p = absurd (omega (arith, one_letter 83 77 (v ∷ []) (w ∷ []) p))
+event_inj (Sync v) (Sync w) p = cc
 
 aimed_inj : (e d : TurnEvent) → aimed_value e ≡ aimed_value d → e ≡ d
 aimed_inj e d p =
@@ -44,6 +60,8 @@ turn_value-inj es ds p =
 event_depth : (e : Event) → IsSimpleEvent e → depth (event_value e) ≤ 49
 event_depth (Assert v h) s = let d : depth v ≤ 48 = s.1 in omega arith
 event_depth (Retract h) s = absurd s
+event_depth (Message v) s = absurd s
+event_depth (Sync v) s = absurd s
 
 events_depth : (es : List TurnEvent) → IsSimpleTurn es → deepest (plains (map aimed_value es)) ≤ 50
 events_depth [] s = omega arith

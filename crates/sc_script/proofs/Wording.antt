@@ -10,7 +10,7 @@ use Rattle.pv_value.specs.Lemmas.Listed.{listed-plains}
 use Rattle.pv_binary.specs.Spells.{Spells}
 use Rattle.pv_binary.specs.Reads.{BeginsWith}
 use Rattle.pv_binary.specs.Lemmas.Begins.{IsUnique}
-use Rattle.hub_core.specs.Words.{labelled}
+use Rattle.dp_pattern.specs.Words.{labelled}
 use Rattle.hub_core.specs.Packets.{turn_value}
 use Rattle.sc_script.specs.FirstPath.{IsSimpleTurn}
 use Rattle.hub_core.specs.declared.packets.TurnEvent.{TurnEvent}

@@ -5,10 +5,10 @@ use Rattle.std.specs.List.{list_any}
 use Rattle.pv_value.specs.Plain.{Plain, byte_string}
 use Rattle.pv_binary.specs.OneOfThree.{AreBytes}
 use Rattle.pv_binary.specs.Spells.{Spells}
-use Rattle.hub_core.specs.Words.{labelled, number}
+use Rattle.dp_pattern.specs.Words.{labelled, number}
 use Rattle.hub_core.specs.Packets.{turn_value}
 use Rattle.hub_core.specs.declared.packets.Event.{Event}
-use Rattle.hub_core.specs.declared.packets.Event.TheVariants.{Assert, Retract}
+use Rattle.hub_core.specs.declared.packets.Event.TheVariants.{Assert, Retract, Message, Sync}
 use Rattle.hub_core.specs.declared.packets.TurnEvent.{TurnEvent}
 use Rattle.sc_script.specs.FirstPath.{IsSimpleTurn}
 use Rattle.sc_script.specs.declared.events.ScriptEvent.{ScriptEvent}
@@ -32,9 +32,12 @@ pub record Before : Type 0 where
 abbrev pub start : Before
 start = record { opened = false; used = [] }
 
+-- the events of the first path are assertions
 abbrev pub handle_of : Event → ℕ
 handle_of (Assert v h) = h
 handle_of (Retract h) = h
+handle_of (Message v) = 0
+handle_of (Sync peer) = 0
 
 abbrev pub handles_of : List TurnEvent → List ℕ
 handles_of es = map (λ e. handle_of e.event) es

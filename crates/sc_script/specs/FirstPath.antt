@@ -6,13 +6,13 @@ use Rattle.std.specs.List.{AllByRecursion}
 use Rattle.pv_value.specs.Plain.{Plain, symbol, record_of, sequence, set_of, dictionary, embedded, Plains, no_more}
 use Rattle.pv_value.specs.Plain.{then_more, PlainPairs, no_pairs, then_pair}
 use Rattle.pv_value.specs.Depth.{depth}
-use Rattle.hub_core.specs.Words.{is_word}
+use Rattle.dp_pattern.specs.Words.{is_word}
+use Rattle.dp_pattern.specs.Written.{pattern_of}
+use Rattle.ds_space.specs.declared.references.Reference.{Reference}
+use Rattle.ds_space.specs.References.{reference_of}
 use Rattle.hub_core.specs.Packets.{event_value, aimed_value, turn_value}
-use Rattle.hub_core.specs.Patterns.{pattern_of}
-use Rattle.hub_core.specs.Crossing.{reference_of}
-use Rattle.hub_core.specs.declared.crossing.Reference.{Reference}
 use Rattle.hub_core.specs.declared.packets.Event.{Event}
-use Rattle.hub_core.specs.declared.packets.Event.TheVariants.{Assert, Retract}
+use Rattle.hub_core.specs.declared.packets.Event.TheVariants.{Assert, Retract, Message, Sync}
 use Rattle.hub_core.specs.declared.packets.TurnEvent.{TurnEvent}
 
 -- whether an embedded value stands anywhere in it
@@ -38,10 +38,18 @@ abbrev pub is_own : Option Reference → Bool
 is_own None = false
 is_own (Some r) = r.at == 0
 
+-- `#:[0 e]`
+abbrev pub is_own_reference : Plain → Bool
+is_own_reference (embedded x) = is_own (reference_of x)
+is_own_reference v = false
+
+abbrev pub is_plain_pattern : Plain → Bool
+is_plain_pattern p = not (has_embedded p) && is_some (pattern_of p)
+
 -- `<Observe p #:[0 e]>`, p a pattern without embedded values
 abbrev pub is_own_observation : Plain → Bool
-is_own_observation (record_of (symbol s) (then_more p (then_more (embedded x) no_more))) =
-    is_word s (codes "Observe") && ((is_some (pattern_of p) && not (has_embedded p)) && is_own (reference_of x))
+is_own_observation (record_of (symbol s) (then_more p (then_more r no_more))) =
+    (is_word s (codes "Observe") && is_own_reference r) && is_plain_pattern p
 is_own_observation v = false
 
 abbrev pub is_simple : Plain → Bool
@@ -50,6 +58,8 @@ is_simple v = not (has_embedded v) || is_own_observation v
 abbrev pub IsSimpleEvent : Event → Type 0
 IsSimpleEvent (Assert v h) = IsTrue (is_simple v) × (depth v ≤ 48) × (h < 2 ^ 63)
 IsSimpleEvent (Retract h) = ⊥
+IsSimpleEvent (Message v) = ⊥
+IsSimpleEvent (Sync peer) = ⊥
 
 abbrev pub IsSimpleTurn : List TurnEvent → Type 0
 IsSimpleTurn es = AllByRecursion (λ e. (e.oid ≡ 0) × IsSimpleEvent e.event) es

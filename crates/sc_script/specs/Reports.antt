@@ -1,16 +1,15 @@
 -- The report of a run: `<report pending [<conn k live|ended [<holds oid handle v> ..] out> ..]>`, connections
 -- ascending,
 -- out the written spellings of all packets that were sent to it.
-use Rattle.std.specs.Prelude.{ℕ, zero, suc, ◌+◌, ◌-◌, ◌^◌, min, Bool, List, [], ◌∷◌, ◌++◌, map, is_some, codes}
+use Rattle.std.specs.Prelude.{ℕ, zero, suc, ◌+◌, ◌-◌, ◌^◌, min, Bool, List, [], ◌∷◌, ◌++◌, map, codes}
 use Rattle.std.specs.Prelude.{if◌then◌else◌}
 use Rattle.std.specs.List.{flat_map}
 use Rattle.pv_value.specs.Plain.{Plain, symbol, byte_string, sequence, plains}
 use Rattle.pv_binary.specs.Written.{written}
-use Rattle.hub_core.specs.Words.{labelled, number, actor_of}
+use Rattle.dp_pattern.specs.Words.{labelled, number}
 use Rattle.hub_core.specs.Packets.{turn_value}
-use Rattle.hub_core.specs.State.{State, find_actor}
+use Rattle.hub_core.specs.State.{is_there}
 use Rattle.hub_core.specs.declared.packets.TurnEvent.{TurnEvent}
-use Rattle.hub_core.specs.Machine.{spaces}
 use Rattle.hub_core.specs.Replays.{replay, sent_to, pending}
 use Rattle.hub_core.specs.Holding.{held}
 use Rattle.hub_core.specs.declared.hub.Step.{Step}
@@ -31,17 +30,14 @@ connection_value k is_live packets =
     labelled (codes "conn") (number k ∷ symbol (status_word is_live)
     ∷ sequence (plains (map holding_value (held packets))) ∷ byte_string (spelled packets) ∷ [])
 
-abbrev pub is_live : State → ℕ → Bool
-is_live s k = is_some (find_actor (actor_of k) s.actors)
-
 -- the connections 1 to n after these steps
 abbrev pub connections : List Step → ℕ → List Plain
 connections steps zero = []
 connections steps (suc k) = connections steps k
-    ++ connection_value (k + 1) (is_live (replay spaces steps) (k + 1)) (sent_to spaces (k + 1) steps) ∷ []
+    ++ connection_value (k + 1) (is_there (k + 1) (replay steps)) (sent_to (k + 1) steps) ∷ []
 
 -- a number that is told stops at the greatest of 64 bits
 abbrev pub report_of : List Step → Plain
 report_of steps =
-    labelled (codes "report") (number (min (pending (replay spaces steps)) (2 ^ 64 - 1))
-    ∷ sequence (plains (connections steps (replay spaces steps).opened)) ∷ [])
+    labelled (codes "report") (number (min (pending (replay steps)) (2 ^ 64 - 1))
+    ∷ sequence (plains (connections steps (replay steps).world.opened)) ∷ [])

@@ -1,6 +1,5 @@
 -- The run of a script: the steps that its events make, one after another.
 use Rattle.std.specs.Prelude.{◌≡◌, ℕ, zero, suc, List, [], ◌∷◌, ◌++◌, Option, Some, None}
-use Rattle.hub_core.specs.Machine.{spaces}
 use Rattle.hub_core.specs.Replays.{replay, sent_to, lowest}
 use Rattle.hub_core.specs.State.{State}
 use Rattle.hub_core.specs.declared.packets.TurnEvent.{TurnEvent}
@@ -17,7 +16,7 @@ with_turn steps (Some a) = steps ++ Turn a ∷ []
 -- up to n times a turn of the lowest actor with work
 abbrev pub drained : List Step → ℕ → List Step
 drained steps zero = steps
-drained steps (suc n) = drained (with_turn steps (lowest (replay spaces steps))) n
+drained steps (suc n) = drained (with_turn steps (lowest (replay steps))) n
 
 abbrev pub after_event : List Step → ScriptEvent → List Step
 after_event steps Open = steps ++ Arrive 1 ∷ []
@@ -33,4 +32,4 @@ run_of es = after_events [] es
 
 -- the state and what connection 1 was sent are those after these steps
 abbrev pub IsAt : List Step → State → List (List TurnEvent) → Type 0
-IsAt steps s sent = (s ≡ replay spaces steps) × (sent ≡ sent_to spaces 1 steps)
+IsAt steps s sent = (s ≡ replay steps) × (sent ≡ sent_to 1 steps)

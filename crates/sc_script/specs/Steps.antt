@@ -3,7 +3,7 @@ use Rattle.std.specs.Prelude.{◌≡◌, ℕ, ◌≤◌, Bool, true, false, List
 use Rattle.pv_value.specs.Plain.{Plain, byte_string}
 use Rattle.pv_binary.specs.OneOfThree.{AreBytes}
 use Rattle.pv_binary.specs.Spells.{Spells}
-use Rattle.hub_core.specs.Words.{number}
+use Rattle.dp_pattern.specs.Words.{number}
 use Rattle.hub_core.specs.Packets.{turn_value}
 use Rattle.hub_core.specs.declared.packets.TurnEvent.{TurnEvent}
 use Rattle.sc_script.specs.FirstPath.{IsSimpleTurn, IsTurnOf}

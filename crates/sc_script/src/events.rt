@@ -1,12 +1,12 @@
 //! The events of scripts, and the values that write them.
 ghost use Rattle.std.specs.Prelude.{◌≡◌, ◌↔◌, true, codes, IfOk};
 ghost use Rattle.pv_binary.specs.OneOfThree.{AreBytes};
-ghost use Rattle.hub_core.specs.Words.{number};
+ghost use Rattle.dp_pattern.specs.Words.{number};
 ghost use Rattle.sc_script.specs.Events.{Writes, handle_of};
 ghost use Rattle.sc_script.specs.Steps.{WritesIn, IsSole, IsTurnAtEnd, IsSoleTurn, IsSoleCount};
 
 use crate::simple::turn_of;
-use crate::words::worded;
+use dp_pattern::worded;
 use hub_core::{Event, Turn};
 use pv_binary::{BinFault, read};
 use pv_value::{NoMemory, Node, Value};
@@ -33,6 +33,7 @@ pub(crate) fn handle(event: &Event) -> u64
     match event {
         Event::Assert(_, handle) => *handle,
         Event::Retract(handle) => *handle,
+        Event::Message(_) | Event::Sync(_) => 0,
     }
 }
 

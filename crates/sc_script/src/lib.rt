@@ -10,10 +10,7 @@ mod reports;
 mod runs;
 mod scripts;
 mod simple;
-#[cfg(test)]
-mod tests;
 mod text_scripts;
-mod words;
 
 pub use laws::{one_reading, one_reading_of_text, one_verdict, one_verdict_of_text};
 pub use reports::report;

@@ -9,7 +9,7 @@ ghost use Rattle.sc_script.specs.Reports.{connections as connections_told, repor
 
 use crate::runs::{Run, run_script};
 use crate::scripts::Script;
-use crate::words::{labelled, number};
+use dp_pattern::{labelled, number};
 use hub_core::{Holding, Turn, held, turn_value};
 use pv_binary::write_into;
 use pv_value::{Blob, Items, NoMemory, Text, Value};
@@ -75,9 +75,9 @@ fn connection_value(
 
 /// Connection 1, where it has come.
 fn connections(alloc: Global, run: &Run) -> Result<Items, NoMemory>
-    requires { run.now.hub.opened ≤ 1 }
+    requires { run.now.hub.world.opened ≤ 1 }
     ensures { IfOk result (λ items. (steps : List Step) → IsAt steps run.now.hub run.now.sent.items
-        → items ≡ connections_told steps run.now.hub.opened) }
+        → items ≡ connections_told steps run.now.hub.world.opened) }
 {
     let mut values = Vec::new(alloc);
     if run.hub.opened() > 0 {
@@ -88,7 +88,7 @@ fn connections(alloc: Global, run: &Run) -> Result<Items, NoMemory>
 
 /// `<report pending [<conn ..> ..]>`
 fn report_of_run(alloc: Global, run: &Run) -> Result<Value, NoMemory>
-    requires { run.now.hub.opened ≤ 1 }
+    requires { run.now.hub.world.opened ≤ 1 }
     ensures { IfOk result (λ v. (steps : List Step) → IsAt steps run.now.hub run.now.sent.items
         → v ≡ report_of steps) }
 {

@@ -7,6 +7,7 @@ ghost use Rattle.sc_script.specs.Runs.{with_turn, drained, after_event, run_of, 
 
 use crate::events::ScriptEvent;
 use crate::scripts::Script;
+use ds_space::PlainSpace;
 use hub_core::{Hub, Reply, Step, Turn};
 use pv_value::NoMemory;
 use std::alloc::Global;
@@ -17,7 +18,7 @@ const FIRST: u32 = 17;
 /// A run so far: the server, and the packets that connection 1 was sent.
 #[derive(Drop)]
 pub(crate) struct Run {
-    pub(crate) hub: Hub,
+    pub(crate) hub: Hub<PlainSpace>,
     pub(crate) sent: Vec<Turn>,
 }
 
@@ -115,7 +116,7 @@ fn run_events(alloc: Global, events: Vec<ScriptEvent>) -> Result<Run, NoMemory>
 /// Does all events of a script. It opens one connection at most.
 pub(crate) fn run_script(alloc: Global, script: Script) -> Result<Run, NoMemory>
     ensures done { IfOk result (λ run. IsAt (run_of script) run.hub run.sent.items) }
-    ensures one { IfOk result (λ run. run.hub.opened ≤ 1) }
+    ensures one { IfOk result (λ run. run.hub.world.opened ≤ 1) }
 {
     let events = script.into_events();
     run_events(alloc, events)

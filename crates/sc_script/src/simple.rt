@@ -1,16 +1,16 @@
 //! The turns of the first path: assertions at object 0, of values without references or of an
-//! observation at an
-//! own object.
+//! observation at an own object.
 ghost use Rattle.std.specs.Prelude.{◌≡◌, IfOk, map, option_map, ◌↔◌, ◌≤◌, IsTrue};
 ghost use Rattle.pv_value.specs.Plain.{plains, pairs};
 ghost use Rattle.pv_value.specs.View.{key_and_value};
 ghost use Rattle.pv_value.specs.Depth.{depth};
 ghost use Rattle.sc_script.specs.FirstPath.{has_embedded, any_embedded, any_pair_embedded};
 ghost use Rattle.sc_script.specs.FirstPath.{is_own_observation, is_simple, IsTurnOf, IsEventOf};
-ghost use Rattle.sc_script.specs.FirstPath.{IsAssertionOf};
+ghost use Rattle.sc_script.specs.FirstPath.{IsAssertionOf, is_own_reference, is_plain_pattern};
 
-use crate::words::{is_word, number_in, worded};
-use hub_core::{Event, Turn, TurnEvent, VALUE_DEPTH, is_pattern, reference_of};
+use dp_pattern::{is_word, number_in, parse, worded};
+use ds_space::reference_of;
+use hub_core::{Event, Turn, TurnEvent, VALUE_DEPTH};
 use pv_value::{Entry, NoMemory, Node, Value, depth};
 use std::alloc::Global;
 
@@ -53,33 +53,55 @@ fn any_pair_embedded(entries: &[Entry]) -> bool
     false
 }
 
-/// Whether it is `<Observe p #:[0 e]>`, p a pattern without embedded values.
-fn is_own_observation(value: &Value) -> bool
-    ensures { result ≡ is_own_observation value.now }
+/// Whether it is an embedded reference `[0 e]`.
+fn is_own(value: &Value) -> bool
+    ensures { result ≡ is_own_reference value.now }
 {
-    let Some((word, fields)) = worded(value) else {
+    let Node::Emb(inside) = &value.node else {
         return false;
     };
-    let [pattern, observer] = fields else {
-        return false;
-    };
-    let Node::Emb(observer) = &observer.node else {
-        return false;
-    };
-    if !is_word(word, b"Observe") || !is_pattern(pattern) || has_embedded(pattern) {
-        return false;
-    }
-    match reference_of(observer) {
+    match reference_of(inside) {
         Some(reference) => reference.at == 0,
         None => false,
     }
 }
 
-/// Whether a client of the first path may assert it.
-pub(crate) fn is_simple(value: &Value) -> bool
-    ensures { result ≡ is_simple value.now }
+/// Whether it is a pattern without embedded values.
+fn is_plain_pattern(alloc: Global, value: &Value) -> Result<bool, NoMemory>
+    ensures { IfOk result (λ b. b ≡ is_plain_pattern value.now) }
 {
-    !has_embedded(value) || is_own_observation(value)
+    if has_embedded(value) {
+        return Ok(false);
+    }
+    Ok(parse(alloc, value)?.is_some())
+}
+
+/// Whether it is `<Observe p #:[0 e]>`, p a pattern without embedded values.
+fn is_own_observation(alloc: Global, value: &Value) -> Result<bool, NoMemory>
+    ensures { IfOk result (λ b. b ≡ is_own_observation value.now) }
+{
+    let Some((word, fields)) = worded(value) else {
+        return Ok(false);
+    };
+    let [pattern, observer] = fields else {
+        return Ok(false);
+    };
+    if is_word(word, b"Observe") && is_own(observer) {
+        is_plain_pattern(alloc, pattern)
+    } else {
+        Ok(false)
+    }
+}
+
+/// Whether a client of the first path may assert it.
+fn is_simple(alloc: Global, value: &Value) -> Result<bool, NoMemory>
+    ensures { IfOk result (λ b. b ≡ is_simple value.now) }
+{
+    if has_embedded(value) {
+        is_own_observation(alloc, value)
+    } else {
+        Ok(true)
+    }
 }
 
 /// The turn of the first path that a value writes.
@@ -116,9 +138,9 @@ fn event_in(alloc: Global, value: &Value) -> Result<Option<TurnEvent>, NoMemory>
         return Ok(None);
     };
     if number_in(oid) == Some(0) {
-        match asserted(event) {
+        match asserted(alloc, event)? {
             Some((assertion, handle)) => {
-                let event = Event::Assert(assertion.copy()?, handle);
+                let event = Event::Assert(assertion, handle);
                 Ok(Some(TurnEvent { oid: 0, event }))
             }
             None => Ok(None),
@@ -129,24 +151,32 @@ fn event_in(alloc: Global, value: &Value) -> Result<Option<TurnEvent>, NoMemory>
 }
 
 /// The value and the handle of `<A value handle>`, where the value may be asserted.
-fn asserted(event: &Value) -> Option<(&Value, u64)>
-    ensures { IsAssertionOf event.now (option_map (λ a. (a.0.now, a.1)) result) }
+fn asserted(alloc: Global, event: &Value) -> Result<Option<(Value, u64)>, NoMemory>
+    ensures { IfOk result (IsAssertionOf event.now) }
 {
-    let (word, fields) = worded(event)?;
-    let [value, handle] = fields else {
-        return None;
+    let Some((word, fields)) = worded(event) else {
+        return Ok(None);
     };
-    let handle = number_in(handle)?;
-    if is_word(word, b"A") && is_assertable(value) {
-        Some((value, handle))
+    let [value, handle] = fields else {
+        return Ok(None);
+    };
+    let Some(handle) = number_in(handle) else {
+        return Ok(None);
+    };
+    if is_word(word, b"A") && is_assertable(alloc, value)? {
+        Ok(Some((value.copy()?, handle)))
     } else {
-        None
+        Ok(None)
     }
 }
 
 /// Whether a client of the first path may assert it, and it isn't too deep.
-fn is_assertable(value: &Value) -> bool
-    ensures { IsTrue result ↔ (IsTrue (is_simple value.now) × (depth value.now ≤ 48)) }
+fn is_assertable(alloc: Global, value: &Value) -> Result<bool, NoMemory>
+    ensures { IfOk result
+        (λ b. IsTrue b ↔ (IsTrue (is_simple value.now) × (depth value.now ≤ 48))) }
 {
-    is_simple(value) && depth(value) <= VALUE_DEPTH
+    if depth(value) > VALUE_DEPTH {
+        return Ok(false);
+    }
+    is_simple(alloc, value)
 }

@@ -1,6 +1,8 @@
-use Rattle.std.proofs.Common.{◌≡◌, map, take}
+use Rattle.std.proofs.Common.{◌≡◌, ◌++◌, map}
 use Rattle.hub_core.specs.Machine.{sent_event}
 use Rattle.hub_core.proofs.hub.packet_to.Given as goal
 
-abbrev pub invariant-loop-event : goal.invariant-loop-event
-invariant-loop-event l = l.told.items ≡ map (sent_event l.actor) (take l.event-index l.events)
+-- those so far, and those of the events that are left
+abbrev pub invariant-loop-told : goal.invariant-loop-told
+invariant-loop-told l =
+    l.sent.items ++ map (sent_event l.actor) l.told-iterator.rest.items ≡ map (sent_event l.actor) l.fn.events

@@ -1,0 +1,212 @@
+-- The actors' numbers: a turn leaves them, an actor that joins adds its own, and one that ends takes its own away.
+use Rattle.std.proofs.Common.{◌≡◌, ℕ, zero, suc, ◌+◌, ◌<◌, ◌≤◌, Bool, true, false, not, ◌==◌, nat_lt, List, [], ◌∷◌}
+use Rattle.std.proofs.Common.{refl, ap, arith, ◌∙◌, filter, Option, Some, None, is_some, if◌then◌else◌, add-one}
+use Rattle.std.specs.List.{AllByRecursion}
+use Rattle.std.specs.Map.{values_of}
+use Rattle.pv_value.specs.Plain.{Plain}
+use Rattle.ds_space.specs.declared.references.Reference.{Reference}
+use Rattle.ds_space.specs.Spaces.{Rows, changed, has_row}
+use Rattle.ds_space.specs.References.{reference_of}
+use Rattle.ds_space.specs.Wants.{wants}
+use Rattle.ds_space.specs.declared.space.SpaceEvent.{SpaceEvent}
+use Rattle.ds_space.specs.declared.space.SpaceEvent.TheVariants.{Add, Gone}
+use Rattle.ds_space.specs.declared.space.Change.{Change}
+use Rattle.ds_space.specs.declared.space.Change.TheVariants.{Left, Came}
+use Rattle.ds_space.specs.declared.space.Fanned.{Fanned}
+use Rattle.ds_space.specs.Fans.{fan_of}
+use Rattle.ac_table.specs.declared.batches.Event.{Event}
+use Rattle.ac_table.specs.declared.batches.Event.TheVariants.{Assert, Retract, Message, Sync}
+use Rattle.ac_table.specs.Tables.{Actor, TableState, find_actor, is_live, placed, joined, ended, popped}
+use Rattle.ac_table.specs.Faults.{actor_fault}
+use Rattle.ac_table.specs.declared.TableFault.{TableFault}
+use Rattle.ac_table.specs.declared.TableFault.TheVariants.{NoActor}
+use Rattle.ac_world.specs.Outboxes.{Outbox, Plan, committed, posted}
+use Rattle.ac_world.specs.Worlds.{IsWorld, first_actors}
+use Rattle.ac_world.specs.Turns.{Turning, Aim, observer_in, drop_met, handle_for, came_at, aim_of}
+use Rattle.ac_world.specs.Turns.{changed_by, all_changed, with_rows, changes, regot, applied, taken_in, say_to, say_all}
+use Rattle.ac_world.specs.Turns.{passed_on, answer_to, turned_by, all_turned, answered, all_answered}
+use Rattle.ac_world.proofs.Lives.{numbers, numbers-dropped, numbers-committed, numbers-popped, numbers-posted}
+use Rattle.ac_world.proofs.Lives.{world_from_numbers, live-popped}
+
+-- ---- an event of a turn leaves the numbers
+
+if_same : {X : Type 0} (f : X → List ℕ) (ks : List ℕ) (b : Bool) (x y : X) → f x ≡ ks → f y ≡ ks
+    → f (if b then x else y) ≡ ks
+if_same f ks true x y same other = same
+if_same f ks false x y same other = other
+
+numbers-drop_met : (a : ℕ) (h : Option ℕ) (p : Plan) → numbers (drop_met a h p).table ≡ numbers p.table
+numbers-drop_met a None p = refl
+numbers-drop_met a (Some h) p = numbers-dropped a h p
+
+numbers-came_at : (a : ℕ) (k : Plain) (aim : Option Aim) (t : Turning)
+    → numbers (came_at a k aim t).plan.table ≡ numbers t.plan.table
+numbers-came_at a k None t = refl
+numbers-came_at a k (Some aim) t = refl
+
+pub numbers-changed_by : (a : ℕ) (c : Change) (t : Turning)
+    → numbers (changed_by a c t).plan.table ≡ numbers t.plan.table
+numbers-changed_by a (Left k) t = numbers-drop_met a (handle_for k t.seat.met) t.plan
+numbers-changed_by a (Came k) t = numbers-came_at a k (aim_of k) t
+
+pub numbers-all_changed : (a : ℕ) (cs : List Change) (t : Turning)
+    → numbers (all_changed a cs t).plan.table ≡ numbers t.plan.table
+numbers-all_changed a [] t = refl
+numbers-all_changed a (c ∷ cs) t = numbers-all_changed a cs (changed_by a c t) ∙ numbers-changed_by a c t
+
+numbers-regot : (a : ℕ) (rows : Rows) (t : Turning) → numbers (regot a rows t).plan.table ≡ numbers t.plan.table
+numbers-regot a rows t =
+    numbers-all_changed a (changes (wants (values_of t.seat.got)) (wants (values_of rows))) (with_rows rows t)
+
+numbers-applied : (a from : ℕ) (e : SpaceEvent) (t : Turning)
+    → numbers (applied a from e t).plan.table ≡ numbers t.plan.table
+numbers-applied a from (Add h v) t =
+    if_same (λ (t : Turning). numbers t.plan.table) (numbers t.plan.table) _ _ _ refl
+    (numbers-regot a (changed t.seat.got (Add h v)) t)
+numbers-applied a from (Gone h) t = numbers-regot a (changed t.seat.got (Gone h)) t
+
+numbers-taken_in : (a from h : ℕ) (v : Plain) (t : Turning)
+    → numbers (taken_in a from h v t).plan.table ≡ numbers t.plan.table
+numbers-taken_in a from h v t =
+    if_same (λ (t : Turning). numbers t.plan.table) (numbers t.plan.table) (has_row h t.seat.got) t
+    (applied a from (Add h v) t) refl (numbers-applied a from (Add h v) t)
+
+numbers-say_to : (r : Option Reference) (cs : List Plain) (p : Plan)
+    → numbers (say_to r cs p).table ≡ numbers p.table
+numbers-say_to None cs p = refl
+numbers-say_to (Some r) cs p = refl
+
+numbers-say_all : (fs : List Fanned) (p : Plan) → numbers (say_all fs p).table ≡ numbers p.table
+numbers-say_all [] p = refl
+numbers-say_all (f ∷ fs) p =
+    numbers-say_all fs (say_to (observer_in f.observe) f.captures p)
+    ∙ numbers-say_to (observer_in f.observe) f.captures p
+
+numbers-passed_on : (from : ℕ) (v : Plain) (t : Turning)
+    → numbers (passed_on from v t).plan.table ≡ numbers t.plan.table
+numbers-passed_on from v t =
+    if_same (λ (t : Turning). numbers t.plan.table) (numbers t.plan.table) _ _ _ refl
+    (numbers-say_all (fan_of (values_of t.seat.got) v) t.plan)
+
+numbers-answer_to : (r : Option Reference) (p : Plan) → numbers (answer_to r p).table ≡ numbers p.table
+numbers-answer_to None p = refl
+numbers-answer_to (Some r) p = refl
+
+pub numbers-turned_by : (a from : ℕ) (e : Event) (t : Turning)
+    → numbers (turned_by a from e t).plan.table ≡ numbers t.plan.table
+numbers-turned_by a from (Assert h entity v) t = numbers-taken_in a from h v t
+numbers-turned_by a from (Retract h entity) t = numbers-applied a from (Gone h) t
+numbers-turned_by a from (Message entity v) t = numbers-passed_on from v t
+numbers-turned_by a from (Sync entity peer) t = numbers-answer_to (reference_of peer) t.plan
+
+pub numbers-all_turned : (a from : ℕ) (es : List Event) (t : Turning)
+    → numbers (all_turned a from es t).plan.table ≡ numbers t.plan.table
+numbers-all_turned a from [] t = refl
+numbers-all_turned a from (e ∷ es) t =
+    numbers-all_turned a from es (turned_by a from e t) ∙ numbers-turned_by a from e t
+
+numbers-answered : (e : Event) (p : Plan) → numbers (answered e p).table ≡ numbers p.table
+numbers-answered (Assert h entity v) p = refl
+numbers-answered (Retract h entity) p = refl
+numbers-answered (Message entity v) p = refl
+numbers-answered (Sync entity peer) p = numbers-answer_to (reference_of peer) p
+
+pub numbers-all_answered : (es : List Event) (p : Plan) → numbers (all_answered es p).table ≡ numbers p.table
+numbers-all_answered [] p = refl
+numbers-all_answered (e ∷ es) p = numbers-all_answered es (answered e p) ∙ numbers-answered e p
+
+-- ---- an actor that joins, and one that ends
+
+all_placed : (P : Actor → Type 0) (new : Actor) (xs : List Actor) → P new → AllByRecursion P xs
+    → AllByRecursion P (placed new xs)
+all_placed P new [] p all = (p, tt)
+all_placed P new (x ∷ xs) p all = split (nat_lt new.number x.number) refl (all_placed P new xs p all.1)
+  where
+    split : (b : Bool) → nat_lt new.number x.number ≡ b → AllByRecursion P (placed new xs)
+        → AllByRecursion P (placed new (x ∷ xs))
+    split true is rest = rw is (p, all)
+    split false is rest = rw is (all.0, rest)
+
+all_weaker : (P Q : Actor → Type 0) → ((x : Actor) → P x → Q x) → (xs : List Actor) → AllByRecursion P xs
+    → AllByRecursion Q xs
+all_weaker P Q f [] all = tt
+all_weaker P Q f (x ∷ xs) all = (f x all.0, all_weaker P Q f xs all.1)
+
+all_filter : (P : Actor → Type 0) (test : Actor → Bool) (xs : List Actor) → AllByRecursion P xs
+    → AllByRecursion P (filter test xs)
+all_filter P test [] all = tt
+all_filter P test (x ∷ xs) all = split (test x) refl (all_filter P test xs all.1)
+  where
+    split : (b : Bool) → test x ≡ b → AllByRecursion P (filter test xs) → AllByRecursion P (filter test (x ∷ xs))
+    split true is rest = rw is (all.0, rest)
+    split false is rest = rw is rest
+
+-- a number above all others is nobody's
+none_above : (n a : ℕ) (xs : List Actor) → AllByRecursion (λ x. x.number ≤ n) xs → n < a
+    → is_some (find_actor a xs) ≡ false
+none_above n a [] all l = refl
+none_above n a (x ∷ xs) all l = grind (arith, all.0, none_above n a xs all.1 l)
+
+pub next_is_new : (n : ℕ) (t : TableState) → IsWorld n t → is_live (16 + (n + 1)) t ≡ false
+next_is_new n t all = none_above (16 + n) (16 + (n + 1)) t.actors all (omega arith)
+
+pub world_joined : (n : ℕ) (t : TableState) → IsWorld n t → IsWorld (n + 1) (joined (16 + (n + 1)) t)
+world_joined n t all =
+    all_placed (λ x. x.number ≤ 16 + (n + 1)) (record { number = 16 + (n + 1); inbox = [] }) t.actors (omega arith)
+    (all_weaker _ _ (λ x l. omega (arith, l)) t.actors all)
+
+pub world_ended : (a n : ℕ) (t : TableState) → IsWorld n t → IsWorld n (ended a t)
+world_ended a n t all = all_filter (λ x. x.number ≤ 16 + n) (λ x. not (x.number == a)) t.actors all
+
+-- ---- the first actors
+
+abbrev pub AreBelow : ℕ → TableState → Type 0
+AreBelow n t = AllByRecursion (λ x. x.number < n) t.actors
+
+pub first_below : (n : ℕ) → AreBelow n (first_actors n)
+first_below zero = tt
+first_below (suc n) =
+    all_placed (λ x. x.number < suc n) (record { number = n; inbox = [] }) (first_actors n).actors (omega arith)
+    (all_weaker _ _ (λ x l. omega (arith, l)) (first_actors n).actors (first_below n))
+
+none_at : (n : ℕ) (xs : List Actor) → AllByRecursion (λ x. x.number < n) xs → is_some (find_actor n xs) ≡ false
+none_at n [] all = refl
+none_at n (x ∷ xs) all = grind (arith, all.0, none_at n xs all.1)
+
+-- the next of them is new
+pub first_is_new : (n : ℕ) (t : TableState) → t ≡ first_actors n → is_live n t ≡ false
+first_is_new n t is = rw is (none_at n (first_actors n).actors (first_below n))
+
+pub first_joined : (n : ℕ) (s t : TableState) → t ≡ first_actors n → s ≡ joined n t → s ≡ first_actors (n + 1)
+first_joined n s t is one = rw (add-one) (one ∙ ap (joined n) is)
+
+pub first_world : (n : ℕ) (t : TableState) → n ≤ 17 → t ≡ first_actors n → IsWorld 0 t
+first_world n t l is =
+    rw is (all_weaker _ _ (λ x k. omega (arith, k, l)) (first_actors n).actors (first_below n))
+
+-- ---- a turn leaves a world
+
+pub world_sent : (a n : ℕ) (p : Plan) (s t : TableState) → s ≡ committed a p → numbers p.table ≡ numbers t → IsWorld n t
+    → IsWorld n s
+world_sent a n p s t is same all =
+    world_from_numbers n s t (ap numbers is ∙ numbers-committed a p ∙ same) all
+
+-- ---- an actor's turn begins
+
+no_fault_live : (b : Bool) → ◌≡◌ {A = Option TableFault} (if b then None else Some NoActor) None → b ≡ true
+no_fault_live true is = refl
+no_fault_live false is = absurd cc
+
+pub popped_live : (a : ℕ) (s t : TableState) → actor_fault a t ≡ None → s ≡ popped a t → is_live a s ≡ true
+popped_live a s t fault is = rw is (live-popped a a t ∙ no_fault_live (is_live a t) fault)
+
+pub world_popped : (a n : ℕ) (s t : TableState) → s ≡ popped a t → IsWorld n t → IsWorld n s
+world_popped a n s t is all = world_from_numbers n s t (ap numbers is ∙ numbers-popped a t) all
+
+-- ---- an actor ends
+
+pub world_gone : (a from n : ℕ) (out : Outbox) (s t u : TableState) → s ≡ ended a u → t ≡ posted from out s
+    → IsWorld n u → IsWorld n t
+world_gone a from n out s t u is told all =
+    let less : IsWorld n s = rw is (world_ended a n u all) in
+    world_from_numbers n t s (ap numbers told ∙ numbers-posted from out s) less

@@ -1,0 +1,4 @@
+pub mod Outboxes
+pub mod Sums
+pub mod Turns
+pub mod Worlds

@@ -1,0 +1,114 @@
+-- The world: live actors and their inboxes, rows, and what was delivered to whom.
+use Rattle.std.specs.Prelude.{ℕ, zero, suc, ◌+◌, List, [], ◌∷◌, Bool, ◌&&◌, nat_lt, nat_le, Option, unwrap_or}
+use Rattle.std.specs.Prelude.{◌≤◌, if◌then◌else◌}
+use Rattle.std.specs.List.{AllByRecursion}
+use Rattle.std.specs.Map.{lookup, remove_entry}
+use Rattle.std.specs.BTreeMap.{insert_entry, is_at}
+use Rattle.std.specs.Ordering.{nat_cmp}
+use Rattle.pv_value.specs.Plain.{Plain}
+use Rattle.ds_space.specs.Spaces.{Rows}
+use Rattle.ac_table.specs.declared.batches.Event.{Event}
+use Rattle.ac_table.specs.declared.batches.Event.TheVariants.{Assert, Retract, Message, Sync}
+use Rattle.ac_table.specs.Tables.{TableState, opening, joined, is_live, ended, rows_of}
+use Rattle.ac_world.specs.Outboxes.{plan_over, all_acted, committed, retractions, posted}
+use Rattle.ac_world.specs.declared.acts.Act.{Act}
+pub use Rattle.ac_world.specs.declared.held.Held.{Held}
+
+-- ---- actors: 0 is the gatekeeper, 1 to 8 are the dataspaces, 9 to 16 the watchers, 16 + k is connection k
+
+abbrev pub is_system : ℕ → Bool
+is_system a = nat_lt a 17
+
+abbrev pub is_space : ℕ → Bool
+is_space a = nat_le 1 a && nat_lt a 9
+
+abbrev pub actor_of : ℕ → ℕ
+actor_of k = 16 + k
+
+-- ---- the state
+
+-- a dataspace: the rows that were delivered to it, a handle and a value each, and for each key that it wants the handle
+-- of its own row for it
+pub record Seat : Type 0 where
+  pub got : Rows
+  pub met : List (Plain × ℕ)
+
+-- what was delivered to another actor, by handle
+abbrev pub Deliveries : Type 0
+Deliveries = List (ℕ × Held)
+
+-- The table has the next handle, the rows, and the live actors with their inboxes. A dataspace to which nothing was
+-- ever delivered may stand in no list, and so may another actor.
+pub record WorldState : Type 0 where
+  pub opened : ℕ
+  pub table : TableState
+  pub spaces : List (ℕ × Seat)
+  pub held : List (ℕ × Deliveries)
+
+abbrev pub entry_of : {X : Type 0} → ℕ → List (ℕ × X) → Option X
+entry_of a es = lookup (is_at (nat_cmp a)) es
+
+abbrev pub with_entry : {X : Type 0} → ℕ → X → List (ℕ × X) → List (ℕ × X)
+with_entry a x es = insert_entry nat_cmp es a x
+
+abbrev pub without_entry : {X : Type 0} → ℕ → List (ℕ × X) → List (ℕ × X)
+without_entry a es = remove_entry (is_at (nat_cmp a)) es
+
+abbrev pub no_seat : Seat
+no_seat = record { got = []; met = [] }
+
+abbrev pub seat_of : ℕ → WorldState → Seat
+seat_of a w = unwrap_or (entry_of a w.spaces) no_seat
+
+abbrev pub held_by : ℕ → WorldState → Deliveries
+held_by a w = unwrap_or (entry_of a w.held) []
+
+-- ---- its opening
+
+abbrev pub first_actors : ℕ → TableState
+first_actors zero = opening
+first_actors (suc n) = joined n (first_actors n)
+
+-- the gatekeeper and the dataspaces are live
+abbrev pub beginning : WorldState
+beginning = record { opened = 0; table = first_actors 9; spaces = []; held = [] }
+
+-- ---- deliveries
+
+-- what an actor has got after one more event
+abbrev pub delivered : Event → Deliveries → Deliveries
+delivered (Assert h entity v) got = with_entry h (record { entity = entity; value = v }) got
+delivered (Retract h entity) got = without_entry h got
+delivered (Message entity v) got = got
+delivered (Sync entity peer) got = got
+
+abbrev pub all_delivered : List Event → Deliveries → Deliveries
+all_delivered [] got = got
+all_delivered (e ∷ es) got = all_delivered es (delivered e got)
+
+-- ---- the changes that the hub asks for
+
+-- the next connection is live
+abbrev pub arrived : WorldState → WorldState
+arrived w = record w { opened = w.opened + 1; table = joined (actor_of (w.opened + 1)) w.table }
+
+-- an actor does these acts in order
+abbrev pub sent : ℕ → List Act → WorldState → WorldState
+sent a acts w = record w { table = committed a (all_acted a acts (plan_over w.table)) }
+
+-- an actor goes with its rows, its inbox and what it has got; each live target is told of its rows there, in one batch
+abbrev pub gone : ℕ → WorldState → WorldState
+gone a w = record w {
+  table = posted a (retractions (rows_of a w.table.rows) []) (ended a w.table);
+  held = without_entry a w.held;
+}
+
+-- one that isn't live changes nothing
+abbrev pub ended_of : ℕ → WorldState → WorldState
+ended_of a w = if is_live a w.table then gone a w else w
+
+-- ---- what is true of every world
+
+-- no actor's number is above those of the connections that were opened
+abbrev pub IsWorld : ℕ → TableState → Type 0
+IsWorld opened t = AllByRecursion (λ x. x.number ≤ 16 + opened) t.actors

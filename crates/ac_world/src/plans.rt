@@ -1,0 +1,185 @@
+//! A turn in the making: rows that come and go, and the events that tell of it.
+ghost use Rattle.std.specs.Prelude.{◌≡◌, ◌≤◌, true, OnOk, IfOk};
+ghost use Rattle.ac_table.specs.Tables.{is_live};
+ghost use Rattle.ac_world.specs.Outboxes.{plan_over, put, dropped, said, committed, acted};
+ghost use Rattle.ac_world.specs.Outboxes.{all_acted, owns};
+ghost use Rattle.ac_world.specs.Turns.{observer_in, say_to, say_all, answer_to, answered};
+ghost use Rattle.ac_world.specs.Turns.{all_answered};
+
+use crate::acts::Act;
+use crate::outboxes::Outbox;
+use crate::seats::observer_in;
+use ac_table::{Event, Table};
+use ds_space::{FanList, Fanned, Reference, reference_of};
+use pv_value::{NoMemory, Value};
+use std::alloc::Global;
+use std::marker::Model;
+
+/// The table as the turn leaves it, and what is to be posted.
+#[derive(Drop)]
+pub struct Plan {
+    pub table: Table,
+    pub out: Outbox,
+}
+
+impl Model for Plan {
+    ghost use Rattle.std.specs.Coded.{codes};
+    ghost use Rattle.pv_value.specs.Lemmas.Coded.{plain_code};
+    ghost use Rattle.ac_world.specs.Outboxes.{Plan as PlanOf};
+
+    ghost Value = { PlanOf };
+
+    ghost coded = { Prim.hlevel (codes, plain_code) };
+
+    ghost view = { λ p. record { table = p.table; out = p.out } };
+}
+
+impl Plan {
+    /// Nothing is done yet.
+    pub fn new(alloc: Global, table: Table) -> Plan
+        ensures { result ≡ plan_over table }
+    {
+        Plan {
+            table,
+            out: Outbox::new(alloc),
+        }
+    }
+
+    /// A new row of a live owner, at the object `to.1` of the actor `to.0`; answers its handle.
+    pub fn put(&mut self, owner: u32, to: (u32, u64), value: Value) -> Result<u64, NoMemory>
+        requires { is_live owner self.old.table ≡ true }
+        ensures put { OnOk result (self.new ≡ put owner to.0 to.1 value self.old) }
+        ensures handle { IfOk result (λ handle. handle ≡ self.old.table.next) }
+    {
+        let told = value.copy()?;
+        match self.table.assert_row(owner, 0, to, value) {
+            Ok(handle) => {
+                self.out.tell(to.0, Event::Assert(handle, to.1, told))?;
+                Ok(handle)
+            }
+            Err(_) => Err(NoMemory),
+        }
+    }
+
+    /// Whether a row is the owner's.
+    fn owns(&self, owner: u32, handle: u64) -> bool
+        ensures { result ≡ owns owner handle self.now.table }
+    {
+        match self.table.row(handle) {
+            Some(row) => row.owner == owner,
+            None => false,
+        }
+    }
+
+    /// The row under a handle goes, where it is the owner's.
+    pub fn drop_row(&mut self, owner: u32, handle: u64) -> Result<(), NoMemory>
+        ensures { OnOk result (self.new ≡ dropped owner handle self.old) }
+    {
+        if !self.owns(owner, handle) {
+            return Ok(());
+        }
+        match self.table.retract_row(handle) {
+            Ok(row) => {
+                let (target, entity) = (row.target, row.entity);
+                drop(row);
+                self.out.tell(target, Event::Retract(handle, entity))
+            }
+            Err(_) => Ok(()),
+        }
+    }
+
+    /// One more event.
+    pub fn say(&mut self, target: u32, event: Event) -> Result<(), NoMemory>
+        ensures { OnOk result (self.new ≡ said target event self.old) }
+    {
+        self.out.tell(target, event)
+    }
+
+    /// A sync's answer, where its peer is a reference.
+    pub fn answer(&mut self, peer: Option<Reference>) -> Result<(), NoMemory>
+        ensures { OnOk result (self.new ≡ answer_to peer self.old) }
+    {
+        match peer {
+            Some(peer) => self.say(peer.at, Event::Message(peer.entity, Value::boolean(true))),
+            None => Ok(()),
+        }
+    }
+
+    /// The captures of a message, to the object that the observation names.
+    fn say_to(&mut self, fanned: Fanned) -> Result<(), NoMemory>
+        ensures { OnOk result
+            (self.new ≡ say_to (observer_in fanned.observe) fanned.captures self.old) }
+    {
+        let Fanned { observe, captures } = fanned;
+        match observer_in(&observe) {
+            Some(at) => self.say(at.at, Event::Message(at.entity, Value::sequence(captures))),
+            None => Ok(()),
+        }
+    }
+
+    /// The captures of a message, to each that observes it.
+    pub fn say_all(&mut self, list: FanList) -> Result<(), NoMemory>
+        ensures { OnOk result (self.new ≡ say_all list.items self.old) }
+    {
+        for fanned in list {
+            self.say_to(fanned)?;
+        }
+        Ok(())
+    }
+
+    /// What a system actor that is no dataspace does at an event: it answers a sync.
+    fn answer_event(&mut self, event: &Event) -> Result<(), NoMemory>
+        ensures { OnOk result (self.new ≡ answered event.now self.old) }
+    {
+        match event {
+            Event::Sync(_, peer) => self.answer(reference_of(peer)),
+            _ => Ok(()),
+        }
+    }
+
+    /// What it does at the events of a batch.
+    pub fn answer_all(&mut self, events: &[Event]) -> Result<(), NoMemory>
+        ensures { OnOk result (self.new ≡ all_answered events.now self.old) }
+    {
+        for event in events {
+            self.answer_event(event)?;
+        }
+        Ok(())
+    }
+
+    /// One act of a live connection.
+    fn act(&mut self, actor: u32, act: Act) -> Result<(), NoMemory>
+        requires { is_live actor self.old.table ≡ true }
+        ensures { OnOk result (self.new ≡ acted actor act self.old) }
+    {
+        match act {
+            Act::Assert(target, entity, value) => {
+                self.put(actor, (target, entity), value)?;
+                Ok(())
+            }
+            Act::Retract(handle) => self.drop_row(actor, handle),
+            Act::Message(target, entity, value) => self.say(target, Event::Message(entity, value)),
+            Act::Sync(target, entity, peer) => self.say(target, Event::Sync(entity, peer)),
+        }
+    }
+
+    /// The acts of a live connection, in order.
+    pub fn act_all(&mut self, actor: u32, acts: Vec<Act>) -> Result<(), NoMemory>
+        requires { is_live actor self.old.table ≡ true }
+        ensures { OnOk result (self.new ≡ all_acted actor acts.items self.old) }
+    {
+        for act in acts {
+            self.act(actor, act)?;
+        }
+        Ok(())
+    }
+
+    /// All of it is done: the table after it, in which each live target has its batch.
+    pub fn commit(self, from: u32) -> Result<Table, NoMemory>
+        ensures { IfOk result (λ t. t ≡ committed from self) }
+    {
+        let Plan { mut table, out } = self;
+        out.post(from, &mut table)?;
+        Ok(table)
+    }
+}

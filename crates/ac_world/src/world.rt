@@ -1,0 +1,329 @@
+//! The world and its changes.
+ghost use Rattle.std.specs.Prelude.{◌≡◌, ◌<◌, ◌≤◌, ◌^◌, ◌-◌, ◌+◌, [], min, true, false};
+ghost use Rattle.std.specs.Prelude.{IfOk, OnOk, option_copied, unwrap_or};
+ghost use Rattle.std.specs.BTreeMap.{IsOrdered};
+ghost use Rattle.std.specs.Ordering.{nat_cmp};
+ghost use Rattle.ac_table.specs.Tables.{is_live, find_row, first_batch, lowest, waiting};
+ghost use Rattle.ac_world.specs.Worlds.{beginning, arrived, sent, ended_of, is_space, no_seat};
+ghost use Rattle.ac_world.specs.Turns.{space_turn, deliver, answer, turn_with, turn, work};
+
+use crate::actors::{FIRST_CONNECTION, FIRST_OTHER, is_space};
+use crate::acts::Act;
+use crate::held::Deliveries;
+use crate::outboxes::Outbox;
+use crate::plans::Plan;
+use crate::seats::Seat;
+use crate::spreads::Spreads;
+use crate::turning::Turning;
+use crate::turns::Turned;
+use ac_table::{Batch, Event, Row, Table, TableFault};
+use ds_space::Space;
+use pv_value::NoMemory;
+use std::alloc::Global;
+use std::collections::BTreeMap;
+use std::marker::Model;
+
+/// Live actors with their inboxes, rows, and what was delivered to whom.
+#[derive(Drop)]
+pub struct World<S: Space + Drop> {
+    pub(crate) opened: u32,
+    pub(crate) table: Table,
+    pub(crate) spaces: BTreeMap<u32, Seat<S>>,
+    pub(crate) held: BTreeMap<u32, Deliveries>,
+}
+
+impl<S: Space + Drop> Model for World<S> {
+    ghost use Rattle.std.specs.Coded.{codes};
+    ghost use Rattle.pv_value.specs.Lemmas.Coded.{plain_code};
+    ghost use Rattle.ac_world.specs.Worlds.{WorldState, IsWorld};
+
+    ghost Value = { WorldState };
+
+    ghost coded = { Prim.hlevel (codes, plain_code) };
+
+    ghost view = { λ w. record {
+      opened = w.opened;
+      table = w.table;
+      spaces = w.spaces.entries;
+      held = w.held.entries;
+    } };
+
+    ghost invariant = { λ w. IsWorld w.opened w.table };
+}
+
+impl<S: Space + Drop> World<S> {
+    /// The opening: the gatekeeper and the dataspaces are live, and nothing is said.
+    pub fn begin(alloc: Global) -> Result<World<S>, NoMemory>
+        ensures { IfOk result (λ w. w ≡ beginning) }
+    {
+        let mut table = Table::new(alloc);
+        for actor in 0..FIRST_OTHER {
+            table.add_actor(actor)?;
+        }
+        Ok(World {
+            opened: 0,
+            table,
+            spaces: BTreeMap::new(alloc),
+            held: BTreeMap::new(alloc),
+        })
+    }
+
+    /// The handle that is drawn next.
+    pub fn next_handle(&self) -> u64
+        ensures { result ≡ self.now.table.next }
+    {
+        self.table.next_handle()
+    }
+
+    /// How many connections were ever opened.
+    pub fn opened(&self) -> u32
+        ensures { result ≡ self.now.opened }
+    {
+        self.opened
+    }
+
+    pub fn live(&self, actor: u32) -> bool
+        ensures { result ≡ is_live actor self.now.table }
+    {
+        self.table.live(actor)
+    }
+
+    pub fn row(&self, handle: u64) -> Option<&Row>
+        ensures { option_copied result ≡ find_row handle self.now.table.rows }
+    {
+        self.table.row(handle)
+    }
+
+    /// The batch that the actor takes next.
+    pub fn first(&self, actor: u32) -> Option<&Batch>
+        ensures { option_copied result ≡ first_batch actor self.now.table }
+    {
+        self.table.first(actor)
+    }
+
+    /// The lowest live actor for which a batch waits.
+    pub fn lowest(&self) -> Option<u32>
+        ensures { result ≡ lowest self.now.table }
+    {
+        self.table.lowest()
+    }
+
+    /// How many batches wait, at most the greatest u64.
+    pub fn batches(&self) -> u64
+        ensures { result ≡ min (waiting self.now.table) (2 ^ 64 - 1) }
+    {
+        self.table.batches()
+    }
+
+    /// The next connection is live; answers its number.
+    pub fn arrive(mut self) -> Result<(World<S>, u32), NoMemory>
+        requires { self.opened < 2 ^ 31 }
+        ensures world { IfOk result (λ done. done.0 ≡ arrived self) }
+        ensures number { IfOk result (λ done. done.1 ≡ self.opened + 1) }
+    {
+        let opened = self.opened + 1;
+        self.table.add_actor(16 + opened)?;
+        self.opened = opened;
+        Ok((self, opened))
+    }
+
+    /// A live connection's acts, in order.
+    pub fn send(self, alloc: Global, actor: u32, acts: Vec<Act>) -> Result<World<S>, NoMemory>
+        requires { is_live actor self.table ≡ true }
+        ensures { IfOk result (λ w. w ≡ sent actor acts.items self) }
+    {
+        let World {
+            opened,
+            table,
+            spaces,
+            held,
+        } = self;
+        let mut plan = Plan::new(alloc, table);
+        plan.act_all(actor, acts)?;
+        Ok(World {
+            opened,
+            table: plan.commit(actor)?,
+            spaces,
+            held,
+        })
+    }
+
+    /// A dataspace's turn, its batch taken.
+    fn space_turn(
+        self,
+        alloc: Global,
+        actor: u32,
+        batch: Batch,
+    ) -> Result<(World<S>, Turned), NoMemory>
+        requires { is_live actor self.table ≡ true }
+        ensures world { IfOk result (λ done. done.0 ≡ (space_turn actor batch self).world) }
+        ensures turned { IfOk result (λ done. done.1 ≡ (space_turn actor batch self).turned) }
+    {
+        let World {
+            opened,
+            table,
+            mut spaces,
+            held,
+        } = self;
+        keeps_its_order(&spaces);
+        let seat = seat_or_new(alloc, spaces.remove(&actor));
+        let turning = Turning {
+            seat,
+            plan: Plan::new(alloc, table),
+            spreads: Spreads::new(alloc),
+        };
+        let Batch { from, events } = batch;
+        let Turning {
+            seat,
+            plan,
+            spreads,
+        } = turning.turn_all(alloc, actor, from, events.into_vec())?;
+        spaces.insert(actor, seat)?;
+        let table = plan.commit(actor)?;
+        let world = World {
+            opened,
+            table,
+            spaces,
+            held,
+        };
+        Ok((world, Turned::Ran(spreads)))
+    }
+
+    /// What an actor that is no dataspace has got after more events.
+    fn deliver(&mut self, alloc: Global, actor: u32, events: &[Event]) -> Result<(), NoMemory>
+        ensures { OnOk result (self.new ≡ deliver actor events.now self.old) }
+    {
+        keeps_its_order(&self.held);
+        let mut got = deliveries_or_new(alloc, self.held.remove(&actor));
+        got.take_all(events)?;
+        self.held.insert(actor, got)?;
+        Ok(())
+    }
+
+    /// A system actor that is no dataspace answers syncs.
+    fn answer(self, alloc: Global, actor: u32, events: &[Event]) -> Result<World<S>, NoMemory>
+        ensures { IfOk result (λ w. w ≡ answer actor events.now self) }
+    {
+        let World {
+            opened,
+            table,
+            spaces,
+            held,
+        } = self;
+        let mut plan = Plan::new(alloc, table);
+        plan.answer_all(events)?;
+        let table = plan.commit(actor)?;
+        Ok(World {
+            opened,
+            table,
+            spaces,
+            held,
+        })
+    }
+
+    /// The turn of an actor that is no dataspace, its batch taken.
+    fn other_turn(
+        mut self,
+        alloc: Global,
+        actor: u32,
+        batch: Batch,
+    ) -> Result<(World<S>, Turned), NoMemory>
+        requires { is_space actor ≡ false }
+        ensures world { IfOk result (λ done. done.0 ≡ (turn_with actor batch self).world) }
+        ensures turned { IfOk result (λ done. done.1 ≡ (turn_with actor batch self).turned) }
+    {
+        self.deliver(alloc, actor, batch.events.as_slice())?;
+        if actor >= FIRST_CONNECTION {
+            return Ok((self, Turned::Taken(batch)));
+        }
+        let world = self.answer(alloc, actor, batch.events.as_slice())?;
+        Ok((world, Turned::Ran(Spreads::new(alloc))))
+    }
+
+    /// A live actor's turn, its batch taken.
+    fn turn_with(
+        self,
+        alloc: Global,
+        actor: u32,
+        batch: Batch,
+    ) -> Result<(World<S>, Turned), NoMemory>
+        requires { is_live actor self.table ≡ true }
+        ensures world { IfOk result (λ done. done.0 ≡ (turn_with actor batch self).world) }
+        ensures turned { IfOk result (λ done. done.1 ≡ (turn_with actor batch self).turned) }
+    {
+        if is_space(actor) {
+            self.space_turn(alloc, actor, batch)
+        } else {
+            self.other_turn(alloc, actor, batch)
+        }
+    }
+
+    /// An actor takes the first batch of its inbox. For want of memory the world is gone.
+    pub fn turn(mut self, alloc: Global, actor: u32) -> Result<(World<S>, Turned), NoMemory>
+        ensures world { IfOk result (λ done. done.0 ≡ (turn actor self).world) }
+        ensures turned { IfOk result (λ done. done.1 ≡ (turn actor self).turned) }
+    {
+        match self.table.pop_batch(actor) {
+            Ok(Some(batch)) => self.turn_with(alloc, actor, batch),
+            Ok(None) => Ok((self, Turned::Idle)),
+            Err(_) => Ok((self, Turned::Gone)),
+        }
+    }
+
+    /// The turn of the lowest system actor for which a batch waits.
+    pub fn work(self, alloc: Global) -> Result<(World<S>, Turned), NoMemory>
+        ensures world { IfOk result (λ done. done.0 ≡ (work self).world) }
+        ensures turned { IfOk result (λ done. done.1 ≡ (work self).turned) }
+    {
+        match self.table.lowest() {
+            Some(actor) if actor < FIRST_CONNECTION => self.turn(alloc, actor),
+            _ => Ok((self, Turned::Idle)),
+        }
+    }
+
+    /// An actor that is no dataspace goes, where it is live, with its rows, its inbox and what it
+    /// has got; each live target is told of its rows there.
+    pub fn end(mut self, alloc: Global, actor: u32) -> Result<World<S>, NoMemory>
+        requires { 9 ≤ actor }
+        ensures { IfOk result (λ w. w ≡ ended_of actor self) }
+    {
+        match self.table.end_actor(actor) {
+            Ok(rows) => {
+                let mut out = Outbox::new(alloc);
+                out.retract_all(&rows)?;
+                out.post(actor, &mut self.table)?;
+                self.held.remove(&actor);
+                Ok(self)
+            }
+            Err(TableFault::NoMemory) => Err(NoMemory),
+            Err(_) => Ok(self),
+        }
+    }
+}
+
+/// What is true of every map: its keys ascend.
+fn keeps_its_order<V>(map: &BTreeMap<u32, V>)
+    ensures { IsOrdered nat_cmp map.now }
+{
+    let _ = map.len();
+}
+
+/// The dataspace, or one without rows.
+fn seat_or_new<S: Space + Drop>(alloc: Global, seat: Option<Seat<S>>) -> Seat<S>
+    ensures { result ≡ unwrap_or seat no_seat }
+{
+    match seat {
+        Some(seat) => seat,
+        None => Seat::new(alloc),
+    }
+}
+
+/// What was delivered, or nothing.
+fn deliveries_or_new(alloc: Global, held: Option<Deliveries>) -> Deliveries
+    ensures { result ≡ unwrap_or held [] }
+{
+    match held {
+        Some(held) => held,
+        None => Deliveries::new(alloc),
+    }
+}

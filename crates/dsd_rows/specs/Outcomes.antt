@@ -1,7 +1,0 @@
--- What comes of a run, and when two outcomes are the same.
-use Rattle.std.specs.Prelude.{◌≡◌}
-use Rattle.dsd_rows.specs.declared.rows.Outcome.{Outcome}
-
--- the status, the line on standard error and the output are the same
-abbrev pub IsSameOutcome : Outcome → Outcome → Type 0
-IsSameOutcome a b = (a.status ≡ b.status) × (a.line.items ≡ b.line.items) × (a.output.items ≡ b.output.items)

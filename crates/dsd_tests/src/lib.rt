@@ -1,0 +1,10 @@
+//! Tests of the machine, of scripts and of the top call: calls that take memory, where it is ample,
+//! and calls that no file of rows can bring about.
+#![tactic(auto)]
+
+#[cfg(test)]
+mod machine;
+#[cfg(test)]
+mod scripts;
+#[cfg(test)]
+mod top;

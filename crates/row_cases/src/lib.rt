@@ -1,0 +1,17 @@
+//! Cases of the codecs in tables, how bytes are written in a file, what differs between two
+//! outcomes, and the count of what passed.
+#![tactic(auto)]
+
+mod codecs;
+mod differences;
+mod faults;
+mod shown;
+mod spelling;
+mod tables;
+mod tally;
+
+pub use differences::{Outcome, outcomes_differ};
+pub use faults::Fault;
+pub use spelling::{Form, bytes_in, escaped, find_form};
+pub use tables::judge_table;
+pub use tally::{Findings, Tally, one_difference};
