@@ -14,16 +14,34 @@
 //! string of written spellings. Behind the status stands the line on standard error. `input` and
 //! `output` may also say which calls fail.
 //!
+//! `data/steps/` has files of rows for the machine alone, each a list of steps that are done to a
+//! hub and of questions that are asked of it, a case a line:
+//!
+//!     row a sync is answered
+//!     <arrive 1> => <opened 1>
+//!     <packet 1 [[0 <S #:[0 5]>]]> => taken
+//!     work => ran
+//!     <turn 17> => <sent [[5 <M #t>]]>
+//!     pending => 0
+//!
+//! Both sides are values in text, and repetitions may stand in them. `64 times` before a step has
+//! it done so often. A packet stands as on the wire.
+//!
 //! `data/tables/` has tables for the calls of the codecs, a case a line: what the call is given, an
 //! arrow `=>`, and what it answers. `data/README` has all of it.
 #![tactic(auto)]
 
 ghost use Rattle.std.specs.Prelude.{◌≤◌};
 
+mod asking;
+mod cases;
 mod faults;
+mod machines;
+mod replies;
 mod rows;
 mod runs;
 mod sections;
+mod steps;
 
 use row_cases::{Fault, Findings, Tally, judge_table, one_difference};
 use std::alloc::{AllocError, Global};
@@ -41,7 +59,7 @@ fn main(rt: HostRuntime) -> ExitCode {
 /// Runs all files, and prints what came of each.
 fn run<R: Runtime + AllocGlobal>(rt: &R) -> io::Result<Tally> {
     let mut tally = Tally::new();
-    for folder in ["rows", "tables"] {
+    for folder in ["rows", "steps", "tables"] {
         run_folder(rt, folder, &mut tally)?;
     }
     let (passed, failed) = (tally.passed, tally.failed);
@@ -135,9 +153,9 @@ fn findings_in(
 }
 
 fn judge(alloc: Global, folder: &str, name: &str, text: &str) -> Result<Findings, Fault> {
-    if folder == "rows" {
-        Ok(runs::judge_file(alloc, text)?)
-    } else {
-        judge_table(alloc, name, text)
+    match folder {
+        "rows" => Ok(runs::judge_file(alloc, text)?),
+        "steps" => Ok(steps::judge_file(alloc, text)?),
+        _ => judge_table(alloc, name, text),
     }
 }

@@ -1,27 +1,50 @@
 //! The machine and its values, few and small: what runs through the whole of it is a row.
+ghost use Rattle.std.specs.Prelude.{◌≡◌, true, IfOk};
+ghost use Rattle.hub_core.specs.Plainness.{is_plain};
 
 use ds_space::PlainSpace;
-use hub_core::{Event, Hub, Reply, Step, Turn, TurnEvent, held};
+use hub_core::{Hub, Reply, Step};
 use pv_value::Value;
+use rl_packet::{Event, Packet, Turn, TurnEvent, held};
 use std::alloc::Global;
 use std::test::Fail;
 
 /// `[[0 <A 5 handle>]]`
-fn five(alloc: Global, handle: u64) -> Result<Turn, Fail> {
+fn five(alloc: Global, handle: u64) -> Result<Turn, Fail>
+    ensures { IfOk result (λ turn. is_plain turn ≡ true) }
+{
     let mut events = Vec::new(alloc);
     let event = Event::Assert(Value::integer(5), handle);
     events.push(TurnEvent { oid: 0, event })?;
     Ok(Turn::from_vec(events))
 }
 
+/// The word for an answer.
+fn word(reply: Reply) -> &'static str {
+    match reply {
+        Reply::Worn => "worn",
+        Reply::Barred => "barred",
+        Reply::Halted => "halted",
+        Reply::Full => "full",
+        Reply::Opened(_) => "opened",
+        Reply::Gone => "gone",
+        Reply::Refused(_) => "refused",
+        Reply::Idle => "idle",
+        Reply::Sent(_) => "sent",
+        Reply::Ran => "ran",
+        Reply::Taken => "taken",
+    }
+}
+
 #[test]
 fn a_packet_is_taken(rt: HostRuntime) -> Result<(), Fail> {
     let alloc = rt.alloc();
     let hub: Hub<PlainSpace> = Hub::begin(alloc)?;
-    let (hub, opened) = hub.step(alloc, Step::Arrive(1))?;
-    assert!(rt; matches!(opened, Reply::Opened(1)));
-    let (hub, taken) = hub.step(alloc, Step::Packet(1, five(alloc, 1)?))?;
-    assert!(rt; matches!(taken, Reply::Taken));
+    let (hub, reply) = hub.step(alloc, Step::Arrive(1))?;
+    assert_eq!(rt; word(reply), "opened");
+    assert_eq!(rt; hub.opened(), 1);
+    let (hub, reply) = hub.step(alloc, Step::Packet(1, five(alloc, 1)?))?;
+    assert_eq!(rt; word(reply), "taken");
     assert_eq!(rt; hub.pending(), 1);
     assert_eq!(rt; hub.lowest(), Some(1));
     Ok(())
@@ -31,12 +54,12 @@ fn a_packet_is_taken(rt: HostRuntime) -> Result<(), Fail> {
 fn there_are_eight_dataspaces(rt: HostRuntime) -> Result<(), Fail> {
     let alloc = rt.alloc();
     let hub: Hub<PlainSpace> = Hub::begin(alloc)?;
-    let (hub, barred) = hub.step(alloc, Step::Arrive(9))?;
-    assert!(rt; matches!(barred, Reply::Barred));
-    let (hub, idle) = hub.step(alloc, Step::Turn(0))?;
-    assert!(rt; matches!(idle, Reply::Idle));
-    let (hub, gone) = hub.step(alloc, Step::Turn(9))?;
-    assert!(rt; matches!(gone, Reply::Gone));
+    let (hub, reply) = hub.step(alloc, Step::Arrive(9))?;
+    assert_eq!(rt; word(reply), "barred");
+    let (hub, reply) = hub.step(alloc, Step::Turn(0))?;
+    assert_eq!(rt; word(reply), "idle");
+    let (hub, reply) = hub.step(alloc, Step::Turn(9))?;
+    assert_eq!(rt; word(reply), "gone");
     assert!(rt; !hub.live(1));
     assert_eq!(rt; hub.opened(), 0);
     Ok(())
@@ -46,8 +69,8 @@ fn there_are_eight_dataspaces(rt: HostRuntime) -> Result<(), Fail> {
 fn what_was_sent_is_held(rt: HostRuntime) -> Result<(), Fail> {
     let alloc = rt.alloc();
     let mut packets = Vec::new(alloc);
-    packets.push(five(alloc, 9)?)?;
-    packets.push(five(alloc, 4)?.copy(alloc)?)?;
+    packets.push(Packet::Turn(five(alloc, 9)?))?;
+    packets.push(Packet::Turn(five(alloc, 4)?.copy(alloc)?))?;
     let holdings = held(alloc, &packets)?;
     assert_eq!(rt; holdings.len(), 2);
     assert_eq!(rt; holdings[0].handle, 4);

@@ -1,10 +1,11 @@
 -- What a status says of the words, the input and what was written.
-use Rattle.std.specs.Prelude.{◌≡◌, ◌≢◌, ℕ, ◌<◌, ◌≤◌, List, [], ◌∷◌, length, Option, Some, None, Contains, IfSome}
+use Rattle.std.specs.Prelude.{◌≡◌, ◌≢◌, ◌⊎◌, ℕ, ◌<◌, ◌≤◌, List, [], ◌∷◌, length, Option, Some, None, Contains, IfSome}
 use Rattle.out_ports.specs.Ports.{Appends, AppendsFront}
-use Rattle.sc_script.specs.Reports.{report_of}
-use Rattle.sc_script.specs.Runs.{run_of}
+use Rattle.pv_value.specs.Plain.{Plain}
+use Rattle.sc_script.specs.Reports.{IsReportOf}
+use Rattle.sc_script.specs.Runs.{course_of, stopped}
 use Rattle.sc_script.specs.TextVerdicts.{IsTextJudged}
-use Rattle.sc_script.specs.Verdicts.{good, bad, not_built, IsJudged}
+use Rattle.sc_script.specs.Verdicts.{Verdict, good, bad, not_built, IsJudged}
 use Rattle.sc_script.specs.declared.events.ScriptEvent.{ScriptEvent}
 use Rattle.sc_script.specs.declared.scripts.ScriptFault.{ScriptFault}
 use Rattle.sc_script.specs.declared.scripts.ScriptFault.TheVariants as script
@@ -53,16 +54,16 @@ abbrev pub IfTold : Option Command → Option (List ℕ) → (Command → List �
 IfTold command left P = IfSome command (λ c. IfSome left (P c))
 
 -- what is written for the events of a script
-abbrev pub answer_of : Form → List ScriptEvent → List ℕ
-answer_of form es = in_form form (report_of (run_of es))
+abbrev pub IsAnswerFor : Form → List ScriptEvent → List ℕ → Type 0
+IsAnswerFor form es out = (v : Plain) × IsReportOf es v × (out ≡ in_form form v)
 
 -- the bytes are a script, and these its report
 abbrev pub IsReported : List ℕ → List ℕ → Type 0
-IsReported bytes out = (es : List ScriptEvent) × IsJudged bytes (good es) × (out ≡ answer_of form.Written es)
+IsReported bytes out = (es : List ScriptEvent) × IsJudged bytes (good es) × IsAnswerFor form.Written es out
 
 -- the text is a script, and these its report, printed
 abbrev pub IsReportedText : List ℕ → List ℕ → Type 0
-IsReportedText text out = (es : List ScriptEvent) × IsTextJudged text (good es) × (out ≡ answer_of form.Printed es)
+IsReportedText text out = (es : List ScriptEvent) × IsTextJudged text (good es) × IsAnswerFor form.Printed es out
 
 -- what the command makes of the input
 abbrev pub IsAnswerOf : Command → List ℕ → List ℕ → Type 0
@@ -80,10 +81,14 @@ IsBadInputAt CanonicalForms bytes n = (length bytes ≤ 67108864) × IsBadValueA
 IsBadInputAt Printed bytes n = (length bytes ≤ 67108864) × IsBadValueAt bytes n
 IsBadInputAt Written bytes n = (length bytes ≤ 67108864) × IsBadTextAt bytes n
 
+-- by the verdicts that stand of an input: value n of it is no event, or the run of the script stops there
+abbrev pub GoesPastAt : (Verdict → Type 0) → ℕ → Type 0
+GoesPastAt Stand n = Stand (not_built n) ⊎ ((es : List ScriptEvent) × Stand (good es) × (course_of es ≡ stopped n))
+
 -- value n of the input goes past what is built
 abbrev pub IsNotBuiltAt : Command → List ℕ → ℕ → Type 0
-IsNotBuiltAt Run bytes n = IsJudged bytes (not_built n)
-IsNotBuiltAt RunText bytes n = IsTextJudged bytes (not_built n)
+IsNotBuiltAt Run bytes n = GoesPastAt (IsJudged bytes) n
+IsNotBuiltAt RunText bytes n = GoesPastAt (IsTextJudged bytes) n
 IsNotBuiltAt CanonicalForms bytes n = ⊥
 IsNotBuiltAt Printed bytes n = ⊥
 IsNotBuiltAt Written bytes n = ⊥
@@ -126,6 +131,12 @@ status_of (fault.NotBuilt n) = 10
 -- the causes that come only behind the whole input
 abbrev pub IsBehindInput : Fault → Type 0
 IsBehindInput f = (status_of f ≢ 3) × (status_of f ≢ 5)
+
+-- what a script's fault says of the verdicts that stand of an input
+abbrev pub IsScriptCause : (Verdict → Type 0) → ScriptFault → Type 0
+IsScriptCause Stand (script.Bad n) = Stand (bad n)
+IsScriptCause Stand (script.NotBuilt n) = GoesPastAt Stand n
+IsScriptCause Stand script.NoMemory = Unit {0}
 
 -- what a cause says of the input, where a command was making its answer
 abbrev pub IsCauseOf : Command → List ℕ → Fault → Type 0

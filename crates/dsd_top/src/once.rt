@@ -2,14 +2,15 @@
 ghost use Rattle.std.specs.Prelude.{◌≡◌, ◌≢◌, ◌≤◌, ◌↔◌, [], ◌∷◌, true, false, None, Contains};
 ghost use Rattle.std.specs.Prelude.{IfSome, IfOk, IfErr, OnOk, OnErr, IsErrOf};
 ghost use Rattle.out_ports.specs.Ports.{Rose, Appends, AppendsFront};
-ghost use Rattle.sc_script.specs.Steps.{IsFaultOf};
+ghost use Rattle.sc_script.specs.Runs.{course_of, IsStopped};
 ghost use Rattle.sc_script.specs.TextVerdicts.{IsTextJudged};
 ghost use Rattle.sc_script.specs.Verdicts.{IsJudged};
 ghost use Rattle.dsd_top.specs.Commands.{texts, request_of, command_of, notice_of, text_of};
 ghost use Rattle.dsd_top.specs.Commands.{is_serve as begins_with_serve};
-ghost use Rattle.dsd_top.specs.Statuses.{IsStatus, statuses_by, statuses_of, IfTold, answer_of};
+ghost use Rattle.dsd_top.specs.Statuses.{IsStatus, statuses_by, statuses_of, IfTold, IsAnswerFor};
 ghost use Rattle.dsd_top.specs.Statuses.{IsReported, IsReportedText, IsAnswerOf, IsAnswered};
 ghost use Rattle.dsd_top.specs.Statuses.{IsCut, IsBadInput, IsNotBuilt, IsOver, IsCauseOf, Tells};
+ghost use Rattle.dsd_top.specs.Statuses.{IsScriptCause};
 ghost use Rattle.dsd_top.specs.Statuses.{status_of, IsBehindInput, from_script, from_input};
 ghost use Rattle.dsd_top.specs.Statuses.{from_read};
 ghost use Rattle.dsd_top.specs.declared.once.Fault.TheVariants as fault;
@@ -20,7 +21,6 @@ use crate::values::{InputFault, values_to_end};
 use crate::words::{Command, Notice, Request, find_request, is_serve};
 use out_ports::ports::{Host, Sink, Source};
 use out_ports::streams::{ReadFault, WriteFault, read_to_end, write_all};
-use pv_value::NoMemory;
 use sc_script::{Script, ScriptFault, read_script, read_text_script, report};
 use std::alloc::Global;
 use std::sync::Wait;
@@ -97,30 +97,31 @@ impl From<WriteFault> for Fault {
     }
 }
 
-/// The report of the script's run, in this form.
-fn report_in(alloc: Global, script: Script, form: Form) -> Result<Vec<u8>, NoMemory>
-    ensures { IfOk result (λ out. out.items ≡ answer_of form script) }
+/// The report of the script's run, in this form. It stops where an event goes past what is built.
+fn report_in(alloc: Global, script: Script, form: Form) -> Result<Vec<u8>, ScriptFault>
+    ensures answer { IfOk result (λ out. IsAnswerFor form script out.items) }
+    ensures stop { IfErr result (IsStopped (course_of script)) }
 {
     let value = report(alloc, script)?;
-    value_in(alloc, &value, form)
+    Ok(value_in(alloc, &value, form)?)
 }
 
 /// What is written for a script.
 fn report_of_script(alloc: Global, bytes: &[u8]) -> Result<Vec<u8>, ScriptFault>
     ensures answer { IfOk result (λ out. IsReported bytes.now out.items) }
-    ensures fault { IfErr result (IsFaultOf (IsJudged bytes.now)) }
+    ensures fault { IfErr result (IsScriptCause (IsJudged bytes.now)) }
 {
     let script = read_script(alloc, bytes)?;
-    Ok(report_in(alloc, script, Form::Written)?)
+    report_in(alloc, script, Form::Written)
 }
 
 /// What is written for a script in text.
 fn report_of_text(alloc: Global, text: &[u8]) -> Result<Vec<u8>, ScriptFault>
     ensures answer { IfOk result (λ out. IsReportedText text.now out.items) }
-    ensures fault { IfErr result (IsFaultOf (IsTextJudged text.now)) }
+    ensures fault { IfErr result (IsScriptCause (IsTextJudged text.now)) }
 {
     let script = read_text_script(alloc, text)?;
-    Ok(report_in(alloc, script, Form::Printed)?)
+    report_in(alloc, script, Form::Printed)
 }
 
 /// What the command makes of the input.

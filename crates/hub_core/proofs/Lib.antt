@@ -1,4 +1,6 @@
+pub mod Completing
 pub mod Crossings
-pub mod Firsts
-pub mod Keeping
+pub mod Observing
 pub mod References
+pub mod Refusing
+pub mod Small

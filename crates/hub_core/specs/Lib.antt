@@ -1,10 +1,14 @@
+pub mod Admission
+pub mod Causes
 pub mod Changes
+pub mod Completeness
 pub mod Crossing
-pub mod Holding
-pub mod Kept
+pub mod Endings
+pub mod Faults
 pub mod Laws
 pub mod Lemmas
 pub mod Machine
-pub mod Packets
+pub mod Plainness
+pub mod Ports
 pub mod Replays
 pub mod State

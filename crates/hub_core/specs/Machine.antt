@@ -1,91 +1,154 @@
 -- The machine: what a step makes of the state, and its reply. What actors do is the world's (`ac_world`).
-use Rattle.std.specs.Prelude.{ℕ, ◌+◌, ◌^◌, List, [], ◌∷◌, Bool, ◌||◌, nat_lt, nat_le, map, Option, Some, None}
-use Rattle.std.specs.Prelude.{if◌then◌else◌}
-use Rattle.std.specs.List.{flat_map}
+use Rattle.std.specs.Prelude.{◌≡◌, ◌≢◌, ℕ, ◌+◌, ◌-◌, ◌^◌, List, [], ◌∷◌, Bool, true, false, ◌||◌, nat_lt, nat_le, map}
+use Rattle.std.specs.Prelude.{Option, Some, None, length, if◌then◌else◌}
 use Rattle.pv_value.specs.Plain.{embedded}
 use Rattle.ac_table.specs.declared.batches.Event.{Event as Told}
 use Rattle.ac_table.specs.declared.batches.Event.TheVariants as told
-use Rattle.ac_world.specs.declared.acts.Act.{Act}
-use Rattle.ac_world.specs.declared.acts.Act.TheVariants as act
+use Rattle.ac_table.specs.declared.batches.Batch.{Batch}
+use Rattle.ac_table.specs.Tables.{lowest}
+use Rattle.ac_world.specs.declared.spreads.Spread.{Spread}
 use Rattle.ac_world.specs.declared.turns.Turned.{Turned}
 use Rattle.ac_world.specs.declared.turns.Turned.TheVariants as turned
-use Rattle.ac_world.specs.Worlds.{arrived, sent, with_entry}
-use Rattle.ac_world.specs.Turns.{After as TurnOf, turn}
-use Rattle.ac_world.specs.Worlds.{actor_of}
-use Rattle.hub_core.specs.Crossing.{crossed_in, crossed_out}
-use Rattle.hub_core.specs.State.{State, Event, Assert, Retract, Message, Sync, TurnEvent, first_of}
-use Rattle.hub_core.specs.declared.hub.Step.{Step}
-use Rattle.hub_core.specs.declared.hub.Step.TheVariants.{Arrive, Packet, Turn}
-use Rattle.hub_core.specs.declared.hub.Reply.{Reply}
-use Rattle.hub_core.specs.declared.hub.Reply.TheVariants.{Worn, Barred, Opened, Gone, Idle, Sent, Ran, Taken}
+use Rattle.ac_world.specs.Worlds.{WorldState, arrived, sent, actor_of, is_system, entry_of, with_entry, without_entry}
+use Rattle.ac_world.specs.Turns.{turn}
+use Rattle.rl_packet.specs.declared.packets.Event.{Event}
+use Rattle.rl_packet.specs.declared.packets.Event.TheVariants.{Assert, Retract, Message, Sync}
+use Rattle.rl_packet.specs.declared.packets.TurnEvent.{TurnEvent}
+use Rattle.rl_packet.specs.declared.packets.Packet.TheVariants as packet
+use Rattle.hub_core.specs.Crossing.{crossed_out}
+use Rattle.hub_core.specs.Faults.{Fault, error_of}
+use Rattle.hub_core.specs.Plainness.{is_plain}
+use Rattle.hub_core.specs.Ports.{PortsState, ports_to}
+use Rattle.hub_core.specs.State.{State, ports_of, foreign}
+use Rattle.hub_core.specs.Admission.{Admitted, refused, admitted, Admitting, admission}
+use Rattle.hub_core.specs.Endings.{nameless, departed_for, closed, failed, finished}
+use Rattle.hub_core.specs.declared.steps.Step.{Step}
+use Rattle.hub_core.specs.declared.steps.Step.TheVariants.{Arrive, Packet, Bad, Close, Turn, Work, Stop}
+use Rattle.hub_core.specs.declared.steps.Reply.{Reply}
+use Rattle.hub_core.specs.declared.steps.Reply.TheVariants.{Worn, Barred, Halted, Full, Opened, Gone, Refused, Idle}
+use Rattle.hub_core.specs.declared.steps.Reply.TheVariants.{Sent, Ran, Taken}
 
 pub record After : Type 0 where
   pub state : State
   pub reply : Reply
 
+-- nothing was done, and nobody ends
 abbrev pub unchanged : State → Reply → After
 unchanged s r = record { state = s; reply = r }
+
+-- something was done, and those end who have to
+abbrev pub ends : List Spread → State → Reply → After
+ends xs s r = record { state = finished xs s; reply = r }
 
 -- ---- an arrival
 
 -- a connection comes, with actor `space` as its object 0
-abbrev pub arrive : State → ℕ → After
-arrive s space = record {
-  state = record {
-    world = arrived s.world;
-    firsts = with_entry (s.world.opened + 1) space s.firsts;
-  };
-  reply = Opened (s.world.opened + 1);
+abbrev pub opened : ℕ → State → State
+opened space s = record s {
+  world = arrived s.world;
+  connections = with_entry (s.world.opened + 1) (ports_to space) s.connections;
 }
 
--- ---- a packet: each assertion makes a row at the connection's object 0; nothing else is done by one yet
+-- why none comes
+abbrev pub refusal : ℕ → State → Option Reply
+refusal space s =
+    if nat_lt 8 space then Some Barred
+    else if s.stopped then Some Halted else if nat_le 32 (length s.connections) then Some Full else None
 
-abbrev pub acts_of : ℕ → ℕ → Event → List Act
-acts_of a space (Assert v h) = act.Assert space 0 (crossed_in a v) ∷ []
-acts_of a space (Retract h) = []
-acts_of a space (Message v) = []
-acts_of a space (Sync peer) = []
+abbrev pub arrive_unless : Option Reply → ℕ → State → After
+arrive_unless (Some r) space s = unchanged s r
+arrive_unless None space s = ends [] (opened space s) (Opened (s.world.opened + 1))
 
-abbrev pub all_acts : ℕ → ℕ → List TurnEvent → List Act
-all_acts a space es = flat_map (λ e. acts_of a space e.event) es
+-- ---- a packet: all of it is done, or nothing of it, and the connection ends
 
-abbrev pub taken : ℕ → Option ℕ → List TurnEvent → State → After
-taken a None es s = unchanged s Gone
-taken a (Some space) es s =
-    record { state = record { world = sent a (all_acts a space es) s.world; firsts = s.firsts }; reply = Taken }
+-- in a state without the connection's names: they are those that the packet leaves
+abbrev pub accepted : ℕ → Admitting → State → State
+accepted k x s =
+    record s { world = sent (actor_of k) x.acts s.world; connections = with_entry k x.ports s.connections }
 
-abbrev pub packet : ℕ → List TurnEvent → State → After
-packet k es s = taken (actor_of k) (first_of k s) es s
+abbrev pub judged : ℕ → Admitted → State → After
+judged k (refused f) s = ends [] (departed_for k f s) (Refused f)
+judged k (admitted x) s = ends [] (accepted k x s) Taken
 
--- ---- a turn: a connection's batch is sent as one packet, its references as the client knows them
+abbrev pub packet_at : ℕ → Option PortsState → List TurnEvent → State → After
+packet_at k None es s = unchanged s Gone
+packet_at k (Some ports) es s = judged k (admission (actor_of k) ports s.world es) (nameless k s)
 
+-- ---- an end that its peer brings about
+
+abbrev pub bad_at : ℕ → Option PortsState → Fault → State → After
+bad_at k None f s = unchanged s Gone
+bad_at k (Some ports) f s = ends [] (failed k f s) (Refused f)
+
+abbrev pub close_at : ℕ → Option PortsState → State → After
+close_at k None s = unchanged s Gone
+close_at k (Some ports) s = ends [] (closed k s) Taken
+
+-- ---- a turn
+
+-- an event as the client is told of it, its references as the client knows them
 abbrev pub sent_event : ℕ → Told → TurnEvent
 sent_event a (told.Assert h entity v) = record { oid = entity; event = Assert (crossed_out a v) h }
 sent_event a (told.Retract h entity) = record { oid = entity; event = Retract h }
 sent_event a (told.Message entity v) = record { oid = entity; event = Message (crossed_out a v) }
 sent_event a (told.Sync entity peer) = record { oid = entity; event = Sync (crossed_out a (embedded peer)) }
 
-abbrev pub reply_of : ℕ → Turned → Reply
-reply_of a (turned.Ran spreads) = Ran
-reply_of a (turned.Taken b) = Sent (map (sent_event a) b.events)
-reply_of a turned.Idle = Idle
-reply_of a turned.Gone = Gone
+abbrev pub packet_to : ℕ → Batch → Reply
+packet_to a b = Sent (packet.Turn (map (sent_event a) b.events))
 
-abbrev pub after_turn : ℕ → TurnOf → State → After
-after_turn a t s = record { state = record { world = t.world; firsts = s.firsts }; reply = reply_of a t.turned }
+-- the fault of which a connection's peer is still to be told
+abbrev pub fault_for : ℕ → State → Option Fault
+fault_for a s = if nat_le 17 a then entry_of (a - 16) s.faults else None
+
+-- it is told once
+abbrev pub tell_fault : ℕ → Option Fault → State → After
+tell_fault a None s = unchanged s Gone
+tell_fault a (Some f) s = ends [] (record s { faults = without_entry (a - 16) s.faults }) (Sent (error_of f))
+
+-- what follows from what the world tells of a turn that is done in s
+abbrev pub after_turn : ℕ → Turned → State → After
+after_turn a (turned.Ran xs) s = ends xs s Ran
+after_turn a (turned.Taken b) s = ends [] s (packet_to a b)
+after_turn a turned.Idle s = unchanged s Idle
+after_turn a turned.Gone s = tell_fault a (fault_for a s) s
+
+abbrev pub turn_of : ℕ → State → After
+turn_of a s = after_turn a (turn a s.world).turned (record s { world = (turn a s.world).world })
+
+-- ---- work: the lowest of the system's actors takes a turn, where a batch waits for one
+
+abbrev pub rest : State → After
+rest s = if s.stopped then unchanged s Halted else unchanged s Idle
+
+abbrev pub work_by : Option ℕ → State → After
+work_by None s = rest s
+work_by (Some a) s = if is_system a then turn_of a s else rest s
 
 -- ---- steps
 
 -- the numbers are used up: handles, or for an arrival those of connections
 abbrev pub is_worn : State → Step → Bool
 is_worn s (Arrive space) = nat_le (2 ^ 62) s.world.table.next || nat_le (2 ^ 31) s.world.opened
-is_worn s (Packet k es) = nat_le (2 ^ 62) s.world.table.next
-is_worn s (Turn a) = nat_le (2 ^ 62) s.world.table.next
+is_worn s e = nat_le (2 ^ 62) s.world.table.next
 
 abbrev pub done : State → Step → After
-done s (Arrive space) = if nat_lt 8 space then unchanged s Barred else arrive s space
-done s (Packet k es) = packet k es s
-done s (Turn a) = after_turn a (turn a s.world) s
+done s (Arrive space) = arrive_unless (refusal space s) space s
+done s (Packet k es) = packet_at k (ports_of k s) es s
+done s (Bad k f) = bad_at k (ports_of k s) f s
+done s (Close k) = close_at k (ports_of k s) s
+done s (Turn a) = turn_of a s
+done s Work = work_by (lowest s.world.table) s
+done s Stop = ends [] (record s { stopped = true }) Taken
 
 abbrev pub step : State → Step → After
 step s e = if is_worn s e then unchanged s Worn else done s e
+
+-- What a caller sees to, until the gatekeeper is built and references cross in general.
+abbrev pub IsAllowed : State → Step → Type 0
+IsAllowed s (Arrive space) = space ≢ 0
+IsAllowed s (Packet k es) = is_plain es ≡ true
+IsAllowed s (Bad k f) = Unit {0}
+IsAllowed s (Close k) = Unit {0}
+IsAllowed s (Turn a) = foreign a s ≡ false
+IsAllowed s Work = Unit {0}
+IsAllowed s Stop = Unit {0}

@@ -1,23 +1,30 @@
--- What the server's state is: the world, and for each connection the dataspace that is its object 0.
-use Rattle.std.specs.Prelude.{ℕ, List, [], Option, None, is_some, Bool, if◌then◌else◌}
-use Rattle.ac_table.specs.Tables.{is_live}
-use Rattle.ac_world.specs.Worlds.{WorldState, beginning, entry_of}
-use Rattle.ac_world.specs.Worlds.{actor_of}
-pub use Rattle.hub_core.specs.declared.packets.Event.{Event}
-pub use Rattle.hub_core.specs.declared.packets.Event.TheVariants.{Assert, Retract, Message, Sync}
-pub use Rattle.hub_core.specs.declared.packets.TurnEvent.{TurnEvent}
+-- What the server's state is: the world, what each live connection names by numbers of its own, the faults of which
+-- connections are still to be told, and whether the server is to stop.
+use Rattle.std.specs.Prelude.{ℕ, List, [], Bool, false, ◌&&◌, nat_le, Option, None, is_some, if◌then◌else◌}
+use Rattle.ac_table.specs.Tables.{is_live, first_batch}
+use Rattle.ac_world.specs.Worlds.{WorldState, beginning, entry_of, actor_of}
+use Rattle.hub_core.specs.Faults.{Fault}
+use Rattle.hub_core.specs.Plainness.{batch_tells_of_other}
+use Rattle.hub_core.specs.Ports.{PortsState}
 
+-- both lists are by the numbers of connections, which count from 1
 pub record State : Type 0 where
   pub world : WorldState
-  pub firsts : List (ℕ × ℕ)
+  pub connections : List (ℕ × PortsState)
+  pub faults : List (ℕ × Fault)
+  pub stopped : Bool
 
 abbrev pub opening : State
-opening = record { world = beginning; firsts = [] }
+opening = record { world = beginning; connections = []; faults = []; stopped = false }
 
--- the dataspace that is a live connection's object 0
-abbrev pub first_of : ℕ → State → Option ℕ
-first_of k s = if is_live (actor_of k) s.world.table then entry_of k s.firsts else None
+-- what a live connection names
+abbrev pub ports_of : ℕ → State → Option PortsState
+ports_of k s = if is_live (actor_of k) s.world.table then entry_of k s.connections else None
 
 -- whether a connection is there
 abbrev pub is_there : ℕ → State → Bool
-is_there k s = is_some (first_of k s)
+is_there k s = is_some (ports_of k s)
+
+-- whether the next turn of a connection would tell it of another's object
+abbrev pub foreign : ℕ → State → Bool
+foreign a s = nat_le 17 a && batch_tells_of_other a (first_batch a s.world.table)

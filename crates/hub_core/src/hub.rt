@@ -1,60 +1,38 @@
 //! The hub: the state of the server and its steps.
-ghost use Rattle.std.specs.Prelude.{◌≡◌, ◌<◌, ◌-◌, ◌^◌, ◌++◌, min, map, IfOk, OnOk, option_map};
-ghost use Rattle.std.specs.List.{flat_map};
+ghost use Rattle.std.specs.Prelude.{◌≡◌, ◌≤◌, ◌<◌, ◌-◌, ◌+◌, ◌^◌, min, true, [], IfOk, IfSome};
+ghost use Rattle.std.specs.Prelude.{option_map, option_copied};
 ghost use Rattle.ac_world.specs.Worlds.{actor_of};
-ghost use Rattle.hub_core.specs.State.{opening, first_of, is_there};
-ghost use Rattle.hub_core.specs.Machine.{step as step_of, is_worn, arrive, packet as packet_of};
-ghost use Rattle.ac_world.specs.Turns.{turn};
-ghost use Rattle.hub_core.specs.Machine.{acts_of, all_acts, sent_event, reply_of, after_turn};
-ghost use Rattle.hub_core.specs.Replays.{pending, lowest};
+ghost use Rattle.hub_core.specs.declared.steps.Reply.TheVariants as reply;
+ghost use Rattle.hub_core.specs.State.{opening, ports_of, is_there, foreign};
+ghost use Rattle.hub_core.specs.Endings.{finished};
+ghost use Rattle.hub_core.specs.Machine.{step as step_of, is_worn, refusal, arrive_unless, opened};
+ghost use Rattle.hub_core.specs.Machine.{IsAllowed};
+ghost use Rattle.hub_core.specs.Completeness.{IsComplete};
+ghost use Rattle.hub_core.specs.Replays.{pending, lowest, first_failed, least};
 
-use crate::crossing::crossed;
-use crate::packets::{Event, Turn, TurnEvent};
-use ac_table::{BatchEvents, Event as Told};
-use ac_world::{Act, Turned, World};
+use crate::faults::Fault;
+use crate::limits::{CONNECTIONS, DATASPACES, WORN_CONNECTIONS, WORN_HANDLE};
+use crate::plainness::batch_tells_of_other;
+use crate::ports::Ports;
+use crate::steps::{Reply, Step};
+use ac_world::World;
 use ds_space::Space;
-use pv_value::{NoMemory, Value};
+use pv_value::NoMemory;
 use std::alloc::Global;
 use std::collections::BTreeMap;
 use std::marker::Model;
 
-/// What can happen to the server.
-#[derive(Drop)]
-pub enum Step {
-    /// A connection comes, whose object 0 is the dataspace of this number.
-    Arrive(u8),
-    /// A connection sends a turn.
-    Packet(u32, Turn),
-    /// An actor takes the first batch of its inbox.
-    Turn(u32),
-}
+/// The actors from this one on are connections, 17 being connection 1.
+pub(crate) const FIRST_CONNECTION: u32 = 17;
 
-/// What the server answers to a step. Where two fit, the first of this list comes.
-#[derive(Drop)]
-pub enum Reply {
-    /// The numbers of handles or of connections are used up. Nothing changes.
-    Worn,
-    /// There is no such dataspace. Nothing changes.
-    Barred,
-    /// The connection's number, from 1.
-    Opened(u32),
-    /// There is no such actor. Nothing changes.
-    Gone,
-    /// The actor's inbox is empty. Nothing changes.
-    Idle,
-    /// A connection's turn: the packet that it gets.
-    Sent(Turn),
-    /// A system actor's turn is done.
-    Ran,
-    /// The packet is done.
-    Taken,
-}
-
-/// The state of the server: its world, and each connection's object 0.
+/// The state of the server: its world, what each live connection names, and the faults of which
+/// connections are still to be told.
 #[derive(Drop)]
 pub struct Hub<S: Space + Drop> {
-    world: World<S>,
-    firsts: BTreeMap<u32, u32>,
+    pub(crate) world: World<S>,
+    pub(crate) connections: BTreeMap<u32, Ports>,
+    pub(crate) faults: BTreeMap<u32, Fault>,
+    pub(crate) stopped: bool,
 }
 
 impl<S: Space + Drop> Model for Hub<S> {
@@ -68,79 +46,24 @@ impl<S: Space + Drop> Model for Hub<S> {
 
     ghost coded = { Prim.hlevel (codes, plain_code) };
 
-    ghost view = { λ h. record { world = h.world; firsts = h.firsts.entries } };
+    ghost view = { λ h. record {
+      world = h.world;
+      connections = h.connections.entries;
+      faults = h.faults.entries;
+      stopped = h.stopped;
+    } };
 
-    ghost invariant = { λ h. AllByRecursion (λ e. e.0 ≤ 2 ^ 31) h.firsts.entries };
+    ghost invariant = { λ h. AllByRecursion (λ e. e.0 ≤ 2 ^ 31) h.connections.entries
+        × AllByRecursion (λ e. e.0 ≤ 2 ^ 31) h.faults.entries };
 }
 
-/// What an event of a packet does: an assertion makes a row at the connection's object 0.
-fn push_act(
-    alloc: Global,
-    acts: &mut Vec<Act>,
-    actor: u32,
-    space: u32,
-    event: &Event,
-) -> Result<(), NoMemory>
-    ensures { OnOk result (acts.new.items ≡ acts.old.items ++ acts_of actor space event.now) }
+/// The lesser of the numbers that are there.
+fn least(first: Option<u32>, second: Option<u32>) -> Option<u32>
+    ensures { result ≡ least first second }
 {
-    if let Event::Assert(value, _) = event {
-        acts.push(Act::Assert(space, 0, crossed(alloc, 0, actor, value)?))?;
-    }
-    Ok(())
-}
-
-/// What the events of a packet do.
-fn acts(alloc: Global, actor: u32, space: u32, events: &[TurnEvent]) -> Result<Vec<Act>, NoMemory>
-    ensures { IfOk result (λ acts. acts.items ≡ all_acts actor space events.now) }
-{
-    let mut acts = Vec::new(alloc);
-    for event in events {
-        push_act(alloc, &mut acts, actor, space, &event.event)?;
-    }
-    Ok(acts)
-}
-
-/// An event as the client is told of it.
-fn to_send(alloc: Global, actor: u32, told: Told) -> Result<TurnEvent, NoMemory>
-    ensures { IfOk result (λ e. e ≡ sent_event actor told) }
-{
-    let (oid, event) = match told {
-        Told::Assert(handle, oid, value) => {
-            (
-                oid,
-                Event::Assert(crossed(alloc, actor, 1, &value)?, handle),
-            )
-        }
-        Told::Retract(handle, oid) => (oid, Event::Retract(handle)),
-        Told::Message(oid, value) => (oid, Event::Message(crossed(alloc, actor, 1, &value)?)),
-        Told::Sync(oid, peer) => {
-            let peer = Value::embedded(alloc, peer)?;
-            (oid, Event::Sync(crossed(alloc, actor, 1, &peer)?))
-        }
-    };
-    Ok(TurnEvent { oid, event })
-}
-
-/// The packet that tells a client of these events.
-fn packet_to(alloc: Global, actor: u32, events: BatchEvents) -> Result<Turn, NoMemory>
-    ensures { IfOk result (λ es. es ≡ map (sent_event actor) events) }
-{
-    let mut sent = Vec::new(alloc);
-    for told in events.into_vec() {
-        sent.push(to_send(alloc, actor, told)?)?;
-    }
-    Ok(Turn::from_vec(sent))
-}
-
-/// What is answered to a turn of the world's.
-fn answer(alloc: Global, actor: u32, turned: Turned) -> Result<Reply, NoMemory>
-    ensures { IfOk result (λ r. r ≡ reply_of actor turned) }
-{
-    match turned {
-        Turned::Ran(_) => Ok(Reply::Ran),
-        Turned::Taken(batch) => Ok(Reply::Sent(packet_to(alloc, actor, batch.events)?)),
-        Turned::Idle => Ok(Reply::Idle),
-        Turned::Gone => Ok(Reply::Gone),
+    match (first, second) {
+        (Some(m), Some(n)) => Some(m.min(n)),
+        (first, second) => first.or(second),
     }
 }
 
@@ -151,43 +74,55 @@ impl<S: Space + Drop> Hub<S> {
     {
         Ok(Hub {
             world: World::begin(alloc)?,
-            firsts: BTreeMap::new(alloc),
+            connections: BTreeMap::new(alloc),
+            faults: BTreeMap::new(alloc),
+            stopped: false,
         })
     }
 
-    /// How many batches wait, at most the greatest u64.
+    /// How many batches wait and how many faults are to be told, at most the greatest u64.
     pub fn pending(&self) -> u64
         ensures { result ≡ min (pending self.now) (2 ^ 64 - 1) }
     {
-        self.world.batches()
+        self.world
+            .batches()
+            .saturating_add(self.faults.len() as u64)
     }
 
-    /// The lowest actor for which a batch waits.
+    /// The first actor that is a connection of which a fault is to be told.
+    fn first_failed(&self) -> Option<u32>
+        ensures { result ≡ option_map actor_of (first_failed self.now) }
+    {
+        let (connection, _) = self.faults.first_key_value()?;
+        Some(16 + *connection)
+    }
+
+    /// The lowest actor that has work: a batch waits for it, or it is to be told of a fault.
     pub fn lowest(&self) -> Option<u32>
         ensures { result ≡ lowest self.now }
     {
-        self.world.lowest()
+        least(self.world.lowest(), self.first_failed())
     }
 
-    /// A live connection's actor, and the dataspace that is its object 0.
-    fn first_of(&self, connection: u32) -> Option<(u32, u32)>
-        ensures { result
-            ≡ option_map (λ space. (actor_of connection, space)) (first_of connection self.now) }
+    /// What a live connection names.
+    pub(crate) fn ports(&self, connection: u32) -> Option<&Ports>
+        ensures ports { option_copied result ≡ ports_of connection self.now }
+        ensures small { IfSome result (λ ports. connection ≤ 2 ^ 31) }
     {
-        let space = *self.firsts.get(&connection)?;
-        let actor = 16 + connection;
-        if self.world.live(actor) {
-            Some((actor, space))
+        let ports = self.connections.get(&connection)?;
+        if self.world.live(16 + connection) {
+            Some(ports)
         } else {
             None
         }
     }
 
-    /// Whether a connection is there.
+    /// Whether a connection is there. Its number is small then.
     pub fn live(&self, connection: u32) -> bool
-        ensures { result ≡ is_there connection self.now }
+        ensures there { result ≡ is_there connection self.now }
+        ensures small { result ≡ true → connection ≤ 2 ^ 31 }
     {
-        self.first_of(connection).is_some()
+        self.ports(connection).is_some()
     }
 
     /// How many connections have come.
@@ -197,59 +132,94 @@ impl<S: Space + Drop> Hub<S> {
         self.world.opened()
     }
 
+    /// Whether the actor is a live connection whose first batch tells it of another's object.
+    pub fn foreign(&self, actor: u32) -> bool
+        ensures { result ≡ foreign actor self.now }
+    {
+        match self.world.first(actor) {
+            Some(batch) => actor >= FIRST_CONNECTION && batch_tells_of_other(actor, batch),
+            None => false,
+        }
+    }
+
     /// Whether the numbers for this step are used up.
     fn is_worn(&self, event: &Step) -> bool
         ensures { result ≡ is_worn self.now event.now }
     {
-        let worn = self.world.next_handle() >= 1 << 62;
+        let worn = self.world.next_handle() >= WORN_HANDLE;
         match event {
-            Step::Arrive(_) => worn || self.world.opened() >= 1 << 31,
-            Step::Packet(_, _) => worn,
-            Step::Turn(_) => worn,
+            Step::Arrive(_) => worn || self.world.opened() >= WORN_CONNECTIONS,
+            _ => worn,
         }
     }
 
     /// A connection comes.
-    fn arrive(self, space: u8) -> Result<(Hub<S>, Reply), NoMemory>
+    fn open(self, alloc: Global, space: u8) -> Result<(Hub<S>, u32), NoMemory>
         requires { self.world.opened < 2 ^ 31 }
-        ensures state { IfOk result (λ done. done.0 ≡ (arrive self space).state) }
-        ensures reply { IfOk result (λ done. done.1 ≡ (arrive self space).reply) }
+        ensures state { IfOk result (λ done. done.0 ≡ opened space self) }
+        ensures number { IfOk result (λ done. done.1 ≡ self.world.opened + 1) }
     {
-        let Hub { world, mut firsts } = self;
-        let (world, opened) = world.arrive()?;
-        firsts.insert(opened, u32::from(space))?;
-        Ok((Hub { world, firsts }, Reply::Opened(opened)))
-    }
-
-    /// A connection's packet.
-    fn packet(self, alloc: Global, connection: u32, turn: Turn) -> Result<(Hub<S>, Reply), NoMemory>
-        ensures state { IfOk result (λ done. done.0 ≡ (packet_of connection turn self).state) }
-        ensures reply { IfOk result (λ done. done.1 ≡ (packet_of connection turn self).reply) }
-    {
-        let Some((actor, space)) = self.first_of(connection) else {
-            return Ok((self, Reply::Gone));
+        let Hub {
+            world,
+            mut connections,
+            faults,
+            stopped,
+        } = self;
+        let (world, number) = world.arrive()?;
+        connections.insert(number, Ports::new(alloc, u32::from(space)))?;
+        let hub = Hub {
+            world,
+            connections,
+            faults,
+            stopped,
         };
-        let acts = acts(alloc, actor, space, turn.as_slice())?;
-        let Hub { world, firsts } = self;
-        let world = world.send(alloc, actor, acts)?;
-        Ok((Hub { world, firsts }, Reply::Taken))
+        Ok((hub, number))
     }
 
-    /// An actor's turn.
-    fn turn(self, alloc: Global, actor: u32) -> Result<(Hub<S>, Reply), NoMemory>
-        ensures state { IfOk result
-            (λ done. done.0 ≡ (after_turn actor (turn actor self.world) self).state) }
-        ensures reply { IfOk result
-            (λ done. done.1 ≡ (after_turn actor (turn actor self.world) self).reply) }
+    /// Why no connection comes to a dataspace.
+    fn refusal(&self, space: u8) -> Option<Reply>
+        ensures { result ≡ refusal space self.now }
     {
-        let Hub { world, firsts } = self;
-        let (world, turned) = world.turn(alloc, actor)?;
-        let reply = answer(alloc, actor, turned)?;
-        Ok((Hub { world, firsts }, reply))
+        if space > DATASPACES {
+            Some(Reply::Barred)
+        } else if self.stopped {
+            Some(Reply::Halted)
+        } else if self.connections.len() >= CONNECTIONS {
+            Some(Reply::Full)
+        } else {
+            None
+        }
     }
 
-    /// The state after a step, and what is answered to it. For want of memory the state is gone.
-    pub fn step(self, alloc: Global, event: Step) -> Result<(Hub<S>, Reply), NoMemory>
+    /// A connection comes, where it may.
+    fn arrive(self, alloc: Global, space: u8) -> Result<(Hub<S>, Reply), NoMemory>
+        requires { self.world.opened < 2 ^ 31 }
+        ensures state { IfOk result
+            (λ done. done.0 ≡ (arrive_unless (refusal space self) space self).state) }
+        ensures reply { IfOk result
+            (λ done. done.1 ≡ (arrive_unless (refusal space self) space self).reply) }
+    {
+        match self.refusal(space) {
+            Some(reply) => Ok((self, reply)),
+            None => {
+                let (hub, number) = self.open(alloc, space)?;
+                hub.ends(alloc, &[], Reply::Opened(number))
+            }
+        }
+    }
+
+    /// No connection is to come any more.
+    fn stop(mut self, alloc: Global) -> Result<(Hub<S>, Reply), NoMemory>
+        ensures state { IfOk result
+            (λ done. done.0 ≡ finished [] (record self { stopped = true })) }
+        ensures reply { IfOk result (λ done. done.1 ≡ reply.Taken) }
+    {
+        self.stopped = true;
+        self.ends(alloc, &[], Reply::Taken)
+    }
+
+    /// A step that may be done.
+    fn machine_step(self, alloc: Global, event: Step) -> Result<(Hub<S>, Reply), NoMemory>
         ensures state { IfOk result (λ done. done.0 ≡ (step_of self event).state) }
         ensures reply { IfOk result (λ done. done.1 ≡ (step_of self event).reply) }
     {
@@ -257,10 +227,23 @@ impl<S: Space + Drop> Hub<S> {
             return Ok((self, Reply::Worn));
         }
         match event {
-            Step::Arrive(space) if space > 8 => Ok((self, Reply::Barred)),
-            Step::Arrive(space) => self.arrive(space),
-            Step::Packet(connection, turn) => self.packet(alloc, connection, turn),
+            Step::Arrive(space) => self.arrive(alloc, space),
+            Step::Packet(connection, turn) => self.packet(alloc, connection, &turn),
+            Step::Bad(connection, fault) => self.bad(alloc, connection, fault),
+            Step::Close(connection) => self.leave(alloc, connection),
             Step::Turn(actor) => self.turn(alloc, actor),
+            Step::Work => self.work(alloc),
+            Step::Stop => self.stop(alloc),
         }
+    }
+
+    /// The state after a step, and what is answered to it. For want of memory the state is gone.
+    pub fn step(self, alloc: Global, event: Step) -> Result<(Hub<S>, Reply), NoMemory>
+        requires { IsAllowed self event }
+        ensures state { IfOk result (λ done. done.0 ≡ (step_of self event).state) }
+        ensures reply { IfOk result (λ done. done.1 ≡ (step_of self event).reply) }
+        ensures complete { IfOk result (λ done. IsComplete self event done.1) }
+    {
+        self.machine_step(alloc, event)
     }
 }

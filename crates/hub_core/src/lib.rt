@@ -5,16 +5,29 @@
 //! machine of `specs/Machine.antt`, over any body of [`ds_space::Space`].
 #![tactic(auto)]
 
+mod admitting;
 mod crossing;
-mod holding;
+mod endings;
+mod faults;
 mod hub;
 mod laws;
+mod limits;
 mod packets;
+mod plainness;
+mod ports;
+mod steps;
+mod telling;
+mod turns;
 
-pub use holding::{Holding, held};
-pub use hub::{Hub, Reply, Step};
-pub use laws::refusals_change_nothing;
-pub use packets::{Event, Turn, TurnEvent, turn_value};
-
-/// How deep a value may nest that is asserted.
-pub const VALUE_DEPTH: u32 = 48;
+pub use faults::Fault;
+pub use hub::Hub;
+pub use laws::{
+    refusals_change_nothing, refused_packets_have_their_cause, refused_packets_leave_nothing,
+};
+pub use limits::{
+    BACKLOG, BACKLOG_WEIGHT, CONNECTIONS, DATASPACES, DELIVERIES, DELIVERIES_WEIGHT, HANDLES,
+    PACKET_BYTES, ROWS_WEIGHT, TURN_EVENTS, VALUE_DEPTH, VALUE_WEIGHT, WANTED_WEIGHT,
+};
+pub use plainness::{has_embedded, is_own_observation, is_own_reference, plain};
+pub use ports::Inbound;
+pub use steps::{Reply, Step};

@@ -1,175 +1,159 @@
-//! Turns: the packets that connections send and get.
-ghost use Rattle.std.specs.Prelude.{◌≡◌, [], ◌∷◌, ◌++◌, length, map, IfOk, OnOk, OnErr};
-ghost use Rattle.hub_core.specs.Packets.{event_value, aimed_value, turn_value};
-ghost use Rattle.std.specs.Prelude.{◌==◌};
+//! What connections send: packets, what is none, and their going.
+ghost use Rattle.std.specs.Prelude.{◌≡◌, ◌≤◌, ◌<◌, ◌^◌, true, IfOk, IfSome, is_some, if◌then◌else◌};
+ghost use Rattle.ac_table.specs.Tables.{is_live};
+ghost use Rattle.ac_world.specs.Worlds.{actor_of};
+ghost use Rattle.hub_core.specs.State.{ports_of};
+ghost use Rattle.hub_core.specs.Admission.{admission, outcome};
+ghost use Rattle.hub_core.specs.Endings.{nameless};
+ghost use Rattle.hub_core.specs.Machine.{judged, accepted, packet_at, bad_at, close_at};
 
-use dp_pattern::{labelled, number};
-use pv_value::{Items, NoMemory, Value};
+use crate::admitting::Admitting;
+use crate::faults::{Fault, over};
+use crate::hub::Hub;
+use crate::limits::TURN_EVENTS;
+use crate::ports::Ports;
+use crate::steps::Reply;
+use ds_space::Space;
+use pv_value::NoMemory;
+use rl_packet::Turn;
 use std::alloc::Global;
-use std::marker::Model;
 
-/// What happens at an object.
-#[derive(Drop)]
-pub enum Event {
-    /// A value is asserted under a handle.
-    Assert(Value, u64),
-    /// The assertion under a handle is taken back.
-    Retract(u64),
-    /// A value is said.
-    Message(Value),
-    /// A peer, an embedded value, asks for an answer.
-    Sync(Value),
-}
-
-/// An event, and the object at which it is aimed: on the wire an oid, inside the server an entity.
-#[derive(Drop)]
-pub struct TurnEvent {
-    pub oid: u64,
-    pub event: Event,
-}
-
-/// A list of events that happen together.
-#[derive(Drop)]
-pub struct Turn {
-    events: Vec<TurnEvent>,
-}
-
-impl Model for Turn {
-    ghost use Rattle.std.specs.Prelude.{List};
-    ghost use Rattle.hub_core.specs.declared.packets.TurnEvent.{TurnEvent};
-    ghost use Rattle.std.specs.Coded.{codes};
-    ghost use Rattle.pv_value.specs.Lemmas.Coded.{plain_code};
-
-    ghost Value = { List TurnEvent };
-
-    ghost coded = { Prim.hlevel (codes, plain_code) };
-
-    ghost view = { λ t. t.events.items };
-}
-
-impl Event {
-    /// An equal event.
-    pub fn copy(&self) -> Result<Event, NoMemory>
-        ensures { IfOk result (λ e. e ≡ self.now) }
+impl<S: Space + Drop> Hub<S> {
+    /// A live connection's names, which are taken out of the state.
+    fn take_ports(&mut self, connection: u32) -> Option<Ports>
+        ensures ports { result ≡ ports_of connection self.old }
+        ensures state { self.new
+            ≡ (if is_some result then nameless connection self.old else self.old) }
+        ensures small { IfSome result (λ ports. connection ≤ 2 ^ 31) }
     {
-        match self {
-            Event::Assert(value, handle) => Ok(Event::Assert(value.copy()?, *handle)),
-            Event::Retract(handle) => Ok(Event::Retract(*handle)),
-            Event::Message(value) => Ok(Event::Message(value.copy()?)),
-            Event::Sync(peer) => Ok(Event::Sync(peer.copy()?)),
+        if !self.live(connection) {
+            return None;
         }
+        self.connections.remove(&connection)
     }
-}
 
-impl TurnEvent {
-    /// An equal event, aimed at the same object.
-    pub fn copy(&self) -> Result<TurnEvent, NoMemory>
-        ensures { IfOk result (λ e. e ≡ self.now) }
+    /// What the events of a packet do, or why one of them is refused.
+    fn admission(
+        &self,
+        alloc: Global,
+        actor: u32,
+        ports: Ports,
+        turn: &Turn,
+    ) -> Result<(Option<Fault>, Admitting), NoMemory>
+        requires { self.now.world.table.next < 2 ^ 62 }
+        ensures { IfOk result (λ x. outcome x.0 x.1
+            ≡ admission actor ports self.now.world turn.now) }
     {
-        let event = self.event.copy()?;
-        Ok(TurnEvent {
-            oid: self.oid,
-            event,
+        let mut admitting = Admitting::new(alloc, actor, ports, &self.world);
+        if let Some(fault) = over(TURN_EVENTS, 3, turn.len() as u64) {
+            return Ok((Some(fault), admitting));
+        }
+        let cause = admitting.admit_all(alloc, actor, turn.as_slice(), &self.world)?;
+        Ok((cause, admitting))
+    }
+
+    /// What a packet does is done, and its connection names what it leaves.
+    fn accept(
+        self,
+        alloc: Global,
+        connection: u32,
+        admitting: Admitting,
+    ) -> Result<Hub<S>, NoMemory>
+        requires live { is_live (actor_of connection) self.world.table ≡ true }
+        requires small { connection ≤ 2 ^ 31 }
+        ensures { IfOk result (λ h. h ≡ accepted connection admitting self) }
+    {
+        let Hub {
+            world,
+            mut connections,
+            faults,
+            stopped,
+        } = self;
+        let (acts, ports) = admitting.into_parts();
+        connections.insert(connection, ports)?;
+        let world = world.send(alloc, 16 + connection, acts)?;
+        Ok(Hub {
+            world,
+            connections,
+            faults,
+            stopped,
         })
     }
-}
 
-impl Turn {
-    /// No events.
-    pub fn new(alloc: Global) -> Turn
-        ensures { result ≡ [] }
+    /// A packet of a connection whose names were taken out of the state.
+    fn judge(
+        self,
+        alloc: Global,
+        connection: u32,
+        ports: Ports,
+        turn: &Turn,
+    ) -> Result<(Hub<S>, Reply), NoMemory>
+        requires live { is_live (actor_of connection) self.world.table ≡ true }
+        requires small { connection ≤ 2 ^ 31 }
+        requires next { self.world.table.next < 2 ^ 62 }
+        ensures state { IfOk result (λ done. done.0 ≡ (judged connection
+            (admission (actor_of connection) ports self.world turn.now) self).state) }
+        ensures reply { IfOk result (λ done. done.1 ≡ (judged connection
+            (admission (actor_of connection) ports self.world turn.now) self).reply) }
     {
-        Turn {
-            events: Vec::new(alloc),
+        let (cause, admitting) = self.admission(alloc, 16 + connection, ports, turn)?;
+        if let Some(fault) = cause {
+            let hub = self.end_for(alloc, connection, fault)?;
+            return hub.ends(alloc, &[], Reply::Refused(fault));
+        }
+        let hub = self.accept(alloc, connection, admitting)?;
+        hub.ends(alloc, &[], Reply::Taken)
+    }
+
+    /// A connection's packet.
+    pub(crate) fn packet(
+        mut self,
+        alloc: Global,
+        connection: u32,
+        turn: &Turn,
+    ) -> Result<(Hub<S>, Reply), NoMemory>
+        requires { self.world.table.next < 2 ^ 62 }
+        ensures state { IfOk result (λ done. done.0
+            ≡ (packet_at connection (ports_of connection self) turn.now self).state) }
+        ensures reply { IfOk result (λ done. done.1
+            ≡ (packet_at connection (ports_of connection self) turn.now self).reply) }
+    {
+        match self.take_ports(connection) {
+            Some(ports) => self.judge(alloc, connection, ports, turn),
+            None => Ok((self, Reply::Gone)),
         }
     }
 
-    pub fn from_vec(events: Vec<TurnEvent>) -> Turn
-        ensures { result ≡ events.items }
+    /// What a connection sent is no packet.
+    pub(crate) fn bad(
+        self,
+        alloc: Global,
+        connection: u32,
+        fault: Fault,
+    ) -> Result<(Hub<S>, Reply), NoMemory>
+        ensures state { IfOk result (λ done. done.0
+            ≡ (bad_at connection (ports_of connection self) fault self).state) }
+        ensures reply { IfOk result (λ done. done.1
+            ≡ (bad_at connection (ports_of connection self) fault self).reply) }
     {
-        Turn { events }
-    }
-
-    pub fn into_vec(self) -> Vec<TurnEvent>
-        ensures { result.items ≡ self }
-    {
-        let Turn { events } = self;
-        events
-    }
-
-    pub fn as_slice(&self) -> &[TurnEvent]
-        ensures { result.now ≡ self.now }
-    {
-        &self.events
-    }
-
-    /// How many events there are.
-    pub fn len(&self) -> usize
-        ensures { result ≡ length self.now }
-    {
-        self.events.len()
-    }
-
-    pub fn is_empty(&self) -> bool
-        ensures { result ≡ (length self.now == 0) }
-    {
-        self.events.is_empty()
-    }
-
-    /// Equal events.
-    pub fn copy(&self, alloc: Global) -> Result<Turn, NoMemory>
-        ensures { IfOk result (λ t. t ≡ self.now) }
-    {
-        let mut events = Vec::new(alloc);
-        for event in self.as_slice() {
-            events.push(event.copy()?)?;
+        if self.ports(connection).is_none() {
+            return Ok((self, Reply::Gone));
         }
-        Ok(Turn { events })
+        let hub = self.fail(alloc, connection, fault)?;
+        hub.ends(alloc, &[], Reply::Refused(fault))
     }
-}
 
-/// The turn as a value: a sequence of events `[oid <A assertion handle>]`, `[oid <R handle>]`,
-/// `[oid <M body>]` and `[oid <S #:peer>]`.
-pub fn turn_value(alloc: Global, turn: &Turn) -> Result<Value, NoMemory>
-    ensures { IfOk result (λ v. v ≡ turn_value turn.now) }
-{
-    let mut items = Vec::new(alloc);
-    for event in turn.as_slice() {
-        items.push(aimed_value(alloc, event)?)?;
-    }
-    Ok(Value::sequence(Items::from_vec(alloc, items)?))
-}
-
-fn aimed_value(alloc: Global, event: &TurnEvent) -> Result<Value, NoMemory>
-    ensures { IfOk result (λ v. v ≡ aimed_value event.now) }
-{
-    let mut items = Vec::new(alloc);
-    items.push(number(event.oid))?;
-    items.push(event_value(alloc, &event.event)?)?;
-    Ok(Value::sequence(Items::from_vec(alloc, items)?))
-}
-
-fn event_value(alloc: Global, event: &Event) -> Result<Value, NoMemory>
-    ensures { IfOk result (λ v. v ≡ event_value event.now) }
-{
-    let mut fields = Vec::new(alloc);
-    match event {
-        Event::Assert(value, handle) => {
-            fields.push(value.copy()?)?;
-            fields.push(number(*handle))?;
-            labelled(alloc, "A", fields)
+    /// A connection goes.
+    pub(crate) fn leave(self, alloc: Global, connection: u32) -> Result<(Hub<S>, Reply), NoMemory>
+        ensures state { IfOk result (λ done. done.0
+            ≡ (close_at connection (ports_of connection self) self).state) }
+        ensures reply { IfOk result (λ done. done.1
+            ≡ (close_at connection (ports_of connection self) self).reply) }
+    {
+        if self.ports(connection).is_none() {
+            return Ok((self, Reply::Gone));
         }
-        Event::Retract(handle) => {
-            fields.push(number(*handle))?;
-            labelled(alloc, "R", fields)
-        }
-        Event::Message(value) => {
-            fields.push(value.copy()?)?;
-            labelled(alloc, "M", fields)
-        }
-        Event::Sync(peer) => {
-            fields.push(peer.copy()?)?;
-            labelled(alloc, "S", fields)
-        }
+        let hub = self.close(alloc, connection)?;
+        hub.ends(alloc, &[], Reply::Taken)
     }
 }

@@ -17,10 +17,10 @@ use Rattle.pv_binary.specs.Reads.{BeginsWith}
 use Rattle.pv_binary.specs.Spells.{Spells}
 use Rattle.pv_binary.specs.Lemmas.Begins.{IsUnique}
 use Rattle.dp_pattern.specs.Words.{labelled, number}
-use Rattle.hub_core.specs.Packets.{event_value, aimed_value, turn_value}
-use Rattle.hub_core.specs.declared.packets.Event.{Event}
-use Rattle.hub_core.specs.declared.packets.Event.TheVariants.{Assert, Retract, Message, Sync}
-use Rattle.hub_core.specs.declared.packets.TurnEvent.{TurnEvent}
+use Rattle.rl_packet.specs.Packets.{event_value, aimed_value, turn_value}
+use Rattle.rl_packet.specs.declared.packets.Event.{Event}
+use Rattle.rl_packet.specs.declared.packets.Event.TheVariants.{Assert, Retract, Message, Sync}
+use Rattle.rl_packet.specs.declared.packets.TurnEvent.{TurnEvent}
 use Rattle.sc_script.specs.FirstPath.{is_simple, IsSimpleEvent, IsSimpleTurn}
 use Rattle.sc_script.specs.Events.{Before, handles_of, are_new, Writes, MayStand, IsEvent, IsNoEvent}
 use Rattle.sc_script.specs.declared.events.ScriptEvent.{ScriptEvent}

@@ -7,16 +7,10 @@ use Rattle.pv_value.specs.Plain.{Plain, integer, sequence, plains, listed}
 use Rattle.pv_value.specs.Depth.{depth}
 use Rattle.pv_value.specs.Lemmas.Listed.{listed-plains}
 use Rattle.dp_pattern.specs.Words.{is_word, labelled, number, number_in}
-use Rattle.hub_core.specs.Packets.{event_value, aimed_value}
-use Rattle.sc_script.specs.FirstPath.{is_own_observation, is_simple, IsSimpleTurn, IsEventOf, IsAssertionOf}
-use Rattle.hub_core.specs.declared.packets.Event.TheVariants.{Assert, Retract, Message, Sync}
-use Rattle.hub_core.specs.declared.packets.TurnEvent.{TurnEvent}
-
-pub not_observation : (s : List ℕ) (fs : List Plain) → (length fs ≡ 2 → ⊥) → false ≡ is_own_observation (labelled s fs)
-not_observation s [] h = refl
-not_observation s (x ∷ []) h = refl
-not_observation s (x ∷ y ∷ []) h = absurd (h (omega arith))
-not_observation s (x ∷ y ∷ z ∷ zs) h = refl
+use Rattle.rl_packet.specs.Packets.{event_value, aimed_value}
+use Rattle.sc_script.specs.FirstPath.{is_simple, IsSimpleTurn, IsEventOf, IsAssertionOf}
+use Rattle.rl_packet.specs.declared.packets.Event.TheVariants.{Assert, Retract, Message, Sync}
+use Rattle.rl_packet.specs.declared.packets.TurnEvent.{TurnEvent}
 
 -- two lists that are one as data
 pub same_list : (xs ys : List Plain) → plains xs ≡ plains ys → xs ≡ ys

@@ -1,10 +1,11 @@
+pub mod Courses
 pub mod Deciding
-pub mod Drained
+pub mod Faults
 pub mod FirstTurns
 pub mod Handles
-pub mod Opened
 pub mod Readings
 pub mod Replays
+pub mod Sending
 pub mod Standing
 pub mod TextVerdicts
 pub mod Turns

@@ -1,7 +1,6 @@
 -- Values that are events, each where it stands: one more value, and the first that is none.
 use Rattle.std.proofs.Common.{◌≡◌, ℕ, suc, ◌+◌, ◌<◌, List, [], ◌∷◌, ◌++◌, length, drop, take, get_or, refl, sym, ap}
-use Rattle.std.proofs.Common.{◌∙◌, subst, Result, Ok, Err, IfErr, drop-cons}
-use Rattle.std.specs.Result.{IsErrAnd}
+use Rattle.std.proofs.Common.{◌∙◌, subst, drop-cons}
 use Rattle.std.proofs.lemmas.List.{take_more, take-append-drop}
 use Rattle.pv_value.specs.Plain.{Plain}
 use Rattle.sc_script.specs.declared.events.ScriptEvent.{ScriptEvent}
@@ -54,8 +53,3 @@ other_found vs i es d v n (fault.NotBuilt m) lt at l place h = record {
   fit = l;
   other = h.1;
 }
-
-pub other_err : {T : Type 0} (vs : List Plain) (r : Result T ScriptFault) (f : ScriptFault) → IsErrAnd r (λ x. x ≡ f)
-    → IsOtherOf vs f → IfErr r (IsOtherOf vs)
-other_err vs (Ok t) f is h = tt
-other_err vs (Err x) f is h = subst (λ y. IsOtherOf vs y) (sym is) h

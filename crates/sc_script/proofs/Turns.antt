@@ -3,11 +3,11 @@ use Rattle.std.proofs.Common.{◌≡◌, ℕ, ◌≤◌, List, [], ◌∷◌, ma
 use Rattle.pv_value.specs.Plain.{Plain, plains}
 use Rattle.pv_value.specs.Depth.{depth, deepest}
 use Rattle.dp_pattern.specs.Words.{labelled, number}
-use Rattle.hub_core.specs.Packets.{event_value, aimed_value, turn_value}
+use Rattle.rl_packet.specs.Packets.{event_value, aimed_value, turn_value}
 use Rattle.sc_script.specs.FirstPath.{IsSimpleEvent, IsSimpleTurn}
-use Rattle.hub_core.specs.declared.packets.Event.{Event}
-use Rattle.hub_core.specs.declared.packets.Event.TheVariants.{Assert, Retract, Message, Sync}
-use Rattle.hub_core.specs.declared.packets.TurnEvent.{TurnEvent}
+use Rattle.rl_packet.specs.declared.packets.Event.{Event}
+use Rattle.rl_packet.specs.declared.packets.Event.TheVariants.{Assert, Retract, Message, Sync}
+use Rattle.rl_packet.specs.declared.packets.TurnEvent.{TurnEvent}
 
 -- ---- one value writes one turn
 

@@ -11,9 +11,9 @@ use Rattle.pv_binary.specs.Spells.{Spells}
 use Rattle.pv_binary.specs.Reads.{BeginsWith}
 use Rattle.pv_binary.specs.Lemmas.Begins.{IsUnique}
 use Rattle.dp_pattern.specs.Words.{labelled}
-use Rattle.hub_core.specs.Packets.{turn_value}
+use Rattle.rl_packet.specs.Packets.{turn_value}
 use Rattle.sc_script.specs.FirstPath.{IsSimpleTurn}
-use Rattle.hub_core.specs.declared.packets.TurnEvent.{TurnEvent}
+use Rattle.rl_packet.specs.declared.packets.TurnEvent.{TurnEvent}
 use Rattle.sc_script.specs.declared.events.ScriptEvent.{ScriptEvent}
 use Rattle.sc_script.specs.declared.events.ScriptEvent.TheVariants.{Open, Bytes, Drain}
 use Rattle.sc_script.specs.Events.{Writes}

@@ -6,10 +6,10 @@ use Rattle.pv_value.specs.Plain.{Plain, byte_string}
 use Rattle.pv_binary.specs.OneOfThree.{AreBytes}
 use Rattle.pv_binary.specs.Spells.{Spells}
 use Rattle.dp_pattern.specs.Words.{labelled, number}
-use Rattle.hub_core.specs.Packets.{turn_value}
-use Rattle.hub_core.specs.declared.packets.Event.{Event}
-use Rattle.hub_core.specs.declared.packets.Event.TheVariants.{Assert, Retract, Message, Sync}
-use Rattle.hub_core.specs.declared.packets.TurnEvent.{TurnEvent}
+use Rattle.rl_packet.specs.Packets.{turn_value}
+use Rattle.rl_packet.specs.declared.packets.Event.{Event}
+use Rattle.rl_packet.specs.declared.packets.Event.TheVariants.{Assert, Retract, Message, Sync}
+use Rattle.rl_packet.specs.declared.packets.TurnEvent.{TurnEvent}
 use Rattle.sc_script.specs.FirstPath.{IsSimpleTurn}
 use Rattle.sc_script.specs.declared.events.ScriptEvent.{ScriptEvent}
 use Rattle.sc_script.specs.declared.events.ScriptEvent.TheVariants.{Open, Bytes, Drain}
@@ -66,11 +66,6 @@ abbrev pub IsNoEvent : Before → Plain → Type 0
 IsNoEvent c v = (e : ScriptEvent) → IsEvent c v e → ⊥
 
 -- ---- events one behind another
-
--- each of the events may stand where it is
-abbrev pub InOrder : Before → List ScriptEvent → Type 0
-InOrder c [] = Unit {0}
-InOrder c (e ∷ es) = MayStand c e × InOrder (after c e) es
 
 -- the values are these events, each where it stands
 abbrev pub EventsOf : Before → List Plain → List ScriptEvent → Before → Type 0

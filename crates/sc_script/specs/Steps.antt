@@ -4,8 +4,8 @@ use Rattle.pv_value.specs.Plain.{Plain, byte_string}
 use Rattle.pv_binary.specs.OneOfThree.{AreBytes}
 use Rattle.pv_binary.specs.Spells.{Spells}
 use Rattle.dp_pattern.specs.Words.{number}
-use Rattle.hub_core.specs.Packets.{turn_value}
-use Rattle.hub_core.specs.declared.packets.TurnEvent.{TurnEvent}
+use Rattle.rl_packet.specs.Packets.{turn_value}
+use Rattle.rl_packet.specs.declared.packets.TurnEvent.{TurnEvent}
 use Rattle.sc_script.specs.FirstPath.{IsSimpleTurn, IsTurnOf}
 use Rattle.sc_script.specs.declared.events.ScriptEvent.{ScriptEvent}
 use Rattle.sc_script.specs.declared.events.ScriptEvent.TheVariants.{Open, Bytes, Drain}

@@ -7,9 +7,9 @@ ghost use Rattle.sc_script.specs.Steps.{WritesIn, IsSole, IsTurnAtEnd, IsSoleTur
 
 use crate::simple::turn_of;
 use dp_pattern::worded;
-use hub_core::{Event, Turn};
 use pv_binary::{BinFault, read};
 use pv_value::{NoMemory, Node, Value};
+use rl_packet::{Event, Turn};
 use std::alloc::Global;
 
 /// The most turns of one drain.

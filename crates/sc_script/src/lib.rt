@@ -6,6 +6,7 @@
 
 mod events;
 mod laws;
+mod outs;
 mod reports;
 mod runs;
 mod scripts;

@@ -1,123 +1,139 @@
 //! Runs of scripts.
-ghost use Rattle.std.specs.Prelude.{◌≡◌, ◌≤◌, ◌++◌, [], ◌∷◌, List, IfOk, OnOk};
+ghost use Rattle.std.specs.Prelude.{◌≡◌, ◌++◌, ℕ, [], ◌∷◌, List, Some, IfOk, IfErr, OnOk};
 ghost use Rattle.hub_core.specs.Replays.{sent_by};
-ghost use Rattle.hub_core.specs.declared.hub.Step.{Step as StepOf};
-ghost use Rattle.hub_core.specs.declared.hub.Step.TheVariants as step;
-ghost use Rattle.sc_script.specs.Runs.{with_turn, drained, after_event, run_of, IsAt};
+ghost use Rattle.hub_core.specs.declared.steps.Step.{Step as StepOf};
+ghost use Rattle.hub_core.specs.declared.steps.Step.TheVariants as step;
+ghost use Rattle.sc_script.specs.Runs.{turned, drained, after_event, course_of, sent_of};
+ghost use Rattle.sc_script.specs.Runs.{ran, stopped, IsAt, HasRun, IsStopped};
+ghost use Rattle.std.specs.Prelude.{if◌then◌else◌};
+ghost use Rattle.hub_core.specs.Plainness.{is_plain};
 
 use crate::events::ScriptEvent;
-use crate::scripts::Script;
+use crate::outs::Outs;
+use crate::scripts::{Script, ScriptFault};
 use ds_space::PlainSpace;
-use hub_core::{Hub, Reply, Step, Turn};
+use hub_core::{Hub, Reply, Step, plain};
 use pv_value::NoMemory;
+use rl_packet::Turn;
 use std::alloc::Global;
 
-/// The actor that is connection 1.
-const FIRST: u32 = 17;
+/// Connection k is actor 16 + k.
+const BEFORE_CONNECTIONS: u32 = 16;
 
-/// A run so far: the server, and the packets that connection 1 was sent.
+/// A run so far: the server, and the packets that connections were sent.
 #[derive(Drop)]
 pub(crate) struct Run {
     pub(crate) hub: Hub<PlainSpace>,
-    pub(crate) sent: Vec<Turn>,
+    pub(crate) outs: Outs,
 }
 
 impl Run {
     fn begin(alloc: Global) -> Result<Run, NoMemory>
-        ensures { IfOk result (λ run. IsAt [] run.hub run.sent.items) }
+        ensures { IfOk result (λ run. IsAt [] run.hub run.outs) }
     {
-        let hub = Hub::begin(alloc)?;
         Ok(Run {
-            hub,
-            sent: Vec::new(alloc),
+            hub: Hub::begin(alloc)?,
+            outs: Outs::new(alloc),
         })
     }
 
     /// Connection 1 comes, to dataspace 1.
     fn open(self, alloc: Global) -> Result<Run, NoMemory>
-        ensures { IfOk result (λ run. (steps : List StepOf) → IsAt steps self.hub self.sent.items
-            → IsAt (steps ++ step.Arrive 1 ∷ []) run.hub run.sent.items) }
+        ensures { IfOk result (λ run. (steps : List StepOf) → IsAt steps self.hub self.outs
+            → IsAt (steps ++ step.Arrive 1 ∷ []) run.hub run.outs) }
     {
-        let Run { hub, sent } = self;
+        let Run { hub, outs } = self;
         let (hub, _) = hub.step(alloc, Step::Arrive(1))?;
-        Ok(Run { hub, sent })
+        Ok(Run { hub, outs })
     }
 
-    /// Connection 1 sends a turn.
-    fn packet(self, alloc: Global, turn: Turn) -> Result<Run, NoMemory>
-        ensures { IfOk result (λ run. (steps : List StepOf) → IsAt steps self.hub self.sent.items
-            → IsAt (steps ++ step.Packet 1 turn ∷ []) run.hub run.sent.items) }
+    /// Connection 1 sends a turn, in event `place`.
+    fn packet(self, alloc: Global, place: u64, turn: Turn) -> Result<Run, ScriptFault>
+        ensures run { IfOk result (λ run. (steps : List StepOf) → IsAt steps self.hub self.outs
+            → HasRun (if is_plain turn then ran (steps ++ step.Packet 1 turn ∷ [])
+            else stopped place) run.hub run.outs) }
+        ensures stop { IfErr result (λ f. (steps : List StepOf) → IsAt steps self.hub self.outs
+            → IsStopped (if is_plain turn then ran (steps ++ step.Packet 1 turn ∷ [])
+            else stopped place) f) }
     {
-        let Run { hub, sent } = self;
+        if !plain(&turn) {
+            return Err(ScriptFault::NotBuilt(place));
+        }
+        let Run { hub, outs } = self;
         let (hub, _) = hub.step(alloc, Step::Packet(1, turn))?;
-        Ok(Run { hub, sent })
+        Ok(Run { hub, outs })
     }
 
-    /// An actor takes the first batch of its inbox.
-    fn turn(self, alloc: Global, actor: u32) -> Result<Run, NoMemory>
-        ensures { IfOk result (λ run. (steps : List StepOf) → IsAt steps self.hub self.sent.items
-            → IsAt (steps ++ step.Turn actor ∷ []) run.hub run.sent.items) }
+    /// An actor takes the first batch of its inbox, in event `place`.
+    fn turn(self, alloc: Global, place: u64, actor: u32) -> Result<Run, ScriptFault>
+        ensures run { IfOk result (λ run. (steps : List StepOf) → IsAt steps self.hub self.outs
+            → HasRun (turned place steps (Some actor)) run.hub run.outs) }
+        ensures stop { IfErr result (λ f. (steps : List StepOf) → IsAt steps self.hub self.outs
+            → IsStopped (turned place steps (Some actor)) f) }
     {
-        let Run { hub, mut sent } = self;
+        if self.hub.foreign(actor) {
+            return Err(ScriptFault::NotBuilt(place));
+        }
+        let Run { hub, mut outs } = self;
         let (hub, reply) = hub.step(alloc, Step::Turn(actor))?;
-        note(&mut sent, actor, reply)?;
-        Ok(Run { hub, sent })
+        note(&mut outs, actor, reply)?;
+        Ok(Run { hub, outs })
     }
 
-    /// Up to so many turns of the lowest actor that has work.
-    fn drain(self, alloc: Global, turns: u64) -> Result<Run, NoMemory>
-        ensures { IfOk result (λ run. (steps : List StepOf) → IsAt steps self.hub self.sent.items
-            → IsAt (drained steps turns) run.hub run.sent.items) }
+    /// Up to so many turns of the lowest actor that has work, in event `place`.
+    fn drain(self, alloc: Global, place: u64, turns: u64) -> Result<Run, ScriptFault>
+        ensures run { IfOk result (λ run. (steps : List StepOf) → IsAt steps self.hub self.outs
+            → HasRun (drained place turns steps) run.hub run.outs) }
+        ensures stop { IfErr result (λ f. (steps : List StepOf) → IsAt steps self.hub self.outs
+            → IsStopped (drained place turns steps) f) }
     {
         let mut run = self;
         for _ in 0..turns {
             let Some(actor) = run.hub.lowest() else {
                 return Ok(run);
             };
-            run = run.turn(alloc, actor)?;
+            run = run.turn(alloc, place, actor)?;
         }
         Ok(run)
     }
 
-    fn event(self, alloc: Global, event: ScriptEvent) -> Result<Run, NoMemory>
-        ensures { IfOk result (λ run. (steps : List StepOf) → IsAt steps self.hub self.sent.items
-            → IsAt (after_event steps event) run.hub run.sent.items) }
+    /// One event, of number `place`.
+    fn event(self, alloc: Global, place: u64, event: ScriptEvent) -> Result<Run, ScriptFault>
+        ensures run { IfOk result (λ run. (steps : List StepOf) → IsAt steps self.hub self.outs
+            → HasRun (after_event place event steps) run.hub run.outs) }
+        ensures stop { IfErr result (λ f. (steps : List StepOf) → IsAt steps self.hub self.outs
+            → IsStopped (after_event place event steps) f) }
     {
         match event {
-            ScriptEvent::Open => self.open(alloc),
-            ScriptEvent::Bytes(turn) => self.packet(alloc, turn),
-            ScriptEvent::Drain(turns) => self.drain(alloc, turns),
+            ScriptEvent::Open => Ok(self.open(alloc)?),
+            ScriptEvent::Bytes(turn) => self.packet(alloc, place, turn),
+            ScriptEvent::Drain(turns) => self.drain(alloc, place, turns),
         }
     }
 }
 
-/// Keeps the packet that an actor's turn sent, where the actor is connection 1.
-fn note(sent: &mut Vec<Turn>, actor: u32, reply: Reply) -> Result<(), NoMemory>
-    ensures { OnOk result
-        (sent.new.items ≡ sent.old.items ++ sent_by 1 (step.Turn actor) reply) }
+/// Keeps the packet that an actor's turn sent, where the actor is a connection.
+fn note(outs: &mut Outs, actor: u32, reply: Reply) -> Result<(), NoMemory>
+    ensures { OnOk result ((k : ℕ)
+        → sent_of k outs.new ≡ sent_of k outs.old ++ sent_by k (step.Turn actor) reply) }
 {
+    if actor < BEFORE_CONNECTIONS {
+        return Ok(());
+    }
     match reply {
-        Reply::Sent(packet) if actor == FIRST => Ok(sent.push(packet)?),
+        Reply::Sent(packet) => outs.add(actor - BEFORE_CONNECTIONS, packet),
         _ => Ok(()),
     }
 }
 
-/// Does all events, from a server that has only begun.
-fn run_events(alloc: Global, events: Vec<ScriptEvent>) -> Result<Run, NoMemory>
-    ensures { IfOk result (λ run. IsAt (run_of events.items) run.hub run.sent.items) }
+/// Does all events of a script.
+pub(crate) fn run_script(alloc: Global, script: Script) -> Result<Run, ScriptFault>
+    ensures run { IfOk result (λ run. HasRun (course_of script) run.hub run.outs) }
+    ensures stop { IfErr result (IsStopped (course_of script)) }
 {
     let mut run = Run::begin(alloc)?;
-    for event in events {
-        run = run.event(alloc, event)?;
+    for (place, event) in script.into_events().into_iter().enumerate() {
+        run = run.event(alloc, place as u64, event)?;
     }
     Ok(run)
-}
-
-/// Does all events of a script. It opens one connection at most.
-pub(crate) fn run_script(alloc: Global, script: Script) -> Result<Run, NoMemory>
-    ensures done { IfOk result (λ run. IsAt (run_of script) run.hub run.sent.items) }
-    ensures one { IfOk result (λ run. run.hub.world.opened ≤ 1) }
-{
-    let events = script.into_events();
-    run_events(alloc, events)
 }

@@ -1,15 +1,15 @@
 //! Scripts, and their reading from values and from bytes.
 ghost use Rattle.std.specs.Prelude.{◌≡◌, ◌++◌, true, IfOk, IfErr};
 ghost use Rattle.sc_script.specs.declared.scripts.ScriptFault.TheVariants as fault;
-ghost use Rattle.sc_script.specs.Events.{start, are_new, handles_of, AreEvents, InOrder};
+ghost use Rattle.sc_script.specs.Events.{start, are_new, handles_of, AreEvents};
 ghost use Rattle.sc_script.specs.Inputs.{AreRead};
 ghost use Rattle.sc_script.specs.Steps.{Goes, Stands, IsOther, IsOtherOf, IsFaultOf};
 ghost use Rattle.sc_script.specs.Verdicts.{good, AreJudged, IsJudged};
 
 use crate::events::{ScriptEvent, event_of, handle};
-use hub_core::Turn;
 use pv_binary::{BinFault, read};
 use pv_value::{NoMemory, Value};
+use rl_packet::Turn;
 use std::alloc::{AllocError, AllocFailed, Global};
 use std::marker::Model;
 use thiserror::Error;
@@ -17,7 +17,7 @@ use thiserror::Error;
 /// The most bytes that a script of the first path has.
 pub(crate) const SCRIPT_BYTES: usize = 2048;
 
-/// The events of a script, each where it may stand.
+/// The events of a script.
 #[derive(Drop)]
 pub struct Script {
     events: Vec<ScriptEvent>,
@@ -28,21 +28,17 @@ impl Model for Script {
     ghost use Rattle.std.specs.Coded.{codes};
     ghost use Rattle.pv_value.specs.Lemmas.Coded.{plain_code};
     ghost use Rattle.sc_script.specs.declared.events.ScriptEvent.{ScriptEvent};
-    ghost use Rattle.sc_script.specs.Events.{start, InOrder};
 
     ghost Value = { List ScriptEvent };
 
     ghost coded = { Prim.hlevel (codes, plain_code) };
 
     ghost view = { λ s. s.events.items };
-
-    ghost invariant = { λ s. InOrder start s.events.items };
 }
 
 impl Script {
     pub(crate) fn into_events(self) -> Vec<ScriptEvent>
-        ensures same { result.items ≡ self }
-        ensures order { InOrder start result.items }
+        ensures { result.items ≡ self }
     {
         let Script { events } = self;
         events
@@ -55,8 +51,9 @@ pub enum ScriptFault {
     /// After so many values, which are events, comes what is no value.
     #[error("bad value {0}")]
     Bad(u64),
-    /// After so many events comes a value that is no event there; or the script is too long, and
-    /// this is 0.
+    /// After so many events comes a value that is no event there, or an event that names objects
+    /// as only a server with a relay could take or tell it; or the script is too long, and this is
+    /// 0.
     #[error("value {0} isn't built")]
     NotBuilt(u64),
     #[error("out of memory")]

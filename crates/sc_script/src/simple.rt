@@ -1,95 +1,26 @@
 //! The turns of the first path: assertions at object 0, of values without references or of an
 //! observation at an own object.
-ghost use Rattle.std.specs.Prelude.{◌≡◌, IfOk, map, option_map, ◌↔◌, ◌≤◌, IsTrue};
-ghost use Rattle.pv_value.specs.Plain.{plains, pairs};
-ghost use Rattle.pv_value.specs.View.{key_and_value};
+ghost use Rattle.std.specs.Prelude.{◌≡◌, IfOk, ◌↔◌, ◌≤◌, IsTrue};
 ghost use Rattle.pv_value.specs.Depth.{depth};
-ghost use Rattle.sc_script.specs.FirstPath.{has_embedded, any_embedded, any_pair_embedded};
-ghost use Rattle.sc_script.specs.FirstPath.{is_own_observation, is_simple, IsTurnOf, IsEventOf};
-ghost use Rattle.sc_script.specs.FirstPath.{IsAssertionOf, is_own_reference, is_plain_pattern};
+ghost use Rattle.sc_script.specs.FirstPath.{begins_with_pattern, is_simple, IsTurnOf, IsEventOf};
+ghost use Rattle.sc_script.specs.FirstPath.{IsAssertionOf};
 
 use dp_pattern::{is_word, number_in, parse, worded};
-use ds_space::reference_of;
-use hub_core::{Event, Turn, TurnEvent, VALUE_DEPTH};
-use pv_value::{Entry, NoMemory, Node, Value, depth};
+use hub_core::{VALUE_DEPTH, has_embedded, is_own_observation};
+use pv_value::{NoMemory, Node, Value, depth};
+use rl_packet::{Event, Turn, TurnEvent};
 use std::alloc::Global;
 
-/// Whether an embedded value stands anywhere in it.
-#[cycle(embedded)]
-fn has_embedded(value: &Value) -> bool
-    ensures { result ≡ has_embedded value.now }
+/// Whether the first field of the record is a pattern.
+fn begins_with_pattern(alloc: Global, value: &Value) -> Result<bool, NoMemory>
+    ensures { IfOk result (λ b. b ≡ begins_with_pattern value.now) }
 {
-    match &value.node {
-        Node::Emb(_) => true,
-        Node::Rec(rec) => has_embedded(&rec.label) || any_embedded(rec.fields.as_slice()),
-        Node::Seq(items) => any_embedded(items.as_slice()),
-        Node::Set(set) => any_embedded(set.as_slice()),
-        Node::Dict(entries) => any_pair_embedded(entries.as_slice()),
-        _ => false,
-    }
-}
-
-#[cycle(embedded)]
-fn any_embedded(values: &[Value]) -> bool
-    ensures { result ≡ any_embedded (plains values.now) }
-{
-    for x in values {
-        if has_embedded(x) {
-            return true;
-        }
-    }
-    false
-}
-
-#[cycle(embedded)]
-fn any_pair_embedded(entries: &[Entry]) -> bool
-    ensures { result ≡ any_pair_embedded (pairs (map key_and_value entries.now)) }
-{
-    for e in entries {
-        if has_embedded(&e.key) || has_embedded(&e.value) {
-            return true;
-        }
-    }
-    false
-}
-
-/// Whether it is an embedded reference `[0 e]`.
-fn is_own(value: &Value) -> bool
-    ensures { result ≡ is_own_reference value.now }
-{
-    let Node::Emb(inside) = &value.node else {
-        return false;
-    };
-    match reference_of(inside) {
-        Some(reference) => reference.at == 0,
-        None => false,
-    }
-}
-
-/// Whether it is a pattern without embedded values.
-fn is_plain_pattern(alloc: Global, value: &Value) -> Result<bool, NoMemory>
-    ensures { IfOk result (λ b. b ≡ is_plain_pattern value.now) }
-{
-    if has_embedded(value) {
-        return Ok(false);
-    }
-    Ok(parse(alloc, value)?.is_some())
-}
-
-/// Whether it is `<Observe p #:[0 e]>`, p a pattern without embedded values.
-fn is_own_observation(alloc: Global, value: &Value) -> Result<bool, NoMemory>
-    ensures { IfOk result (λ b. b ≡ is_own_observation value.now) }
-{
-    let Some((word, fields)) = worded(value) else {
+    let Node::Rec(rec) = &value.node else {
         return Ok(false);
     };
-    let [pattern, observer] = fields else {
-        return Ok(false);
-    };
-    if is_word(word, b"Observe") && is_own(observer) {
-        is_plain_pattern(alloc, pattern)
-    } else {
-        Ok(false)
+    match rec.fields.as_slice().first() {
+        Some(pattern) => Ok(parse(alloc, pattern)?.is_some()),
+        None => Ok(false),
     }
 }
 
@@ -97,11 +28,13 @@ fn is_own_observation(alloc: Global, value: &Value) -> Result<bool, NoMemory>
 fn is_simple(alloc: Global, value: &Value) -> Result<bool, NoMemory>
     ensures { IfOk result (λ b. b ≡ is_simple value.now) }
 {
-    if has_embedded(value) {
-        is_own_observation(alloc, value)
-    } else {
-        Ok(true)
+    if !has_embedded(value) {
+        return Ok(true);
     }
+    if !is_own_observation(value) {
+        return Ok(false);
+    }
+    begins_with_pattern(alloc, value)
 }
 
 /// The turn of the first path that a value writes.

@@ -4,7 +4,7 @@ use Rattle.std.proofs.Common.{◌∙◌, sym, ap, append-nil, append_assoc}
 use Rattle.hub_core.specs.State.{State, opening}
 use Rattle.hub_core.specs.Machine.{step}
 use Rattle.hub_core.specs.Replays.{run_from, replay, sent_by, sent_from, sent_to}
-use Rattle.hub_core.specs.declared.hub.Step.{Step}
+use Rattle.hub_core.specs.declared.steps.Step.{Step}
 
 pub run_from-more : (s : State) (es : List Step) (e : Step) → run_from s (es ++ e ∷ [])
     ≡ (step (run_from s es) e).state

@@ -1,14 +1,15 @@
 use Rattle.std.proofs.Common.{◌≡◌, ◌∙◌, length, rules}
 use Rattle.std.specs.Vec.{vec_len}
-use Rattle.sc_script.proofs.Opened.{values_in_order}
-use Rattle.sc_script.proofs.Standing.{step_more, other_found, other_err}
+use Rattle.sc_script.specs.Steps.{IsOtherOf}
+use Rattle.sc_script.proofs.Faults.{err_so}
+use Rattle.sc_script.proofs.Standing.{step_more, other_found}
 use Rattle.sc_script.proofs.scripts.script_of.Goals as goal
 
 pub returns-in_err-event-clause-other : goal.returns-in_err-event-clause-other
 returns-in_err-event-clause-other c =
     let items : vec_len c.loop-value.events ≡ length c.loop-value.events.items = search rules in
     let place = c.len.ensures ∙ items in
-    other_err _ _ _ c.from_residual.ensures.1
+    err_so (IsOtherOf c.args.values.now) _ _ c.from_residual.ensures.1
     (other_found _ _ _ _ _ c.len.result c.in_err-event.field-0.0 c.loop-value-test.true c.value-item.is
     c.loop-value.invariant.fit place c.in_err-event.ensures.other)
 
@@ -17,6 +18,3 @@ loop-value-preserved c = record {
   fit = step_more _ _ _ _ _ _ _ _ _ c.loop-value-test.true c.value-item.is c.loop-value.invariant.fit
       c.in_ok-event.ensures.event c.in_ok-push.ensures.items;
 }
-
-pub invariant_of-result : goal.invariant_of-result
-invariant_of-result c = values_in_order _ _ _ _ c.loop-value.invariant.fit

@@ -1,6 +1,6 @@
 use Rattle.std.proofs.Common.{sym, ap, map, ◌∙◌, arith}
 use Rattle.pv_value.specs.View.{view_node}
-use Rattle.hub_core.specs.Packets.{aimed_value}
+use Rattle.rl_packet.specs.Packets.{aimed_value}
 use Rattle.sc_script.proofs.FirstTurns.{no_turn, same_items}
 use Rattle.sc_script.proofs.simple.turn_in.Goals as goal
 

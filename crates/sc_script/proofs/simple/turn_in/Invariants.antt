@@ -1,5 +1,5 @@
 use Rattle.std.proofs.Common.{◌≡◌, map, take}
-use Rattle.hub_core.specs.Packets.{aimed_value}
+use Rattle.rl_packet.specs.Packets.{aimed_value}
 use Rattle.sc_script.specs.FirstPath.{IsSimpleTurn}
 use Rattle.sc_script.proofs.simple.turn_in.Given as goal
 

@@ -1,0 +1,27 @@
+-- The replies of the machine as values: a word, or a record of a number or of a packet.
+use Rattle.std.specs.Prelude.{List, ℕ, [], ◌∷◌, codes, Option, Some, None}
+use Rattle.pv_value.specs.Plain.{Plain, symbol}
+use Rattle.dp_pattern.specs.Words.{labelled, number}
+use Rattle.rl_packet.specs.Packets.{packet_value}
+use Rattle.hub_core.specs.Faults.{error_of}
+use Rattle.hub_core.specs.declared.steps.Reply.{Reply}
+use Rattle.hub_core.specs.declared.steps.Reply.TheVariants.{Worn, Barred, Halted, Full, Opened, Gone, Refused, Idle}
+use Rattle.hub_core.specs.declared.steps.Reply.TheVariants.{Sent, Ran, Taken}
+
+abbrev pub reply_value : Reply → Plain
+reply_value Worn = symbol (codes "worn")
+reply_value Barred = symbol (codes "barred")
+reply_value Halted = symbol (codes "halted")
+reply_value Full = symbol (codes "full")
+reply_value (Opened k) = labelled (codes "opened") (number k ∷ [])
+reply_value Gone = symbol (codes "gone")
+reply_value (Refused f) = labelled (codes "refused") (packet_value (error_of f) ∷ [])
+reply_value Idle = symbol (codes "idle")
+reply_value (Sent p) = labelled (codes "sent") (packet_value p ∷ [])
+reply_value Ran = symbol (codes "ran")
+reply_value Taken = symbol (codes "taken")
+
+-- an actor's number, or none
+abbrev pub actor_value : Option ℕ → Plain
+actor_value None = symbol (codes "none")
+actor_value (Some a) = number a

@@ -1,0 +1,7 @@
+use Rattle.std.proofs.Common.{subst, sym}
+use Rattle.hub_core.proofs.Small.{AreSmall, small_without}
+use Rattle.hub_core.proofs.hub.Hub.fail.Goals as goal
+
+pub invariant_of-self : goal.invariant_of-self
+invariant_of-self g c =
+    (subst AreSmall (sym c.remove.ensures.entries) (small_without _ _ c.self.invariant.0), c.self.invariant.1)

@@ -1,6 +1,0 @@
-use Rattle.std.proofs.Common.{◌≡◌, map, take}
-use Rattle.hub_core.specs.Packets.{aimed_value}
-use Rattle.hub_core.proofs.packets.turn_value.Given as goal
-
-abbrev pub invariant-loop-event : goal.invariant-loop-event
-invariant-loop-event l = l.items.items ≡ map aimed_value (take l.event-index l.event-items)

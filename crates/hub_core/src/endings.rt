@@ -1,0 +1,175 @@
+//! How connections end, and who ends at the end of a step.
+ghost use Rattle.std.specs.Prelude.{◌≡◌, ◌≤◌, ◌^◌, IfOk, IfSome};
+ghost use Rattle.std.specs.Map.{keys_of};
+ghost use Rattle.hub_core.specs.Endings.{departed, departed_for, closed, failed, failed_where};
+ghost use Rattle.hub_core.specs.Endings.{spread_out, all_spread_out, overrun_by, overrun_of};
+ghost use Rattle.hub_core.specs.Endings.{all_overrun, finished};
+
+use crate::faults::{Fault, overrun};
+use crate::hub::{FIRST_CONNECTION, Hub};
+use crate::limits::{DELIVERIES, DELIVERIES_WEIGHT};
+use crate::steps::Reply;
+use ac_world::{Load, Spread};
+use ds_space::Space;
+use pv_value::NoMemory;
+use std::alloc::Global;
+
+/// More deliveries than may be.
+fn overrun_by(load: Load) -> Option<Fault>
+    ensures { result ≡ overrun_by load }
+{
+    overrun(DELIVERIES, 1, load.count).or(overrun(DELIVERIES_WEIGHT, 2, load.weight))
+}
+
+impl<S: Space + Drop> Hub<S> {
+    /// A connection ends. Its names are gone already.
+    fn end(self, alloc: Global, connection: u32) -> Result<Hub<S>, NoMemory>
+        requires { connection ≤ 2 ^ 31 }
+        ensures { IfOk result (λ h. h ≡ departed connection self) }
+    {
+        let Hub {
+            world,
+            connections,
+            faults,
+            stopped,
+        } = self;
+        let world = world.end(alloc, 16 + connection)?;
+        Ok(Hub {
+            world,
+            connections,
+            faults,
+            stopped,
+        })
+    }
+
+    /// A connection ends.
+    pub(crate) fn close(mut self, alloc: Global, connection: u32) -> Result<Hub<S>, NoMemory>
+        requires { connection ≤ 2 ^ 31 }
+        ensures { IfOk result (λ h. h ≡ closed connection self) }
+    {
+        self.connections.remove(&connection);
+        self.end(alloc, connection)
+    }
+
+    /// A connection ends for a fault. Its names are gone already.
+    pub(crate) fn end_for(
+        self,
+        alloc: Global,
+        connection: u32,
+        fault: Fault,
+    ) -> Result<Hub<S>, NoMemory>
+        requires { connection ≤ 2 ^ 31 }
+        ensures { IfOk result (λ h. h ≡ departed_for connection fault self) }
+    {
+        let mut hub = self.end(alloc, connection)?;
+        hub.faults.insert(connection, fault)?;
+        Ok(hub)
+    }
+
+    /// A connection ends for a fault.
+    pub(crate) fn fail(
+        mut self,
+        alloc: Global,
+        connection: u32,
+        fault: Fault,
+    ) -> Result<Hub<S>, NoMemory>
+        requires { connection ≤ 2 ^ 31 }
+        ensures { IfOk result (λ h. h ≡ failed connection fault self) }
+    {
+        self.connections.remove(&connection);
+        self.end_for(alloc, connection, fault)
+    }
+
+    /// A connection that spread ends, where it is there.
+    fn spread_out(self, alloc: Global, spread: Spread) -> Result<Hub<S>, NoMemory>
+        ensures { IfOk result (λ h. h ≡ spread_out spread self) }
+    {
+        if spread.actor < FIRST_CONNECTION || !self.live(spread.actor - 16) {
+            return Ok(self);
+        }
+        self.fail(alloc, spread.actor - 16, Fault::Spread(spread.weight))
+    }
+
+    /// Those that spread end, in order.
+    fn all_spread_out(self, alloc: Global, spreads: &[Spread]) -> Result<Hub<S>, NoMemory>
+        ensures { IfOk result (λ h. h ≡ all_spread_out spreads.now self) }
+    {
+        let mut hub = self;
+        for spread in spreads {
+            hub = hub.spread_out(alloc, *spread)?;
+        }
+        Ok(hub)
+    }
+
+    /// Why a connection ends for which too much is held and waits.
+    fn overrun_of(&self, connection: u32) -> Option<Fault>
+        ensures fault { result ≡ overrun_of connection self.now }
+        ensures small { IfSome result (λ f. connection ≤ 2 ^ 31) }
+    {
+        if !self.live(connection) {
+            return None;
+        }
+        overrun_by(self.world.deliveries(16 + connection))
+    }
+
+    /// A connection ends, where there is a fault.
+    fn fail_where(
+        self,
+        alloc: Global,
+        connection: u32,
+        fault: Option<Fault>,
+    ) -> Result<Hub<S>, NoMemory>
+        requires { IfSome fault (λ f. connection ≤ 2 ^ 31) }
+        ensures { IfOk result (λ h. h ≡ failed_where connection fault self) }
+    {
+        match fault {
+            Some(fault) => self.fail(alloc, connection, fault),
+            None => Ok(self),
+        }
+    }
+
+    /// The connections of these numbers end for which too much is held and waits, in order.
+    fn all_overrun(self, alloc: Global, connections: &[u32]) -> Result<Hub<S>, NoMemory>
+        ensures { IfOk result (λ h. h ≡ all_overrun connections.now self) }
+    {
+        let mut hub = self;
+        for connection in connections {
+            let fault = hub.overrun_of(*connection);
+            hub = hub.fail_where(alloc, *connection, fault)?;
+        }
+        Ok(hub)
+    }
+
+    /// The numbers of the live connections, ascending.
+    fn numbers(&self, alloc: Global) -> Result<Vec<u32>, NoMemory>
+        ensures { IfOk result (λ ks. ks.items ≡ keys_of self.now.connections) }
+    {
+        let mut numbers = Vec::new(alloc);
+        for connection in self.connections.keys() {
+            numbers.push(*connection)?;
+        }
+        Ok(numbers)
+    }
+
+    /// The step's end: those end who have to.
+    fn finish(self, alloc: Global, spreads: &[Spread]) -> Result<Hub<S>, NoMemory>
+        ensures { IfOk result (λ h. h ≡ finished spreads.now self) }
+    {
+        let hub = self.all_spread_out(alloc, spreads)?;
+        let numbers = hub.numbers(alloc)?;
+        hub.all_overrun(alloc, &numbers)
+    }
+
+    /// A step that did something is answered, at whose end those end who have to.
+    pub(crate) fn ends(
+        self,
+        alloc: Global,
+        spreads: &[Spread],
+        reply: Reply,
+    ) -> Result<(Hub<S>, Reply), NoMemory>
+        ensures state { IfOk result (λ done. done.0 ≡ finished spreads.now self) }
+        ensures reply { IfOk result (λ done. done.1 ≡ reply) }
+    {
+        Ok((self.finish(alloc, spreads)?, reply))
+    }
+}

@@ -1,0 +1,88 @@
+-- A world in which a plan is done is sound, where what the plan began with was.
+use Rattle.std.proofs.Common.{◌≡◌, ◌≢◌, ℕ, ◌+◌, ◌<◌, ◌≤◌, List, Bool, true, false, Some, None}
+use Rattle.std.proofs.Common.{sym, ap, ◌∙◌, subst}
+use Rattle.std.specs.List.{AllByRecursion}
+use Rattle.std.specs.Prelude.{is_some}
+use Rattle.std.specs.Map.{values_of}
+use Rattle.pv_value.specs.Plain.{Plain}
+use Rattle.ac_table.specs.declared.batches.Row.{Row}
+use Rattle.ac_table.specs.declared.batches.Batch.{Batch}
+use Rattle.ac_table.specs.Tables.{TableState, Actor, IsTable, find_actor, find_row, is_live}
+use Rattle.ac_world.specs.Outboxes.{Plan, committed, posted, told_to}
+use Rattle.ac_world.specs.Worlds.{WorldState, seat_of, held_by, entry_of, is_space}
+use Rattle.hub_laws.specs.Standing.{value_alone, at_object}
+use Rattle.hub_laws.specs.Wanting.{IsMet}
+use Rattle.hub_laws.proofs.Kept.{KeysAscend, IsKnown, IsGood, Moves, AreGood, IsServedBy, IsServed, IsSound}
+use Rattle.hub_laws.proofs.Promised.{PostedTo, PostedTable, ServedAfter, IsPostedTo}
+
+-- the world u, whose table is the one over which the plan began, but for the wants, which are met over the plan's rows
+pub record IsPlanned (ends : List ℕ) (u : WorldState) (a : ℕ) (p : Plan) : Type 1 where
+  pub table : IsTable u.table
+  pub always : (b : ℕ) → b < 9 → is_live b u.table ≡ true
+  pub no_watchers : (b : ℕ) → 9 ≤ b → b < 17 → is_live b u.table ≡ false
+  pub numbers : (b : ℕ) → is_live b u.table ≡ true → b ≤ 16 + u.opened
+  pub served : (b : ℕ) (x : Actor) → find_actor b u.table.actors ≡ Some x → IsServed ends b x.inbox u (is_space b)
+  pub known : (b : ℕ) → is_space b ≡ true → AllByRecursion (IsKnown (16 + u.opened)) (values_of (seat_of b u).got)
+  pub held_ascends : KeysAscend u.held
+  pub unheld : (b : ℕ) → is_live b u.table ≡ false → entry_of b u.held ≡ None
+  pub moves : Moves a u.table p
+  pub good : AreGood (16 + u.opened) a p
+  pub met : (b : ℕ) → is_space b ≡ true → IsMet b (seat_of b u) p.table.rows
+  pub idle : (h : ℕ) (r : Row) → find_row h p.table.rows ≡ Some r → r.owner ≢ 0
+
+abbrev pub done_in : WorldState → ℕ → Plan → WorldState
+done_in u a p = record u { table = committed a p }
+
+-- liveness and the next handle are looked up in a table's parts
+live_alike : (b : ℕ) (s t : TableState) → s.actors ≡ t.actors → is_live b s ≡ is_live b t
+live_alike b s t same = ap (λ xs. is_some (find_actor b xs)) same
+
+pub live_done : (posted_table : PostedTable) (u : WorldState) (a b : ℕ) (p : Plan) → Moves a u.table p
+    → is_live b (done_in u a p).table ≡ is_live b u.table
+live_done posted_table u a b p m = (posted_table a p.out p.table).2 b ∙ live_alike b p.table u.table m.actors
+
+-- who is served, over the table in which the plan is done
+served_in : (posted_table : PostedTable) (served_after : ServedAfter) (ends : List ℕ) (u : WorldState) (a b : ℕ)
+    (p : Plan)
+    (old new : List Batch) → IsPlanned ends u a p → IsPostedTo a (told_to b p.out) old new → (s : Bool)
+    → IsServed ends b old u s → IsServed ends b new (done_in u a p) s
+served_in posted_table served_after ends u a b p old new k is true s =
+    let q = posted_table a p.out p.table in
+    subst (λ rows. IsServedBy value_alone ends (16 + u.opened) rows (posted a p.out p.table).next b
+    (seat_of b u).got new)
+    (sym q.0)
+    (subst (λ n. IsServedBy value_alone ends (16 + u.opened) p.table.rows n b (seat_of b u).got new) (sym q.1)
+    (served_after Plain value_alone ends (16 + u.opened) a b u.table p
+    (seat_of b u).got old new k.table k.moves k.good s is))
+served_in posted_table served_after ends u a b p old new k is false s =
+    let q = posted_table a p.out p.table in
+    subst (λ rows. IsServedBy at_object ends (16 + u.opened) rows (posted a p.out p.table).next b (held_by b u) new)
+    (sym q.0)
+    (subst (λ n. IsServedBy at_object ends (16 + u.opened) p.table.rows n b (held_by b u) new) (sym q.1)
+    (served_after _ at_object ends (16 + u.opened) a b u.table p (held_by b u) old new k.table k.moves k.good s is))
+
+served_done : (posted_to : PostedTo) (posted_table : PostedTable) (served_after : ServedAfter) (ends : List ℕ)
+    (u : WorldState) (a : ℕ) (p : Plan) → IsPlanned ends u a p → (b : ℕ) (x : Actor)
+    → find_actor b (done_in u a p).table.actors ≡ Some x → IsServed ends b x.inbox (done_in u a p) (is_space b)
+served_done posted_to posted_table served_after ends u a p k b x found =
+    let y = posted_to a b p.out p.table x k.moves.out_ascends found in
+    let before : find_actor b u.table.actors ≡ Some y.0 = ap (find_actor b) (sym k.moves.actors) ∙ y.1 in
+    served_in posted_table served_after ends u a b p y.0.inbox x.inbox k y.2 (is_space b) (k.served b y.0 before)
+
+pub commit_sound : (posted_to : PostedTo) (posted_table : PostedTable) (served_after : ServedAfter) (ends : List ℕ)
+    (u : WorldState) (a : ℕ) (p : Plan) → IsPlanned ends u a p → IsSound ends (done_in u a p)
+commit_sound posted_to posted_table served_after ends u a p k =
+    let q = posted_table a p.out p.table in
+    record {
+      table = q.3 k.moves.table;
+      always = λ b l. live_done posted_table u a b p k.moves ∙ k.always b l;
+      no_watchers = λ b l m. live_done posted_table u a b p k.moves ∙ k.no_watchers b l m;
+      numbers = λ b is. k.numbers b (sym (live_done posted_table u a b p k.moves) ∙ is);
+      rows = subst (AllByRecursion (IsGood (16 + u.opened))) (sym q.0) k.good.rows;
+      served = served_done posted_to posted_table served_after ends u a p k;
+      met = λ b is. subst (IsMet b (seat_of b u)) (sym q.0) (k.met b is);
+      known = k.known;
+      idle = λ h r found. k.idle h r (ap (find_row h) (sym q.0) ∙ found);
+      held_ascends = k.held_ascends;
+      unheld = λ b is. k.unheld b (sym (live_done posted_table u a b p k.moves) ∙ is);
+    }

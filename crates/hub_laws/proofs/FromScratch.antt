@@ -1,0 +1,245 @@
+-- Where nothing is pending, what a live connection holds is what is captured from scratch.
+use Rattle.std.proofs.Common.{◌≡◌, ◌≢◌, ℕ, ◌+◌, ◌<◌, ◌≤◌, List, [], ◌∷◌, ◌++◌, map, Bool, true, false, cond, not, ◌&&◌}
+use Rattle.std.proofs.Common.{◌==◌, nat_le, length, filter, flat_map, Option, Some, None, is_some, refl, ap, sym, ◌∙◌}
+use Rattle.std.proofs.Common.{subst, arith, rules, IsPermutation}
+use Rattle.std.specs.List.{AllByRecursion, IsDistinct, list_any}
+use Rattle.std.specs.Map.{keys_of, values_of}
+use Rattle.std.proofs.lemmas.Bool.Decides.{nat_tests}
+use Rattle.std.proofs.lemmas.List.{map-append, nil_from_length}
+use Rattle.std.proofs.lemmas.List.Sorted.{IsPermutation-refl, IsPermutation-cons, IsPermutation-sym}
+use Rattle.std.proofs.lemmas.List.Sorted.{IsPermutation-trans, IsPermutation-middle, IsPermutation-map}
+use Rattle.std.proofs.lemmas.List.Sorted.{IsPermutation-append_left}
+use Rattle.std.proofs.lemmas.Map.Keys.{IsDistinct-from_sorted}
+use Rattle.pv_value.specs.Plain.{Plain}
+use Rattle.pv_value.specs.Order.{order}
+use Rattle.dp_pattern.specs.Matching.{same}
+use Rattle.ds_space.specs.Wants.{wants}
+use Rattle.ds_space.specs.Lemmas.Lists.{wants_ascend}
+use Rattle.rl_packet.specs.Holding.{holdings_in_order, insert_holding, is_before}
+use Rattle.rl_packet.specs.declared.holding.Holding.{Holding}
+use Rattle.ac_table.specs.declared.batches.Row.{Row}
+use Rattle.ac_table.specs.declared.batches.Batch.{Batch}
+use Rattle.ac_table.specs.Tables.{TableState, Actor, IsTable, find_actor, is_live, waiting_in}
+use Rattle.ac_world.specs.Worlds.{WorldState, seat_of, held_by, is_space, actor_of}
+use Rattle.ac_world.specs.declared.held.Held.{Held}
+use Rattle.hub_core.specs.State.{State, opening}
+use Rattle.hub_core.specs.Replays.{replay, IsSettled}
+use Rattle.hub_core.specs.declared.steps.Step.{Step}
+use Rattle.hub_laws.specs.Laws.{AreAllowed, Holdings, SettledHoldings}
+use Rattle.hub_laws.specs.Scratch.{Pair, asserted_at, pair_at, told_over, told_directly, dataspaces, scratch_at}
+use Rattle.hub_laws.specs.Scratch.{scratch}
+use Rattle.hub_laws.specs.Settled.{holding_of, pair_of}
+use Rattle.hub_laws.specs.Standing.{stands, took_all, events_of, value_alone, at_object}
+use Rattle.hub_laws.proofs.Bags.{map_flat, permutation_flat, filter_alike, filter_filter, by_number}
+use Rattle.hub_laws.proofs.Finding.{all_from_found, found_owner}
+use Rattle.hub_laws.proofs.Kept.{IsNear, IsServedBy, IsServed, IsSound, IsHub}
+use Rattle.hub_laws.proofs.Lists.{all_weaker, near_exact, kept_of, entry_of-stands}
+use Rattle.hub_laws.proofs.OwnRows.{pair_of_row, own_are_meant}
+use Rattle.hub_laws.proofs.Owned.{rows_of_met}
+use Rattle.hub_laws.proofs.Told.{goes_to, pair_by, wants_are_told}
+
+-- ---- where nothing waits, what stands is what was got
+
+-- a live actor is found
+found_live : (o : Option Actor) → is_some o ≡ true → (x : Actor) × (o ≡ Some x)
+found_live None is = absurd cc
+found_live (Some x) is = (x, refl)
+
+-- no batch waits for any actor
+pub inbox_empty : (a : ℕ) (xs : List Actor) (x : Actor) → waiting_in xs ≡ 0 → find_actor a xs ≡ Some x → x.inbox ≡ []
+inbox_empty a [] x none is = absurd cc
+inbox_empty a (y ∷ ys) x none is = by (y.number == a) refl (inbox_empty a ys x (omega arith))
+  where
+    by : (b : Bool) → (y.number == a) ≡ b → (find_actor a ys ≡ Some x → x.inbox ≡ []) → x.inbox ≡ []
+    by true here later =
+        let y_is : Some y ≡ Some x = sym (rw here refl) ∙ is in
+        let one : y ≡ x = cc in
+        nil_from_length x.inbox (ap (λ (z : Actor). length z.inbox) (sym one) ∙ omega arith)
+    by false other later = later (rw other at is)
+
+got_stands : {X : Type 0} (f : ℕ → Plain → X) (n a : ℕ) (t : TableState) (got : List (ℕ × X)) (inbox : List Batch)
+    → IsTable t → inbox ≡ [] → IsServedBy f [] n t.rows t.next a got inbox → got ≡ stands f a t.rows
+got_stands f n a t got inbox k empty served =
+    near_exact [] t.rows (stands f a t.rows) got
+    (subst (λ (bs : List Batch). IsNear [] t.rows (stands f a t.rows) (took_all f (events_of bs) got)) empty
+    (served.near refl))
+    (λ h r is. refl) (λ h none. entry_of-stands f a h t.rows k.rows_ascend ∙ ap (kept_of f a) none)
+
+-- ---- what stands, by rows
+
+-- what stands at an actor is made of the rows at it
+stands_map : {X Y : Type 0} (f : ℕ → Plain → X) (g : ℕ × X → Y) (h : Row → Y)
+    → ((r : Row) → g (r.handle, f r.entity r.value) ≡ h r) → (a : ℕ) (rows : List Row)
+    → map g (stands f a rows) ≡ map h (filter (λ r. r.target == a) rows)
+stands_map f g h each a [] = refl
+stands_map f g h each a (r ∷ rs) = by (r.target == a) refl (stands_map f g h each a rs)
+  where
+    by : (b : Bool) → (r.target == a) ≡ b → map g (stands f a rs) ≡ map h (filter (λ r. r.target == a) rs)
+        → map g (stands f a (r ∷ rs)) ≡ map h (filter (λ r. r.target == a) (r ∷ rs))
+    by true here rest = rw here (λ i. each r i ∷ rest i)
+    by false other rest = rw other rest
+
+abbrev pub pair_held : ℕ → ℕ × Held → Pair
+pair_held a e = pair_at a e.1.entity e.1.value
+
+-- an owner is a dataspace or a connection
+owner_kind : (o : ℕ) → o ≢ 0 → (9 ≤ o → o < 17 → ⊥) → not (list_any (λ d. o == d) dataspaces) ≡ nat_le 17 o
+owner_kind o some no_watcher = grind (arith, nat_tests, some, no_watcher)
+
+-- each dataspace stands once among the dataspaces
+spaces_apart : IsDistinct (λ c d. c == d) dataspaces
+unfolding IsDistinct
+spaces_apart = search rules
+
+each_space : (P : ℕ → Type 0) → ((d : ℕ) → is_space d ≡ true → d < 9 → P d) → AllByRecursion P dataspaces
+each_space P one = (at 1 refl, (at 2 refl, (at 3 refl, (at 4 refl, later))))
+  where
+    at : (d : ℕ) → is_space d ≡ true → P d
+    at d space = one d space (grind (arith, nat_tests, space))
+
+    later : AllByRecursion P (5 ∷ 6 ∷ 7 ∷ 8 ∷ [])
+    later = (at 5 refl, (at 6 refl, (at 7 refl, (at 8 refl, tt))))
+
+-- no dataspace owns the row
+abbrev is_direct : Row → Bool
+is_direct r = not (list_any (λ d. r.owner == d) dataspaces)
+
+-- ---- a sound world in which nothing waits
+
+module _ (w : WorldState) (s : IsSound [] w) (quiet : waiting_in w.table.actors ≡ 0) where
+  abbrev rows : List Row
+  rows = w.table.rows
+
+  -- a dataspace has got the values asserted at it
+  got_asserted : (d : ℕ) → is_space d ≡ true → is_live d w.table ≡ true
+      → values_of (seat_of d w).got ≡ asserted_at d rows
+  got_asserted d space live =
+      let x = found_live (find_actor d w.table.actors) live in
+      ap values_of (got_stands value_alone (16 + w.opened) d w.table (seat_of d w).got x.0.inbox s.table
+      (inbox_empty d w.table.actors x.0 quiet x.1)
+      (subst (IsServed [] d x.0.inbox w) space (s.served d x.0 x.1)))
+      ∙ stands_map value_alone (λ e. e.1) (λ r. r.value) (λ r. refl) d rows
+
+  -- and another actor has got what stands there
+  held_stands : (a : ℕ) → is_space a ≡ false → is_live a w.table ≡ true
+      → map (pair_held a) (held_by a w) ≡ map (pair_of_row a) (filter (λ r. r.target == a) rows)
+  held_stands a other live =
+      let x = found_live (find_actor a w.table.actors) live in
+      ap (map (pair_held a)) (got_stands at_object (16 + w.opened) a w.table (held_by a w) x.0.inbox s.table
+      (inbox_empty a w.table.actors x.0 quiet x.1)
+      (subst (IsServed [] a x.0.inbox w) other (s.served a x.0 x.1)))
+      ∙ stands_map at_object (pair_held a) (pair_of_row a) (λ r. refl) a rows
+
+  -- the rows of a dataspace at an actor are what it tells it
+  space_tells : (a d : ℕ) → is_space d ≡ true → is_live d w.table ≡ true
+      → IsPermutation (map (pair_of_row a) (filter (λ r. (r.target == a) && (r.owner == d)) rows))
+      (told_over a (asserted_at d rows))
+  space_tells a d space live =
+      let met = s.met d space in
+      let wanted : keys_of (seat_of d w).met ≡ wants (asserted_at d rows) =
+      met.keys ∙ ap wants (got_asserted d space live) in
+      let apart : IsDistinct same (keys_of (seat_of d w).met) =
+      subst (IsDistinct same) (sym wanted) (IsDistinct-from_sorted order _ (wants_ascend (asserted_at d rows))) in
+      IsPermutation-trans _ _ _
+      (own_are_meant a d (seat_of d w).met rows s.table.rows_ascend apart (rows_of_met d (seat_of d w) rows met))
+      (subst (λ ks. IsPermutation (map (pair_by a) (filter (goes_to a) ks)) (told_over a (asserted_at d rows)))
+      (sym wanted) (wants_are_told a (asserted_at d rows)))
+
+  -- the others are a connection's
+  owned_directly : AllByRecursion (λ r. is_direct r ≡ nat_le 17 r.owner) rows
+  owned_directly =
+      all_from_found _ rows s.table.rows_ascend
+      (λ h r is. owner_kind r.owner (s.idle h r is)
+      (λ low high. let live = found_owner h w.table r s.table is in
+      let dead = s.no_watchers r.owner low high in
+      absurd cc))
+
+  -- the pairs of a dataspace's rows at an actor, and those that it tells it
+  abbrev pairs_of : ℕ → ℕ → List Pair
+  pairs_of a d = map (pair_of_row a) (filter (λ r. r.owner == d) (filter (λ r. r.target == a) rows))
+
+  abbrev pairs_by : ℕ → ℕ → List Pair
+  pairs_by a d = told_over a (asserted_at d rows)
+
+  told_each : (a : ℕ) → IsPermutation (flat_map (pairs_of a) dataspaces) (flat_map (pairs_by a) dataspaces)
+  told_each a =
+      permutation_flat (pairs_of a) (pairs_by a) dataspaces
+      (each_space (λ d. IsPermutation (pairs_of a d) (pairs_by a d)) one)
+    where
+      one : (d : ℕ) → is_space d ≡ true → d < 9 → IsPermutation (pairs_of a d) (pairs_by a d)
+      one d space low =
+          subst (λ l. IsPermutation (map (pair_of_row a) l) (pairs_by a d))
+          (sym (filter_filter (λ r. r.owner == d) (λ r. r.target == a) rows))
+          (space_tells a d space (s.always d low))
+
+  direct : (a : ℕ)
+      → map (pair_of_row a) (filter is_direct (filter (λ r. r.target == a) rows)) ≡ told_directly a rows
+  direct a =
+      ap (map (pair_of_row a))
+      (filter_filter is_direct (λ r. r.target == a) rows
+      ∙ filter_alike _ _ rows (all_weaker _ _ (λ r is. ap (λ b. (r.target == a) && b) is) rows owned_directly))
+
+  pub held_scratch : (a : ℕ) → is_space a ≡ false → is_live a w.table ≡ true
+      → IsPermutation (map (pair_held a) (held_by a w)) (scratch_at a rows)
+  held_scratch a other live =
+      let here : List Row = filter (λ r. r.target == a) rows in
+      let parts : List Row = flat_map (λ d. filter (λ r. r.owner == d) here) dataspaces in
+      let last : List Row = filter is_direct here in
+      let joined : map (pair_of_row a) (parts ++ last)
+      ≡ flat_map (pairs_of a) dataspaces ++ told_directly a rows =
+      map-append (pair_of_row a) parts last
+      ∙ (λ i. map_flat (pair_of_row a) (λ d. filter (λ r. r.owner == d) here) dataspaces i ++ direct a i) in
+      subst (λ l. IsPermutation l (scratch_at a rows)) (sym (held_stands a other live))
+      (IsPermutation-trans _ _ _
+      (IsPermutation-map (pair_of_row a) here (parts ++ last) (by_number (λ r. r.owner) dataspaces here spaces_apart))
+      (subst (λ l. IsPermutation l (scratch_at a rows)) (sym joined)
+      (IsPermutation-append_left (told_directly a rows) _ _ (told_each a))))
+
+-- ---- a hub
+
+-- a connection is no dataspace
+no_space : (k : ℕ) → is_space (actor_of k) ≡ false
+no_space k = grind (arith, nat_tests)
+
+pub scratch_stands : (s : State) → IsHub [] s → IsSettled s → (k : ℕ) → is_live (actor_of k) s.world.table ≡ true
+    → IsPermutation (map (pair_held (actor_of k)) (held_by (actor_of k) s.world)) (scratch k s)
+scratch_stands s hub settled k live =
+    held_scratch s.world hub.sound (omega (arith, settled)) (actor_of k) (no_space k) live
+
+-- ---- in order
+
+inserted : (x : Holding) (ys : List Holding) → IsPermutation (x ∷ ys) (insert_holding x ys)
+inserted x [] = IsPermutation-refl (x ∷ [])
+inserted x (y ∷ ys) = by (is_before x y) (inserted x ys)
+  where
+    by : (b : Bool) → IsPermutation (x ∷ ys) (insert_holding x ys)
+        → IsPermutation (x ∷ y ∷ ys) (cond b (x ∷ y ∷ ys) (y ∷ insert_holding x ys))
+    by true rest = IsPermutation-refl (x ∷ y ∷ ys)
+    by false rest =
+        IsPermutation-trans (x ∷ y ∷ ys) (y ∷ x ∷ ys) (y ∷ insert_holding x ys)
+        (IsPermutation-middle (x ∷ []) y ys) (IsPermutation-cons y (x ∷ ys) (insert_holding x ys) rest)
+
+pub in_order_permutes : (xs : List Holding) → IsPermutation xs (holdings_in_order xs)
+in_order_permutes [] = IsPermutation-refl []
+in_order_permutes (x ∷ xs) =
+    IsPermutation-trans (x ∷ xs) (x ∷ holdings_in_order xs) (insert_holding x (holdings_in_order xs))
+    (IsPermutation-cons x xs (holdings_in_order xs) (in_order_permutes xs)) (inserted x (holdings_in_order xs))
+
+pairs_of_holdings : (a : ℕ) (es : List (ℕ × Held)) → map pair_of (map (holding_of a) es) ≡ map (pair_held a) es
+pairs_of_holdings a [] = refl
+pairs_of_holdings a (e ∷ es) = ap (λ l. pair_held a e ∷ l) (pairs_of_holdings a es)
+
+-- ---- a run
+
+pub settled_from : Holdings → ((steps : List Step) → AreAllowed opening steps → IsHub [] (replay steps))
+    → SettledHoldings
+settled_from holdings hubs k steps allowed settled live =
+    let a = actor_of k in
+    let s = replay steps in
+    let got : List Holding = map (holding_of a) (held_by a s.world) in
+    subst (λ hs. IsPermutation (map pair_of hs) (scratch k s)) (sym (holdings k steps allowed live))
+    (IsPermutation-trans (map pair_of (holdings_in_order got)) (map pair_of got) (scratch k s)
+    (IsPermutation-map pair_of (holdings_in_order got) got
+    (IsPermutation-sym got (holdings_in_order got) (in_order_permutes got)))
+    (subst (λ l. IsPermutation l (scratch k s)) (sym (pairs_of_holdings a (held_by a s.world)))
+    (scratch_stands s (hubs steps allowed) settled k live)))

@@ -1,0 +1,93 @@
+-- What a connection holds by the events that it was sent is what its actor took of them.
+use Rattle.std.proofs.Common.{◌≡◌, ℕ, ◌<◌, ◌==◌, ◌||◌, List, [], ◌∷◌, ◌++◌, Bool, true, false, not, cond, map, filter}
+use Rattle.std.proofs.Common.{Less, refl, ap, sym, ◌∙◌, arith, append-nil, append_assoc}
+use Rattle.std.specs.List.{AllByRecursion, list_any}
+use Rattle.std.specs.List.Sorted.{IsStrictlySortedBy}
+use Rattle.std.specs.Map.{keys_of}
+use Rattle.std.specs.Ordering.{nat_cmp}
+use Rattle.std.proofs.lemmas.Bool.Decides.{nat_tests}
+use Rattle.std.proofs.lemmas.List.{map-append}
+use Rattle.std.proofs.lemmas.List.Elements.{filter-append}
+use Rattle.std.proofs.lemmas.Map.Keys.{sorted_head, sorted_tail}
+use Rattle.ac_table.specs.declared.batches.Event.{Event}
+use Rattle.ac_table.specs.declared.batches.Event.TheVariants.{Assert, Retract, Message, Sync}
+use Rattle.ac_world.specs.Worlds.{with_entry, without_entry}
+use Rattle.ac_world.specs.declared.held.Held.{Held}
+use Rattle.rl_packet.specs.Holding.{retracted_by, all_kept}
+use Rattle.rl_packet.specs.declared.holding.Holding.{Holding}
+use Rattle.rl_packet.specs.declared.packets.TurnEvent.{TurnEvent}
+use Rattle.hub_core.specs.Machine.{sent_event}
+use Rattle.hub_laws.specs.Settled.{holding_of}
+use Rattle.hub_laws.specs.Standing.{took_all, at_object}
+use Rattle.hub_laws.proofs.Kept.{made_in}
+use Rattle.hub_laws.proofs.Lists.{AreAbove}
+use Rattle.hub_laws.proofs.Logs.{one_of_all, log_took}
+use Rattle.hub_laws.proofs.Moving.{with_entry-above}
+use Rattle.hub_laws.proofs.Turns.{ascend_before}
+
+-- the deliveries whose handles no later event retracts
+abbrev pub lasting : List TurnEvent → List (ℕ × Held) → List (ℕ × Held)
+lasting later got = filter (λ e. not (list_any (retracted_by e.0) later)) got
+
+lasting-none : (got : List (ℕ × Held)) → lasting [] got ≡ got
+lasting-none [] = refl
+lasting-none (e ∷ es) = ap (λ ds. e ∷ ds) (lasting-none es)
+
+-- without a handle below all others
+lasting-above : (h : ℕ) (later : List TurnEvent) (got : List (ℕ × Held)) → AreAbove h (keys_of got)
+    → filter (λ e. not ((h == e.0) || list_any (retracted_by e.0) later)) got ≡ lasting later got
+lasting-above h later [] above = refl
+lasting-above h later (e ∷ es) above = grind (arith, nat_tests, above.0, lasting-above h later es above.1)
+
+-- a retraction that comes takes its handle away
+lasting-without : (h : ℕ) (later : List TurnEvent) (got : List (ℕ × Held)) → IsStrictlySortedBy nat_cmp (keys_of got)
+    → filter (λ e. not ((h == e.0) || list_any (retracted_by e.0) later)) got ≡ lasting later (without_entry h got)
+lasting-without h later [] s = refl
+lasting-without h later (e ∷ es) s =
+    grind (
+      arith,
+      nat_tests,
+      lasting-without h later es (sorted_tail nat_cmp _ _ s),
+      λ (same : e.0 ≡ h). lasting-above h later es (rw (← same) (sorted_head nat_cmp _ _ s)),
+    )
+
+-- handles below the next of those that ascend
+below_next : (ks : List ℕ) (h : ℕ) (rest : List ℕ) → IsStrictlySortedBy nat_cmp (ks ++ h ∷ rest)
+    → AllByRecursion (λ j. j < h) ks
+below_next [] h rest s = tt
+below_next (k ∷ ks) h rest s =
+    let before : nat_cmp k h ≡ Less = one_of_all (λ j. nat_cmp k j ≡ Less) ks h rest (sorted_head nat_cmp _ _ s) in
+    (grind (arith, nat_tests, before), below_next ks h rest (sorted_tail nat_cmp _ _ s))
+
+-- what was got before, where it lasts, and then what the events leave
+kept_took : (a : ℕ) (es : List Event) (got : List (ℕ × Held)) → IsStrictlySortedBy nat_cmp (keys_of got ++ made_in es)
+    → map (holding_of a) (took_all at_object es got)
+    ≡ map (holding_of a) (lasting (map (sent_event a) es) got) ++ all_kept (map (sent_event a) es)
+kept_took a [] got s = sym (append-nil _ ∙ ap (map (holding_of a)) (lasting-none got))
+kept_took a (Assert h entity v ∷ es) got s =
+    kept_took a es (with_entry h (at_object entity v) got) (log_took at_object (Assert h entity v) got (made_in es) s)
+    ∙ ap (λ gs. map (holding_of a) (lasting (map (sent_event a) es) gs) ++ all_kept (map (sent_event a) es))
+    (with_entry-above h (at_object entity v) got (below_next (keys_of got) h (made_in es) s))
+    ∙ ap (λ gs. map (holding_of a) gs ++ all_kept (map (sent_event a) es))
+    (filter-append (λ e. not (list_any (retracted_by e.0) (map (sent_event a) es))) got ((h, at_object entity v) ∷ []))
+    ∙ last (list_any (retracted_by h) (map (sent_event a) es)) (lasting (map (sent_event a) es) got)
+    (all_kept (map (sent_event a) es))
+  where
+    last : (b : Bool) (gs : List (ℕ × Held)) (ks : List Holding)
+        → map (holding_of a) (gs ++ cond (not b) ((h, at_object entity v) ∷ []) []) ++ ks
+        ≡ map (holding_of a) gs ++ cond b ks (holding_of a (h, at_object entity v) ∷ ks)
+    last true gs ks = ap (λ es. map (holding_of a) es ++ ks) (append-nil gs)
+    last false gs ks =
+        ap (λ hs. hs ++ ks) (map-append (holding_of a) gs ((h, at_object entity v) ∷ []))
+        ∙ append_assoc (map (holding_of a) gs) (holding_of a (h, at_object entity v) ∷ []) ks
+kept_took a (Retract h entity ∷ es) got s =
+    kept_took a es (without_entry h got) (log_took at_object (Retract h entity) got (made_in es) s)
+    ∙ ap (λ gs. map (holding_of a) gs ++ all_kept (map (sent_event a) es))
+    (sym (lasting-without h (map (sent_event a) es) got (ascend_before (keys_of got) (made_in es) s)))
+kept_took a (Message entity v ∷ es) got s = kept_took a es got s
+kept_took a (Sync entity peer ∷ es) got s = kept_took a es got s
+
+-- where each handle is made once, ascending, what is held by the events is what was taken of them
+pub kept_is_taken : (a : ℕ) (es : List Event) → IsStrictlySortedBy nat_cmp (made_in es)
+    → all_kept (map (sent_event a) es) ≡ map (holding_of a) (took_all at_object es [])
+kept_is_taken a es s = sym (kept_took a es [] s)

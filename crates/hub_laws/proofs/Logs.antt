@@ -1,0 +1,257 @@
+-- What a dataspace has got after events of a batch: its handles and those of the events to come still ascend, and are
+-- still below the next one.
+use Rattle.std.proofs.Common.{◌≡◌, ℕ, ◌<◌, List, [], ◌∷◌, ◌++◌, Bool, true, false, Option, Some, None, ◌⊎◌, inl}
+use Rattle.std.proofs.Common.{refl, ap, arith, ◌∙◌, cond, Ordering, Less, Equal, Greater, inr}
+use Rattle.std.proofs.Common.{if◌then◌else◌, nat_lt, append_assoc}
+use Rattle.std.proofs.lemmas.List.{append-nil}
+use Rattle.std.specs.BTreeMap.{is_at}
+use Rattle.std.specs.List.{AllByRecursion}
+use Rattle.std.specs.List.Sorted.{IsStrictlySortedBy}
+use Rattle.std.specs.Map.{keys_of, values_of}
+use Rattle.std.specs.Ordering.{nat_cmp, match_ordering}
+use Rattle.pv_value.specs.Plain.{Plain}
+use Rattle.ds_space.specs.Spaces.{Rows, changed, has_row}
+use Rattle.ds_space.specs.Wants.{wants, wanted_weight}
+use Rattle.ds_space.specs.declared.space.SpaceEvent.TheVariants.{Add}
+use Rattle.ds_space.specs.declared.space.Change.{Change}
+use Rattle.ds_space.specs.declared.space.Change.TheVariants.{Left, Came}
+use Rattle.ds_space.specs.Fans.{fan_weight}
+use Rattle.ac_table.specs.declared.batches.Event.{Event}
+use Rattle.ac_table.specs.declared.batches.Event.TheVariants.{Assert, Retract, Message, Sync}
+use Rattle.ac_table.specs.declared.batches.Batch.{Batch}
+use Rattle.ac_table.proofs.Lists.{cmp_above}
+use Rattle.ac_world.specs.Turns.{Turning, Aim, aim_of, came_at, changed_by, all_changed, changes, with_rows, regot}
+use Rattle.ac_world.specs.Turns.{taken_in, passed_on, turned_by, all_turned}
+use Rattle.ac_world.specs.Worlds.{Deliveries, with_entry, without_entry, delivered, all_delivered}
+use Rattle.hub_laws.specs.Standing.{took, took_all, events_of, at_object}
+use Rattle.hub_laws.proofs.Kept.{made_by, made_in, IsLog}
+use Rattle.hub_laws.proofs.Promised.{TurnLog, TurnBelow}
+use Rattle.hub_laws.proofs.Moving.{made_in-append}
+
+-- ---- what ascends still does with one number less, or with one entry more behind or one entry less
+
+all_but_one : (P : ℕ → Type 0) (ks : List ℕ) (h : ℕ) (rest : List ℕ) → AllByRecursion P (ks ++ h ∷ rest)
+    → AllByRecursion P (ks ++ rest)
+all_but_one P [] h rest all = all.1
+all_but_one P (k ∷ ks) h rest all = (all.0, all_but_one P ks h rest all.1)
+
+ascend_but_one : (ks : List ℕ) (h : ℕ) (rest : List ℕ) → IsStrictlySortedBy nat_cmp (ks ++ h ∷ rest)
+    → IsStrictlySortedBy nat_cmp (ks ++ rest)
+unfolding IsStrictlySortedBy
+ascend_but_one [] h rest s = s.1
+ascend_but_one (k ∷ ks) h rest s =
+    (all_but_one (λ j. nat_cmp k j ≡ Less) ks h rest s.0, ascend_but_one ks h rest s.1)
+
+pub one_of_all : (P : ℕ → Type 0) (ks : List ℕ) (h : ℕ) (rest : List ℕ) → AllByRecursion P (ks ++ h ∷ rest) → P h
+one_of_all P [] h rest all = all.0
+one_of_all P (k ∷ ks) h rest all = one_of_all P ks h rest all.1
+
+keys_with : {X : Type 0} (h : ℕ) (x : X) (es : List (ℕ × X)) (rest : List ℕ)
+    → IsStrictlySortedBy nat_cmp (keys_of es ++ h ∷ rest)
+    → keys_of (with_entry h x es) ++ rest ≡ keys_of es ++ h ∷ rest
+unfolding IsStrictlySortedBy
+keys_with h x [] rest s = refl
+keys_with h x (e ∷ es) rest s =
+    rw (cmp_above h e.0 (grind (arith, one_of_all (λ j. nat_cmp e.0 j ≡ Less) (keys_of es) h rest s.0)))
+    (ap (λ t. e.0 ∷ t) (keys_with h x es rest s.1))
+
+all_without_rest : {X : Type 0} (P : ℕ → Type 0) (h : ℕ) (es : List (ℕ × X)) (rest : List ℕ)
+    → AllByRecursion P (keys_of es ++ rest) → AllByRecursion P (keys_of (without_entry h es) ++ rest)
+all_without_rest P h [] rest all = all
+all_without_rest {X = X} P h (e ∷ es) rest all = split (is_at (nat_cmp h) e.0) (all_without_rest P h es rest all.1)
+  where
+    split : (b : Bool) → AllByRecursion P (keys_of (without_entry h es) ++ rest)
+        → AllByRecursion P (keys_of (cond b es (e ∷ without_entry h es)) ++ rest)
+    split true less = all.1
+    split false less = (all.0, less)
+
+ascend_without_rest : {X : Type 0} (h : ℕ) (es : List (ℕ × X)) (rest : List ℕ)
+    → IsStrictlySortedBy nat_cmp (keys_of es ++ rest)
+    → IsStrictlySortedBy nat_cmp (keys_of (without_entry h es) ++ rest)
+unfolding IsStrictlySortedBy
+ascend_without_rest h [] rest s = s
+ascend_without_rest {X = X} h (e ∷ es) rest s = split (is_at (nat_cmp h) e.0) (ascend_without_rest h es rest s.1)
+  where
+    split : (b : Bool) → IsStrictlySortedBy nat_cmp (keys_of (without_entry h es) ++ rest)
+        → IsStrictlySortedBy nat_cmp (keys_of (cond b es (e ∷ without_entry h es)) ++ rest)
+    split true less = s.1
+    split false less = (all_without_rest (λ j. nat_cmp e.0 j ≡ Less) h es rest s.0, less)
+
+all_with_rest : {X : Type 0} (P : ℕ → Type 0) (h : ℕ) (x : X) (es : List (ℕ × X)) (rest : List ℕ)
+    → AllByRecursion P (keys_of es ++ h ∷ rest) → AllByRecursion P (keys_of (with_entry h x es) ++ rest)
+all_with_rest P h x [] rest all = all
+all_with_rest {X = X} P h x (e ∷ es) rest all = split (nat_cmp h e.0) (all_with_rest P h x es rest all.1)
+  where
+    split : (o : Ordering) → AllByRecursion P (keys_of (with_entry h x es) ++ rest)
+        → AllByRecursion P
+        (keys_of (match_ordering o ((h, x) ∷ e ∷ es) ((e.0, x) ∷ es) (e ∷ with_entry h x es)) ++ rest)
+    split Less more = (one_of_all P (e.0 ∷ keys_of es) h rest all, all_but_one P (e.0 ∷ keys_of es) h rest all)
+    split Equal more = all_but_one P (e.0 ∷ keys_of es) h rest all
+    split Greater more = (all.0, more)
+
+-- ---- what one event does to what a dataspace has got
+
+got-came_at : (a : ℕ) (k : Plain) (aim : Option Aim) (t : Turning) → (came_at a k aim t).seat.got ≡ t.seat.got
+got-came_at a k None t = refl
+got-came_at a k (Some aim) t = refl
+
+got-changed_by : (a : ℕ) (c : Change) (t : Turning) → (changed_by a c t).seat.got ≡ t.seat.got
+got-changed_by a (Left k) t = refl
+got-changed_by a (Came k) t = got-came_at a k (aim_of k) t
+
+got-all_changed : (a : ℕ) (cs : List Change) (t : Turning) → (all_changed a cs t).seat.got ≡ t.seat.got
+got-all_changed a [] t = refl
+got-all_changed a (c ∷ cs) t = got-all_changed a cs (changed_by a c t) ∙ got-changed_by a c t
+
+pub got-regot : (a : ℕ) (rows : Rows) (t : Turning) → (regot a rows t).seat.got ≡ rows
+got-regot a rows t =
+    got-all_changed a (changes (wants (values_of t.seat.got)) (wants (values_of rows))) (with_rows rows t)
+
+-- an assertion that comes is got, or it is passed over
+abbrev IsGotOrPassed : ℕ → Plain → Rows → Rows → Type 0
+IsGotOrPassed h v old new = (new ≡ with_entry h v old) ⊎ (new ≡ old)
+
+got-taken_in : (a from h : ℕ) (v : Plain) (t : Turning)
+    → IsGotOrPassed h v t.seat.got (taken_in a from h v t).seat.got
+got-taken_in a from h v t =
+    one_of (has_row h t.seat.got) (nat_lt 33554432 (wanted_weight (values_of (changed t.seat.got (Add h v))))) _ _ refl
+    (got-regot a (with_entry h v t.seat.got) t)
+  where
+    one_of : (b c : Bool) (s u : Turning) → s.seat.got ≡ t.seat.got → u.seat.got ≡ with_entry h v t.seat.got
+        → IsGotOrPassed h v t.seat.got (if b then t else if c then s else u).seat.got
+    one_of true c s u passed got = inr refl
+    one_of false true s u passed got = inr passed
+    one_of false false s u passed got = inl got
+
+got-passed_on : (from : ℕ) (v : Plain) (t : Turning) → (passed_on from v t).seat.got ≡ t.seat.got
+got-passed_on from v t = one_of (nat_lt 33554432 (fan_weight (values_of t.seat.got) v)) _ _ refl refl
+  where
+    one_of : (b : Bool) (s u : Turning) → s.seat.got ≡ t.seat.got → u.seat.got ≡ t.seat.got
+        → (if b then s else u).seat.got ≡ t.seat.got
+    one_of true s u first second = first
+    one_of false s u first second = second
+
+-- ---- handles that ascend
+
+pub log_turned_by : (a from : ℕ) (e : Event) (t : Turning) (rest : List ℕ)
+    → IsStrictlySortedBy nat_cmp (keys_of t.seat.got ++ (made_by e ++ rest))
+    → IsStrictlySortedBy nat_cmp (keys_of (turned_by a from e t).seat.got ++ rest)
+log_turned_by a from (Assert h entity v) t rest s = elim (got-taken_in a from h v t) [
+  | inl got ↦ rw (got, keys_with h v t.seat.got rest s) s
+  | inr passed ↦ rw passed (ascend_but_one (keys_of t.seat.got) h rest s)
+]
+log_turned_by a from (Retract h entity) t rest s =
+    rw (got-regot a (without_entry h t.seat.got) t) (ascend_without_rest h t.seat.got rest s)
+log_turned_by a from (Message entity v) t rest s = rw (got-passed_on from v t) s
+log_turned_by a from (Sync entity peer) t rest s = s
+
+log_all_turned : (a from : ℕ) (t : Turning) (es : List Event) (rest : List ℕ)
+    → IsStrictlySortedBy nat_cmp (keys_of t.seat.got ++ (made_in es ++ rest))
+    → IsStrictlySortedBy nat_cmp (keys_of (all_turned a from es t).seat.got ++ rest)
+log_all_turned a from t [] rest s = s
+log_all_turned a from t (e ∷ es) rest s =
+    log_all_turned a from (turned_by a from e t) es rest
+    (log_turned_by a from e t (made_in es ++ rest) (rw (append_assoc (made_by e) (made_in es) rest) at s))
+
+pub turn_log : TurnLog
+turn_log a from u es rest s =
+    log_all_turned a from u es rest (rw (append_assoc (keys_of u.seat.got) (made_in es) rest) at s)
+
+-- ---- what holds of each handle
+
+all_turned_by : (P : ℕ → Type 0) (a from : ℕ) (e : Event) (t : Turning) (rest : List ℕ)
+    → AllByRecursion P (keys_of t.seat.got ++ (made_by e ++ rest))
+    → AllByRecursion P (keys_of (turned_by a from e t).seat.got ++ rest)
+all_turned_by P a from (Assert h entity v) t rest all = elim (got-taken_in a from h v t) [
+  | inl got ↦ rw got (all_with_rest P h v t.seat.got rest all)
+  | inr passed ↦ rw passed (all_but_one P (keys_of t.seat.got) h rest all)
+]
+all_turned_by P a from (Retract h entity) t rest all =
+    rw (got-regot a (without_entry h t.seat.got) t) (all_without_rest P h t.seat.got rest all)
+all_turned_by P a from (Message entity v) t rest all = rw (got-passed_on from v t) all
+all_turned_by P a from (Sync entity peer) t rest all = all
+
+all_all_turned : (P : ℕ → Type 0) (a from : ℕ) (t : Turning) (es : List Event) (rest : List ℕ)
+    → AllByRecursion P (keys_of t.seat.got ++ (made_in es ++ rest))
+    → AllByRecursion P (keys_of (all_turned a from es t).seat.got ++ rest)
+all_all_turned P a from t [] rest all = all
+all_all_turned P a from t (e ∷ es) rest all =
+    all_all_turned P a from (turned_by a from e t) es rest
+    (all_turned_by P a from e t (made_in es ++ rest) (rw (append_assoc (made_by e) (made_in es) rest) at all))
+
+pub turn_below : TurnBelow
+turn_below a from next u es all =
+    let at_end : AllByRecursion (λ h. h < next) (keys_of u.seat.got ++ (made_in es ++ []))
+    = rw (append-nil (made_in es)) all
+    in rw (append-nil (keys_of (all_turned a from es u).seat.got)) at
+    (all_all_turned (λ h. h < next) a from u es [] at_end)
+
+-- ---- an actor that keeps all that it is told
+
+pub log_took : {X : Type 0} (f : ℕ → Plain → X) (e : Event) (got : List (ℕ × X)) (rest : List ℕ)
+    → IsStrictlySortedBy nat_cmp (keys_of got ++ (made_by e ++ rest))
+    → IsStrictlySortedBy nat_cmp (keys_of (took f e got) ++ rest)
+log_took f (Assert h entity v) got rest s = rw (keys_with h (f entity v) got rest s) s
+log_took f (Retract h entity) got rest s = ascend_without_rest h got rest s
+log_took f (Message entity v) got rest s = s
+log_took f (Sync entity peer) got rest s = s
+
+pub log_took_all : {X : Type 0} (f : ℕ → Plain → X) (es : List Event) (got : List (ℕ × X)) (rest : List ℕ)
+    → IsStrictlySortedBy nat_cmp (keys_of got ++ (made_in es ++ rest))
+    → IsStrictlySortedBy nat_cmp (keys_of (took_all f es got) ++ rest)
+log_took_all f [] got rest s = s
+log_took_all f (e ∷ es) got rest s =
+    log_took_all f es (took f e got) rest
+    (log_took f e got (made_in es ++ rest) (rw (append_assoc (made_by e) (made_in es) rest) at s))
+
+all_took : {X : Type 0} (P : ℕ → Type 0) (f : ℕ → Plain → X) (e : Event) (got : List (ℕ × X)) (rest : List ℕ)
+    → AllByRecursion P (keys_of got ++ (made_by e ++ rest)) → AllByRecursion P (keys_of (took f e got) ++ rest)
+all_took P f (Assert h entity v) got rest all = all_with_rest P h (f entity v) got rest all
+all_took P f (Retract h entity) got rest all = all_without_rest P h got rest all
+all_took P f (Message entity v) got rest all = all
+all_took P f (Sync entity peer) got rest all = all
+
+pub all_took_all : {X : Type 0} (P : ℕ → Type 0) (f : ℕ → Plain → X) (es : List Event) (got : List (ℕ × X))
+    (rest : List ℕ)
+    → AllByRecursion P (keys_of got ++ (made_in es ++ rest)) → AllByRecursion P (keys_of (took_all f es got) ++ rest)
+all_took_all P f [] got rest all = all
+all_took_all P f (e ∷ es) got rest all =
+    all_took_all P f es (took f e got) rest
+    (all_took P f e got (made_in es ++ rest) (rw (append_assoc (made_by e) (made_in es) rest) at all))
+
+connection_took_one : (e : Event) (got : Deliveries) → delivered e got ≡ took at_object e got
+connection_took_one (Assert h entity v) got = refl
+connection_took_one (Retract h entity) got = refl
+connection_took_one (Message entity v) got = refl
+connection_took_one (Sync entity peer) got = refl
+
+-- what was delivered to an actor that is no dataspace is what it took
+pub connection_took : (es : List Event) (got : Deliveries) → all_delivered es got ≡ took_all at_object es got
+connection_took [] got = refl
+connection_took (e ∷ es) got =
+    ap (all_delivered es) (connection_took_one e got) ∙ connection_took es (took at_object e got)
+
+-- ---- the logs after a batch
+
+-- a dataspace takes a batch from its inbox
+pub space_log : (a next : ℕ) (b : Batch) (rest : List Batch) (u : Turning)
+    → IsLog next (keys_of u.seat.got) (b ∷ rest)
+    → IsLog next (keys_of (all_turned a b.from b.events u).seat.got) rest
+space_log a next b rest u log =
+    let e : made_in (events_of (b ∷ rest)) ≡ made_in b.events ++ made_in (events_of rest)
+    = made_in-append b.events (events_of rest)
+    in (
+      log_all_turned a b.from u b.events (made_in (events_of rest)) (rw e at log.0),
+      all_all_turned (λ h. h < next) a b.from u b.events (made_in (events_of rest)) (rw e at log.1),
+    )
+
+-- another actor takes a batch from its own
+pub connection_log : (next : ℕ) (b : Batch) (rest : List Batch) (got : Deliveries)
+    → IsLog next (keys_of got) (b ∷ rest) → IsLog next (keys_of (all_delivered b.events got)) rest
+connection_log next b rest got log =
+    let e : made_in (events_of (b ∷ rest)) ≡ made_in b.events ++ made_in (events_of rest)
+    = made_in-append b.events (events_of rest)
+    in rw (connection_took b.events got) (
+      log_took_all at_object b.events got (made_in (events_of rest)) (rw e at log.0),
+      all_took_all (λ h. h < next) at_object b.events got (made_in (events_of rest)) (rw e at log.1),
+    )

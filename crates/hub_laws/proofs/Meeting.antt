@@ -1,0 +1,318 @@
+-- A dataspace's rows follow its wants.
+use Rattle.std.proofs.Common.{◌≡◌, ℕ, ◌<◌, ◌==◌, List, [], ◌∷◌, ◌++◌, map, Bool, true, false, cond, ◌&&◌, ◌||◌}
+use Rattle.std.proofs.Common.{not, Option, Some, None, is_some, refl, ap, sym, ◌∙◌, subst, arith}
+use Rattle.std.specs.List.{AllByRecursion, IsDistinct}
+use Rattle.std.specs.Map.{keys_of, values_of}
+use Rattle.std.specs.BTreeMap.{is_at}
+use Rattle.std.proofs.lemmas.Bool.Decides.{nat_tests}
+use Rattle.std.specs.Ordering.{eq_by_cmp}
+use Rattle.std.proofs.lemmas.List.Elements.{All-from_recursion}
+use Rattle.std.proofs.lemmas.List.Folds.{list_any_none}
+use Rattle.std.proofs.lemmas.Map.Made.{is_some-lookup}
+use Rattle.std.proofs.lemmas.Map.Keys.{IsDistinct-from_sorted, IsDistinct-head, IsDistinct-tail}
+use Rattle.pv_value.specs.Plain.{Plain}
+use Rattle.pv_value.specs.Order.{order}
+use Rattle.pv_value.specs.WellFormed.{Ascend}
+use Rattle.pv_value.specs.Lemmas.OrderLaws.{order_total, order_same}
+use Rattle.dp_pattern.specs.Matching.{same}
+use Rattle.ds_space.specs.Spaces.{Rows}
+use Rattle.ds_space.specs.declared.space.Change.{Change}
+use Rattle.ds_space.specs.declared.space.Change.TheVariants.{Left, Came}
+use Rattle.ds_space.specs.Wants.{wants}
+use Rattle.ds_space.specs.Changes.{among, without}
+use Rattle.ds_space.specs.Lemmas.Keys.{same_is, same_self, same_turns}
+use Rattle.ds_space.specs.Lemmas.Lists.{unique, wants_ascend}
+use Rattle.ac_table.specs.declared.batches.Row.{Row}
+use Rattle.ac_table.specs.Tables.{TableState, find_row, is_live, without_row}
+use Rattle.ac_world.specs.Outboxes.{Plan, dropped, drop_own, drop_row}
+use Rattle.ac_world.specs.Turns.{Turning, Aim, aim_of, handle_for, drop_met, left, came, came_at, changed_by}
+use Rattle.ac_world.specs.Turns.{all_changed, changes, with_rows, regot}
+use Rattle.hub_laws.specs.Wanting.{IsMet}
+use Rattle.hub_laws.proofs.Kept.{Moves, AreGood}
+use Rattle.hub_laws.proofs.Promised.{RegotMet}
+use Rattle.hub_laws.proofs.Finding.{found_handle, find_row-without, find_row-asserted, none_from_next, row_next}
+use Rattle.hub_laws.proofs.Good.{put_good, dropped_good}
+use Rattle.hub_laws.proofs.Keys.{lookup-insert_entry, lookup-without_entry, insert_entry_ascends, remove_entry_ascends}
+use Rattle.hub_laws.proofs.Moving.{put_moves, dropped_moves}
+use Rattle.hub_laws.proofs.Owned.{HasRows, rows_of_met, met_of_rows, rows_same, rows_less, rows_more}
+use Rattle.hub_laws.proofs.Wanted.{IsAimed, came_aimed, without_ascends, among_without}
+
+-- ---- what the changes leave as it is
+
+keeps_one : (a : ℕ) (c : Change) (u : Turning)
+    → ((changed_by a c u).seat.got ≡ u.seat.got) × ((changed_by a c u).spreads ≡ u.spreads)
+keeps_one a (Left k) u = (refl, refl)
+keeps_one a (Came k) u = by (aim_of k)
+  where
+    by : (o : Option Aim) → ((came_at a k o u).seat.got ≡ u.seat.got) × ((came_at a k o u).spreads ≡ u.spreads)
+    by None = (refl, refl)
+    by (Some aim) = (refl, refl)
+
+all_changed_keeps : (a : ℕ) (cs : List Change) (u : Turning)
+    → ((all_changed a cs u).seat.got ≡ u.seat.got) × ((all_changed a cs u).spreads ≡ u.spreads)
+all_changed_keeps a [] u = (refl, refl)
+all_changed_keeps a (c ∷ cs) u =
+    let one = keeps_one a c u in
+    let rest = all_changed_keeps a cs (changed_by a c u) in
+    (rest.0 ∙ one.0, rest.1 ∙ one.1)
+
+all_changed-append : (a : ℕ) (cs ds : List Change) (u : Turning)
+    → all_changed a (cs ++ ds) u ≡ all_changed a ds (all_changed a cs u)
+all_changed-append a [] ds u = refl
+all_changed-append a (c ∷ cs) ds u = all_changed-append a cs ds (changed_by a c u)
+
+-- ---- a turn whose rows fit its keys
+
+record Meets (n a : ℕ) (t : TableState) (u : Turning) : Type 1 where
+  pub moves : Moves a t u.plan
+  pub good : AreGood n a u.plan
+  pub ascend : Ascend (keys_of u.seat.met)
+  pub rows : HasRows a u.seat.met u.plan.table.rows
+
+abbrev has_key : Plain → Turning → Bool
+has_key q u = among q (keys_of u.seat.met)
+
+among_found : (q : Plain) (met : List (Plain × ℕ)) → among q (keys_of met) ≡ is_some (handle_for q met)
+among_found q met = sym (is_some-lookup (same q) met)
+
+-- ---- a key leaves
+
+-- the row under a handle goes that the actor owns
+dropped_rows : (a h : ℕ) (p : Plan) (r : Row) → find_row h p.table.rows ≡ Some r → r.owner ≡ a
+    → (dropped a h p).table.rows ≡ without_row h p.table.rows
+dropped_rows a h p r found own =
+    let owns : (r.owner == a) ≡ true = grind (arith, nat_tests) in
+    ap (λ (o : Option Row). (drop_own a o p).table.rows) found
+    ∙ ap (λ b. (cond b (drop_row r p) p).table.rows) owns
+    ∙ ap (λ g. without_row g p.table.rows) (found_handle h p.table.rows r found)
+
+module _ (n a : ℕ) (t : TableState) where
+  module _ (k : Plain) (u : Turning) (m : Meets n a t u) where
+    left_found : (q : Plain) → handle_for q (left a k u).seat.met ≡ cond (same k q) None (handle_for q u.seat.met)
+    left_found q = lookup-without_entry order_total order_same q k u.seat.met m.ascend
+
+    left_key : (q : Plain) → has_key q (left a k u) ≡ (has_key q u && not (same k q))
+    left_key q =
+        among_found q (left a k u).seat.met ∙ ap is_some (left_found q) ∙ by (same k q) (handle_for q u.seat.met)
+        ∙ ap (λ b. b && not (same k q)) (sym (among_found q u.seat.met))
+      where
+        by : (b : Bool) (o : Option ℕ) → is_some (cond b None o) ≡ (is_some o && not b)
+        by true None = refl
+        by true (Some h) = refl
+        by false None = refl
+        by false (Some h) = refl
+
+    left_rows : (o : Option ℕ) → handle_for k u.seat.met ≡ o
+        → HasRows a (left a k u).seat.met (drop_met a o u.plan).table.rows
+    left_rows None none =
+        rows_same a u.seat.met (left a k u).seat.met u.plan.table.rows (λ q. left_found q ∙ by q (same k q) refl) m.rows
+      where
+        by : (q : Plain) (b : Bool) → same k q ≡ b → cond b None (handle_for q u.seat.met) ≡ handle_for q u.seat.met
+        by q true e = sym (ap (λ z. handle_for z u.seat.met) (sym (same_is k q e)) ∙ none)
+        by q false e = refl
+    left_rows (Some h) found =
+        let met = m.rows.stand k h found in
+        rows_less a u.seat.met u.plan.table.rows m.rows k h found (left a k u).seat.met
+        (dropped a h u.plan).table.rows left_found
+        (λ g. ap (find_row g) (dropped_rows a h u.plan met.row met.stands met.fits.owner)
+        ∙ find_row-without g h u.plan.table.rows)
+
+    left_meets : Meets n a t (left a k u)
+    left_meets = record {
+      moves = moves (handle_for k u.seat.met);
+      good = good (handle_for k u.seat.met);
+      ascend = remove_entry_ascends order (is_at (order k)) u.seat.met m.ascend;
+      rows = left_rows (handle_for k u.seat.met) refl;
+    }
+      where
+        moves : (o : Option ℕ) → Moves a t (drop_met a o u.plan)
+        moves None = m.moves
+        moves (Some h) = dropped_moves a t u.plan m.moves h
+
+        good : (o : Option ℕ) → AreGood n a (drop_met a o u.plan)
+        good None = m.good
+        good (Some h) = dropped_good n a t u.plan m.moves m.good h
+
+  -- and all that leave
+  record HaveLeft (ks : List Plain) (u v : Turning) : Type 1 where
+    pub meets : Meets n a t v
+    pub keys : (q : Plain) → has_key q v ≡ (has_key q u && not (among q ks))
+
+  all_left : (ks : List Plain) (u : Turning) → Meets n a t u → HaveLeft ks u (all_changed a (map Left ks) u)
+  all_left [] u m = record { meets = m; keys = λ q. by (has_key q u) }
+    where
+      by : (b : Bool) → b ≡ (b && true)
+      by true = refl
+      by false = refl
+  all_left (k ∷ ks) u m =
+      let rest = all_left ks (left a k u) (left_meets k u m) in
+      record {
+        meets = rest.meets;
+        keys = λ q.
+            rest.keys q ∙ ap (λ b. b && not (among q ks)) (left_key k u m q)
+            ∙ by (has_key q u) (same k q) (among q ks)
+            ∙ ap (λ s. has_key q u && not (s || among q ks)) (same_turns k q);
+      }
+    where
+      by : (b s r : Bool) → ((b && not s) && not r) ≡ (b && not (s || r))
+      by false s r = refl
+      by true true r = refl
+      by true false r = refl
+
+-- ---- a key comes
+
+none_from : {X : Type 0} (o : Option X) → is_some o ≡ false → o ≡ None
+none_from None e = refl
+none_from (Some x) e = absurd cc
+
+module _ (n a : ℕ) (t : TableState) (low : a < 9) (live : is_live a t ≡ true) where
+  module _ (k : Plain) (u : Turning) (m : Meets n a t u) (g : IsAimed n k) where
+    placed_found : (q : Plain)
+        → handle_for q (came_at a k (Some g.aim) u).seat.met
+        ≡ cond (same k q) (Some u.plan.table.next) (handle_for q u.seat.met)
+    placed_found q = lookup-insert_entry order_total order_same q k u.plan.table.next u.seat.met
+
+    came_key : (q : Plain) → has_key q (came a k u) ≡ (same q k || has_key q u)
+    came_key q =
+        ap (λ o. has_key q (came_at a k o u)) g.aimed
+        ∙ among_found q (came_at a k (Some g.aim) u).seat.met
+        ∙ ap is_some (placed_found q) ∙ by (same k q) (handle_for q u.seat.met)
+        ∙ (λ i. same_turns k q i || sym (among_found q u.seat.met) i)
+      where
+        by : (b : Bool) (o : Option ℕ) → is_some (cond b (Some u.plan.table.next) o) ≡ (b || is_some o)
+        by true o = refl
+        by false o = refl
+
+    came_meets : has_key k u ≡ false → Meets n a t (came a k u)
+    came_meets new = subst (λ o. Meets n a t (came_at a k o u)) (sym g.aimed) placed
+      where
+        placed : Meets n a t (came_at a k (Some g.aim) u)
+        placed = record {
+          moves = put_moves a t u.plan m.moves live g.aim.at.at g.aim.at.entity g.aim.value;
+          good =
+              put_good n a t u.plan m.moves m.good g.aim.at.at g.aim.at.entity g.aim.value (λ l. g.far) g.known
+              (λ l. absurd (let f = g.far in omega arith));
+          ascend = insert_entry_ascends order_total order_same k u.plan.table.next u.seat.met m.ascend;
+          rows =
+              rows_more a u.seat.met u.plan.table.rows m.rows k u.plan.table.next
+              (row_next a 0 g.aim.at.at g.aim.at.entity g.aim.value u.plan.table)
+              (none_from (handle_for k u.seat.met) (sym (among_found k u.seat.met) ∙ new))
+              (none_from_next u.plan.table.next u.plan.table m.moves.table (omega arith))
+              (record {
+                aim = g.aim;
+                aimed = g.aimed;
+                owner = refl;
+                target = refl;
+                entity = refl;
+                value = refl;
+              })
+              (came_at a k (Some g.aim) u).seat.met (came_at a k (Some g.aim) u).plan.table.rows placed_found
+              (λ h. find_row-asserted h a 0 g.aim.at.at g.aim.at.entity g.aim.value u.plan.table m.moves.table);
+        }
+
+  -- and all that come
+  record HaveCome (ks : List Plain) (u v : Turning) : Type 1 where
+    pub meets : Meets n a t v
+    pub keys : (q : Plain) → has_key q v ≡ (among q ks || has_key q u)
+
+  all_came : (ks : List Plain) (u : Turning) → IsDistinct (eq_by_cmp order) ks → AllByRecursion (IsAimed n) ks
+      → ((q : Plain) → among q ks ≡ true → has_key q u ≡ false) → Meets n a t u
+      → HaveCome ks u (all_changed a (map Came ks) u)
+  all_came [] u d aimed fresh m = record { meets = m; keys = λ q. refl }
+  all_came (k ∷ ks) u d aimed fresh m =
+      let one = came_meets k u m aimed.0 (fresh k (first (same k k) (same_self k))) in
+      let rest =
+      all_came ks (came a k u) (IsDistinct-tail (eq_by_cmp order) k ks d) aimed.1
+      (λ q e. later q e (same q k) refl) one in
+      record {
+        meets = rest.meets;
+        keys = λ q.
+            rest.keys q ∙ ap (λ b. among q ks || b) (came_key k u m aimed.0 q)
+            ∙ by (among q ks) (same q k) (has_key q u);
+      }
+    where
+      by : (r s b : Bool) → (r || (s || b)) ≡ ((s || r) || b)
+      by true true b = refl
+      by true false b = refl
+      by false true b = refl
+      by false false b = refl
+
+      first : (b : Bool) → b ≡ true → (b || among k ks) ≡ true
+      first true e = refl
+      first false e = absurd cc
+
+      behind : (b r : Bool) → r ≡ true → (b || r) ≡ true
+      behind true r e = refl
+      behind false r e = e
+
+      apart : among k ks ≡ false
+      apart =
+          list_any_none (same k) ks
+          (All-from_recursion (λ y. same k y ≡ false) ks (IsDistinct-head (eq_by_cmp order) k ks d))
+
+      later : (q : Plain) → among q ks ≡ true → (b : Bool) → same q k ≡ b → has_key q (came a k u) ≡ false
+      later q e true s =
+          let clash : true ≡ false = sym e ∙ ap (λ z. among z ks) (same_is q k s) ∙ apart in
+          absurd cc
+      later q e false s =
+          came_key k u m aimed.0 q ∙ ap (λ b. b || has_key q u) s
+          ∙ fresh q (behind (same q k) (among q ks) e)
+
+-- ---- all the changes
+
+-- where the keys of the one list that aren't in the other have left, and those the other way round have come
+exchanged : (b a : Bool) → ((not b && a) || (b && not (not a && b))) ≡ a
+exchanged true true = refl
+exchanged true false = refl
+exchanged false true = refl
+exchanged false false = refl
+
+absent : (b a x : Bool) → (not b && a) ≡ true → (b && x) ≡ false
+absent true a x e = absurd cc
+absent false a x e = refl
+
+pub regot_met : RegotMet
+regot_met a n t u rows low nine live moves good met known =
+    let before = wants (values_of u.seat.got) in
+    let after = wants (values_of rows) in
+    let gone = without before after in
+    let new = without after before in
+    let rise : Ascend before = wants_ascend (values_of u.seat.got) in
+    let rise_after : Ascend after = wants_ascend (values_of rows) in
+    let begun : Meets n a t (with_rows rows u) = record {
+      moves = moves;
+      good = good;
+      ascend = subst Ascend (sym met.keys) rise;
+      rows = rows_of_met a u.seat u.plan.table.rows met;
+    } in
+    let had : (q : Plain) → has_key q (with_rows rows u) ≡ among q before = λ q. ap (among q) met.keys in
+    let l = all_left n a t gone (with_rows rows u) begun in
+    let mid = all_changed a (map Left gone) (with_rows rows u) in
+    let mid_keys : (q : Plain) → has_key q mid ≡ (among q before && not (not (among q after) && among q before)) =
+    λ q. l.keys q ∙ (λ i. had q i && not (among_without q before after i)) in
+    let fresh : (q : Plain) → among q new ≡ true → has_key q mid ≡ false =
+    λ q e. mid_keys q ∙ absent (among q before) (among q after) _ (sym (among_without q after before) ∙ e) in
+    let c =
+    all_came n a t low live new mid
+    (IsDistinct-from_sorted order new (without_ascends after before rise_after rise))
+    (came_aimed n (values_of rows) before known) fresh l.meets in
+    let last = all_changed a (map Came new) mid in
+    let kept = all_changed_keeps a (changes before after) (with_rows rows u) in
+    let steps : regot a rows u ≡ last =
+    all_changed-append a (map Left gone) (map Came new) (with_rows rows u) in
+    let keys : keys_of last.seat.met ≡ after =
+    unique (keys_of last.seat.met) after c.meets.ascend rise_after
+    (λ q. c.keys q ∙ (λ i. among_without q after before i || mid_keys q i)
+    ∙ exchanged (among q before) (among q after)) in
+    let is_met : IsMet a last.seat last.plan.table.rows =
+    met_of_rows a last.seat last.plan.table.rows
+    (keys ∙ ap (λ (r : Rows). wants (values_of r)) (sym (ap (λ (v : Turning). v.seat.got) (sym steps) ∙ kept.0)))
+    c.meets.rows in
+    subst (λ (v : Turning). Moves a t v.plan × AreGood n a v.plan × IsMet a v.seat v.plan.table.rows
+    × (v.seat.got ≡ rows) × (v.spreads ≡ u.spreads)) (sym steps) (
+      c.meets.moves,
+      c.meets.good,
+      is_met,
+      ap (λ (v : Turning). v.seat.got) (sym steps) ∙ kept.0,
+      ap (λ (v : Turning). v.spreads) (sym steps) ∙ kept.1,
+    )

@@ -1,0 +1,202 @@
+-- The rows that a dataspace owns, by the key that each is for: how they follow the keys.
+use Rattle.std.proofs.Common.{◌≡◌, ℕ, List, Bool, true, false, cond, ◌==◌, Option, Some, None, ◌⊎◌, inl, inr}
+use Rattle.std.proofs.Common.{refl, ap, sym, ◌∙◌, subst, arith}
+use Rattle.std.specs.Map.{keys_of, values_of}
+use Rattle.std.proofs.lemmas.Bool.Decides.{nat_tests}
+use Rattle.pv_value.specs.Plain.{Plain}
+use Rattle.dp_pattern.specs.Matching.{same}
+use Rattle.ds_space.specs.Wants.{wants}
+use Rattle.ds_space.specs.Lemmas.Keys.{same_is, same_self}
+use Rattle.ac_table.specs.declared.batches.Row.{Row}
+use Rattle.ac_table.specs.Tables.{find_row}
+use Rattle.ac_world.specs.Turns.{handle_for}
+use Rattle.ac_world.specs.Worlds.{Seat, no_seat}
+use Rattle.hub_laws.specs.Wanting.{IsMet, IsMetBy, IsRowFor}
+
+-- under the handle of each key stands a row for it, no two keys have one handle, and the actor has no other row
+pub record HasRows (a : ℕ) (met : List (Plain × ℕ)) (rows : List Row) : Type 0 where
+  pub stand : (k : Plain) (h : ℕ) → handle_for k met ≡ Some h → IsMetBy a rows k h
+  pub apart : (k l : Plain) (h : ℕ) → handle_for k met ≡ Some h → handle_for l met ≡ Some h → k ≡ l
+  pub no_other : (h : ℕ) (r : Row) → find_row h rows ≡ Some r → r.owner ≡ a
+      → (k : Plain) × (handle_for k met ≡ Some h)
+
+pub rows_of_met : (a : ℕ) (seat : Seat) (rows : List Row) → IsMet a seat rows → HasRows a seat.met rows
+rows_of_met a seat rows m = record { stand = m.rows_stand; apart = m.apart; no_other = m.no_other }
+
+pub met_of_rows : (a : ℕ) (seat : Seat) (rows : List Row) → keys_of seat.met ≡ wants (values_of seat.got)
+    → HasRows a seat.met rows → IsMet a seat rows
+met_of_rows a seat rows keys r = record {
+  keys = keys;
+  rows_stand = r.stand;
+  apart = r.apart;
+  no_other = r.no_other;
+}
+
+-- ---- an entry of two lists, of which the second has one less or one more
+
+taken : {X : Type 0} (b : Bool) (o : Option X) (x : X) → cond b None o ≡ Some x → (b ≡ false) × (o ≡ Some x)
+taken true o x e = absurd cc
+taken false o x e = (refl, e)
+
+given : {X : Type 0} (b : Bool) (o : Option X) (y x : X) → cond b (Some y) o ≡ Some x
+    → ((b ≡ true) × (y ≡ x)) ⊎ ((b ≡ false) × (o ≡ Some x))
+given true o y x e = inl (refl, cc)
+given false o y x e = inr (refl, e)
+
+same_number : (h g : ℕ) → (h == g) ≡ true → h ≡ g
+same_number h g e = grind (arith, nat_tests)
+
+-- ---- the same rows
+
+-- the rows of others don't matter
+pub rows_kept : (a : ℕ) (met : List (Plain × ℕ)) (rows rows2 : List Row)
+    → ((h : ℕ) (r : Row) → r.owner ≡ a → find_row h rows ≡ Some r → find_row h rows2 ≡ Some r)
+    → ((h : ℕ) (r : Row) → r.owner ≡ a → find_row h rows2 ≡ Some r → find_row h rows ≡ Some r)
+    → HasRows a met rows → HasRows a met rows2
+rows_kept a met rows rows2 there back has = record {
+  stand = λ k h e. let old = has.stand k h e in record {
+    row = old.row;
+    stands = there h old.row old.fits.owner old.stands;
+    fits = old.fits;
+  };
+  apart = has.apart;
+  no_other = λ h r e own. has.no_other h r (back h r own e) own;
+}
+
+pub met_kept : (a : ℕ) (seat : Seat) (rows rows2 : List Row)
+    → ((h : ℕ) (r : Row) → r.owner ≡ a → find_row h rows ≡ Some r → find_row h rows2 ≡ Some r)
+    → ((h : ℕ) (r : Row) → r.owner ≡ a → find_row h rows2 ≡ Some r → find_row h rows ≡ Some r)
+    → IsMet a seat rows → IsMet a seat rows2
+met_kept a seat rows rows2 there back m =
+    met_of_rows a seat rows2 m.keys (rows_kept a seat.met rows rows2 there back (rows_of_met a seat rows m))
+
+-- where no row is the actor's, a seat with nothing got is met
+pub no_wants_met : (a : ℕ) (rows : List Row) → ((h : ℕ) (r : Row) → find_row h rows ≡ Some r → r.owner ≡ a → ⊥)
+    → IsMet a no_seat rows
+no_wants_met a rows none = record {
+  keys = refl;
+  rows_stand = λ k h e. absurd cc;
+  apart = λ k l h e f. absurd cc;
+  no_other = λ h r e own. absurd (none h r e own);
+}
+
+-- only what is found under a key matters
+pub rows_same : (a : ℕ) (met met2 : List (Plain × ℕ)) (rows : List Row)
+    → ((q : Plain) → handle_for q met2 ≡ handle_for q met) → HasRows a met rows → HasRows a met2 rows
+rows_same a met met2 rows keys has = record {
+  stand = λ k h e. has.stand k h (sym (keys k) ∙ e);
+  apart = λ k l h e f. has.apart k l h (sym (keys k) ∙ e) (sym (keys l) ∙ f);
+  no_other = λ h r e own. let old = has.no_other h r e own in (old.0, keys old.0 ∙ old.1);
+}
+
+-- ---- a key and its row go
+
+module _ (a : ℕ) (met : List (Plain × ℕ)) (rows : List Row) (has : HasRows a met rows) (k : Plain) (h : ℕ)
+    (found : handle_for k met ≡ Some h) where
+  -- another key has another handle
+  other_handle : (q : Plain) (g : ℕ) → same k q ≡ false → handle_for q met ≡ Some g → (h == g) ≡ false
+  other_handle q g other at = by (h == g) refl
+    where
+      by : (b : Bool) → (h == g) ≡ b → b ≡ false
+      by false e = refl
+      by true e =
+          let one : k ≡ q = has.apart k q h found (at ∙ ap Some (sym (same_number h g e))) in
+          let yes : same k q ≡ true = subst (λ z. same k z ≡ true) one (same_self k) in
+          absurd cc
+
+  pub rows_less : (met2 : List (Plain × ℕ)) (rows2 : List Row)
+      → ((q : Plain) → handle_for q met2 ≡ cond (same k q) None (handle_for q met))
+      → ((g : ℕ) → find_row g rows2 ≡ cond (h == g) None (find_row g rows)) → HasRows a met2 rows2
+  rows_less met2 rows2 keys stand = record {
+    stand = λ q g e.
+        let t = taken (same k q) (handle_for q met) g (sym (keys q) ∙ e) in
+        let old = has.stand q g t.1 in
+        record {
+          row = old.row;
+          stands = stand g ∙ ap (λ b. cond b None (find_row g rows)) (other_handle q g t.0 t.1) ∙ old.stands;
+          fits = old.fits;
+        };
+    apart = λ q l g e f.
+        has.apart q l g (taken (same k q) (handle_for q met) g (sym (keys q) ∙ e)).1
+        (taken (same k l) (handle_for l met) g (sym (keys l) ∙ f)).1;
+    no_other = λ g r e own.
+        let t = taken (h == g) (find_row g rows) r (sym (stand g) ∙ e) in
+        let old = has.no_other g r t.1 own in
+        (old.0, keys old.0 ∙ ap (λ b. cond b None (handle_for old.0 met)) (other_key old.0 g t.0 old.1) ∙ old.1);
+  }
+    where
+      other_key : (q : Plain) (g : ℕ) → (h == g) ≡ false → handle_for q met ≡ Some g → same k q ≡ false
+      other_key q g other at = by (same k q) refl
+        where
+          by : (b : Bool) → same k q ≡ b → b ≡ false
+          by false e = refl
+          by true e =
+              let one : Some h ≡ Some g = sym found ∙ ap (λ z. handle_for z met) (same_is k q e) ∙ at in
+              let number : h ≡ g = cc in
+              absurd (grind (arith, nat_tests))
+
+-- ---- a key comes, with a row for it under a handle that no row has
+
+module _ (a : ℕ) (met : List (Plain × ℕ)) (rows : List Row) (has : HasRows a met rows) (k : Plain) (h : ℕ) (r : Row)
+    (new : handle_for k met ≡ None) (free : find_row h rows ≡ None) (fits : IsRowFor a k r) where
+  used : (q : Plain) → handle_for q met ≡ Some h → ⊥
+  used q at = let old = has.stand q h at in let clash : None ≡ Some old.row = sym free ∙ old.stands in cc
+
+  module _ (met2 : List (Plain × ℕ)) (rows2 : List Row)
+      (keys : (q : Plain) → handle_for q met2 ≡ cond (same k q) (Some h) (handle_for q met))
+      (stand : (g : ℕ) → find_row g rows2 ≡ cond (h == g) (Some r) (find_row g rows)) where
+    at_key : (q : Plain) (g : ℕ) → handle_for q met2 ≡ Some g
+        → ((same k q ≡ true) × (h ≡ g)) ⊎ ((same k q ≡ false) × (handle_for q met ≡ Some g))
+    at_key q g e = given (same k q) (handle_for q met) h g (sym (keys q) ∙ e)
+
+    row_at : (q : Plain) (g : ℕ) → ((same k q ≡ true) × (h ≡ g)) ⊎ ((same k q ≡ false) × (handle_for q met ≡ Some g))
+        → IsMetBy a rows2 q g
+    row_at q g (inl e) =
+        let one : (h == h) ≡ true = grind (arith, nat_tests) in
+        let here : IsMetBy a rows2 k h = record {
+          row = r;
+          stands = stand h ∙ ap (λ b. cond b (Some r) (find_row h rows)) one;
+          fits = fits;
+        } in
+        subst (λ z. IsMetBy a rows2 z g) (same_is k q e.0) (subst (IsMetBy a rows2 k) e.1 here)
+    row_at q g (inr e) =
+        let old = has.stand q g e.1 in
+        record { row = old.row; stands = stand g ∙ by (h == g) refl old.row old.stands; fits = old.fits }
+      where
+        by : (b : Bool) → (h == g) ≡ b → (s : Row) → find_row g rows ≡ Some s
+            → cond b (Some r) (find_row g rows) ≡ Some s
+        by false n s at = at
+        by true n s at =
+            let clash : None ≡ Some s = sym free ∙ ap (λ z. find_row z rows) (same_number h g n) ∙ at in
+            absurd cc
+
+    one_key : (q l : Plain) (g : ℕ)
+        → ((same k q ≡ true) × (h ≡ g)) ⊎ ((same k q ≡ false) × (handle_for q met ≡ Some g))
+        → ((same k l ≡ true) × (h ≡ g)) ⊎ ((same k l ≡ false) × (handle_for l met ≡ Some g)) → q ≡ l
+    one_key q l g (inl e) (inl f) = sym (same_is k q e.0) ∙ same_is k l f.0
+    one_key q l g (inl e) (inr f) = absurd (used l (f.1 ∙ ap Some (sym e.1)))
+    one_key q l g (inr e) (inl f) = absurd (used q (e.1 ∙ ap Some (sym f.1)))
+    one_key q l g (inr e) (inr f) = has.apart q l g e.1 f.1
+
+    pub rows_more : HasRows a met2 rows2
+    rows_more = record {
+      stand = λ q g e. row_at q g (at_key q g e);
+      apart = λ q l g e f. one_key q l g (at_key q g e) (at_key l g f);
+      no_other = λ g s e own. by g s own (given (h == g) (find_row g rows) r s (sym (stand g) ∙ e));
+    }
+      where
+        still : (q : Plain) (g : ℕ) (b : Bool) → same k q ≡ b → handle_for q met ≡ Some g
+            → cond b (Some h) (handle_for q met) ≡ Some g
+        still q g false n at = at
+        still q g true n at =
+            let clash : None ≡ Some g = sym new ∙ ap (λ z. handle_for z met) (same_is k q n) ∙ at in
+            absurd cc
+
+        by : (g : ℕ) (s : Row) → s.owner ≡ a
+            → (((h == g) ≡ true) × (r ≡ s)) ⊎ (((h == g) ≡ false) × (find_row g rows ≡ Some s))
+            → (q : Plain) × (handle_for q met2 ≡ Some g)
+        by g s own (inl e) =
+            (k, keys k ∙ ap (λ b. cond b (Some h) (handle_for k met)) (same_self k) ∙ ap Some (same_number h g e.0))
+        by g s own (inr e) =
+            let old = has.no_other g s e.1 own in
+            (old.0, keys old.0 ∙ still old.0 g (same k old.0) refl old.1)

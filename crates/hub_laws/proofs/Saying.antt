@@ -1,0 +1,72 @@
+-- What is only said: messages and answers to syncs change no row.
+use Rattle.std.proofs.Common.{◌≡◌, ℕ, true, List, [], ◌∷◌, Option, Some, None, refl, ◌∙◌}
+use Rattle.std.specs.List.{AllByRecursion}
+use Rattle.pv_value.specs.Plain.{Plain, sequence, plains, boolean}
+use Rattle.ds_space.specs.declared.references.Reference.{Reference}
+use Rattle.ds_space.specs.declared.space.Fanned.{Fanned}
+use Rattle.ds_space.specs.References.{reference_of}
+use Rattle.ac_table.specs.declared.batches.Event.{Event}
+use Rattle.ac_table.specs.declared.batches.Event.TheVariants.{Assert, Retract, Message, Sync}
+use Rattle.ac_table.specs.Tables.{TableState, IsTable}
+use Rattle.ac_world.specs.Outboxes.{Plan, plan_over, said}
+use Rattle.ac_world.specs.Turns.{observer_in, say_to, say_all, answer_to, answered, all_answered}
+use Rattle.hub_laws.proofs.Kept.{IsGood, Moves, AreGood}
+use Rattle.hub_laws.proofs.Good.{begin_good, said_good}
+use Rattle.hub_laws.proofs.Moving.{begin_moves, said_moves}
+
+-- the plan new goes on from old, and has its table
+pub record OnlySays (n a : ℕ) (t : TableState) (old new : Plan) : Type 1 where
+  pub moves : Moves a t new
+  pub good : AreGood n a new
+  pub same : new.table ≡ old.table
+
+said_only : (n a : ℕ) (t : TableState) (p : Plan) (target entity : ℕ) (v : Plain)
+    → Moves a t p → AreGood n a p → OnlySays n a t p (said target (Message entity v) p)
+said_only n a t p target entity v m g = record {
+  moves = said_moves a t p m target (Message entity v) tt;
+  good = said_good n a p g target (Message entity v) tt;
+  same = refl;
+}
+
+pub answer_only : (n a : ℕ) (t : TableState) (p : Plan) (r : Option Reference) → Moves a t p
+    → AreGood n a p → OnlySays n a t p (answer_to r p)
+answer_only n a t p None m g = record { moves = m; good = g; same = refl }
+answer_only n a t p (Some r) m g =
+    said_only n a t p r.at r.entity (boolean true) m g
+
+say_to_only : (n a : ℕ) (t : TableState) (p : Plan) (r : Option Reference) (cs : List Plain)
+    → Moves a t p → AreGood n a p → OnlySays n a t p (say_to r cs p)
+say_to_only n a t p None cs m g = record { moves = m; good = g; same = refl }
+say_to_only n a t p (Some r) cs m g =
+    said_only n a t p r.at r.entity (sequence (plains cs)) m g
+
+pub say_all_only : (n a : ℕ) (t : TableState) (p : Plan) (fs : List Fanned) → Moves a t p
+    → AreGood n a p → OnlySays n a t p (say_all fs p)
+say_all_only n a t p [] m g = record { moves = m; good = g; same = refl }
+say_all_only n a t p (f ∷ fs) m g =
+    let one = say_to_only n a t p (observer_in f.observe) f.captures m g in
+    let next : Plan = say_to (observer_in f.observe) f.captures p in
+    let rest = say_all_only n a t next fs one.moves one.good in
+    record { moves = rest.moves; good = rest.good; same = rest.same ∙ one.same }
+
+-- a system actor that is no dataspace answers syncs, and does no more
+answered_only : (n a : ℕ) (t : TableState) (p : Plan) (e : Event) → Moves a t p → AreGood n a p
+    → OnlySays n a t p (answered e p)
+answered_only n a t p (Assert h entity v) m g = record { moves = m; good = g; same = refl }
+answered_only n a t p (Retract h entity) m g = record { moves = m; good = g; same = refl }
+answered_only n a t p (Message entity v) m g = record { moves = m; good = g; same = refl }
+answered_only n a t p (Sync entity peer) m g =
+    answer_only n a t p (reference_of peer) m g
+
+all_answered_only : (n a : ℕ) (t : TableState) (p : Plan) (es : List Event) → Moves a t p
+    → AreGood n a p → OnlySays n a t p (all_answered es p)
+all_answered_only n a t p [] m g = record { moves = m; good = g; same = refl }
+all_answered_only n a t p (e ∷ es) m g =
+    let one = answered_only n a t p e m g in
+    let rest = all_answered_only n a t (answered e p) es one.moves one.good in
+    record { moves = rest.moves; good = rest.good; same = rest.same ∙ one.same }
+
+pub plain_answers : (n a : ℕ) (t : TableState) (es : List Event)
+    → IsTable t → AllByRecursion (IsGood n) t.rows → OnlySays n a t (plan_over t) (all_answered es (plan_over t))
+plain_answers n a t es table good =
+    all_answered_only n a t (plan_over t) es (begin_moves a t table) (begin_good n a t good)

@@ -1,0 +1,282 @@
+-- A turn keeps the world sound, but for what those made who are to end.
+use Rattle.std.proofs.Common.{◌≡◌, ◌≢◌, ℕ, ◌+◌, ◌<◌, ◌≤◌, List, [], ◌∷◌, ◌++◌, Bool, true, false, Option, Some}
+use Rattle.std.proofs.Common.{None}
+use Rattle.std.proofs.Common.{refl, sym, ap, ◌∙◌, subst, arith, inl, inr, append_assoc}
+use Rattle.std.specs.Prelude.{unwrap_or, slice_get}
+use Rattle.std.specs.List.{AllByRecursion}
+use Rattle.std.specs.List.Sorted.{IsStrictlySortedBy}
+use Rattle.std.specs.Map.{keys_of, values_of}
+use Rattle.std.specs.Ordering.{nat_cmp}
+use Rattle.std.proofs.lemmas.Bool.Decides.{nat_tests}
+use Rattle.std.proofs.lemmas.Map.Keys.{sorted_head, sorted_tail}
+use Rattle.pv_value.specs.Plain.{Plain}
+use Rattle.ds_space.specs.Spaces.{Rows}
+use Rattle.ac_table.specs.declared.batches.Row.{Row}
+use Rattle.ac_table.specs.declared.batches.Batch.{Batch}
+use Rattle.ac_table.specs.Tables.{TableState, Actor, find_actor, find_row, is_live, first_batch, first_in}
+use Rattle.ac_table.specs.Tables.{popped}
+use Rattle.ac_world.specs.Turns.{After as TurnOf, Turning, begin_turn, all_turned, space_turn}
+use Rattle.ac_world.specs.Worlds.{WorldState, Seat, seat_of, held_by, with_entry, is_space}
+use Rattle.ac_world.specs.Worlds.{no_seat}
+use Rattle.ac_world.specs.declared.turns.Turned.{Turned}
+use Rattle.ac_world.specs.declared.turns.Turned.TheVariants as turned
+use Rattle.hub_laws.specs.Standing.{stands, took_all, events_of, value_alone, at_object}
+use Rattle.hub_laws.specs.Wanting.{IsMet}
+use Rattle.hub_laws.proofs.Committing.{IsPlanned, commit_sound, live_done}
+use Rattle.hub_laws.proofs.Entries.{put_found, put_other}
+use Rattle.hub_laws.proofs.Good.{begin_good}
+use Rattle.hub_laws.proofs.Kept.{KeysAscend, IsExcused, IsNear, IsKnown, Runs}
+use Rattle.hub_laws.proofs.Kept.{IsServedBy, FitsBatch}
+use Rattle.hub_laws.proofs.Kept.{IsServed, IsSound, actors_in, made_in, IsLog}
+use Rattle.hub_laws.proofs.Leaving.{one_or_not}
+use Rattle.hub_laws.proofs.Lists.{took_all_append, near_took, ascend_none, ascend_cons, all_weaker}
+use Rattle.hub_laws.proofs.Logs.{space_log}
+use Rattle.hub_laws.proofs.Moving.{begin_moves, made_in-append}
+use Rattle.hub_laws.proofs.Owned.{met_kept}
+use Rattle.hub_laws.proofs.Asked.{MetKept}
+use Rattle.hub_laws.proofs.Packets.{met_others, idle_after}
+use Rattle.hub_laws.proofs.Posting.{posted_to, posted_table, live-popped, table-popped, found-popped}
+use Rattle.hub_laws.proofs.Posting.{found-popped_other}
+use Rattle.hub_laws.proofs.Turning.{turn_runs}
+use Rattle.hub_laws.proofs.Serving.{served_after, all_before}
+
+-- ---- who is near, with more to end, and one step further
+
+more_excuse : (ends : List ℕ) (o : Option Row) → IsExcused [] o → IsExcused ends o
+more_excuse ends None e = tt
+more_excuse ends (Some r) e = absurd cc
+
+near_any : {X : Type 0} (ends : List ℕ) (rows : List Row) (should kept : List (ℕ × X)) → IsNear [] rows should kept
+    → IsNear ends rows should kept
+near_any ends rows should kept n = record {
+  should_ascends = n.should_ascends;
+  kept_ascends = n.kept_ascends;
+  near = λ h. elim (n.near h) [
+    | inl same ↦ inl same
+    | inr lost ↦ inr (lost.0, more_excuse ends (find_row h rows) lost.1)
+  ];
+}
+
+near_both : {X : Type 0} (ends : List ℕ) (rows : List Row)
+    (should full kept : List (ℕ × X)) → IsNear [] rows should full
+    → IsNear ends rows full kept → IsNear ends rows should kept
+near_both ends rows should full kept m n = record {
+  should_ascends = m.should_ascends;
+  kept_ascends = n.kept_ascends;
+  near = λ h. elim (n.near h) [
+    | inl same ↦ elim (m.near h) [
+      | inl also ↦ inl (same ∙ also)
+      | inr lost ↦ inr (same ∙ lost.0, more_excuse ends (find_row h rows) lost.1)
+    ]
+    | inr gone ↦ inr gone
+  ];
+}
+
+near_self : {X : Type 0} (rows : List Row) (got : List (ℕ × X)) → KeysAscend got → IsNear [] rows got got
+near_self rows got s = record { should_ascends = s; kept_ascends = s; near = λ h. inl refl }
+
+served_any : {X : Type 0} (f : ℕ → Plain → X) (ends : List ℕ) (n : ℕ) (rows : List Row) (next a : ℕ)
+    (got : List (ℕ × X)) (inbox : List Batch) → IsServedBy f [] n rows next a got inbox
+    → IsServedBy f ends n rows next a got inbox
+served_any f ends n rows next a got inbox s =
+    record { near = λ here. near_any ends rows _ _ (s.near refl); log = s.log; fits = s.fits }
+
+-- the first of numbers that ascend
+pub ascend_before : (xs ys : List ℕ) → IsStrictlySortedBy nat_cmp (xs ++ ys) → IsStrictlySortedBy nat_cmp xs
+ascend_before [] ys s = ascend_none
+ascend_before (x ∷ xs) ys s =
+    ascend_cons x xs (all_before _ xs ys (sorted_head nat_cmp _ _ s)) (ascend_before xs ys (sorted_tail nat_cmp _ _ s))
+
+-- the wants of a dataspace, as endings and plans of others keep them
+pub still_met : MetKept
+still_met a seat old new k there back = met_kept a seat old new there back k
+
+-- ---- the batch
+
+-- the actor whose first batch this is
+pub record HasFirst (a : ℕ) (t : TableState) (b : Batch) : Type 0 where
+  pub actor : Actor
+  pub found : find_actor a t.actors ≡ Some actor
+  pub rest : List Batch
+  pub inbox : actor.inbox ≡ b ∷ rest
+
+first_of_inbox : (bs : List Batch) (b : Batch) → slice_get bs 0 ≡ Some b → (rest : List Batch) × (bs ≡ b ∷ rest)
+first_of_inbox [] b is = absurd cc
+first_of_inbox (c ∷ cs) b is = let same : c ≡ b = cc in (cs, ap (λ d. d ∷ cs) same)
+
+pub has_first : (a : ℕ) (t : TableState) (b : Batch) → first_batch a t ≡ Some b → HasFirst a t b
+has_first a t b is = by (find_actor a t.actors) refl is
+  where
+    by : (o : Option Actor) → find_actor a t.actors ≡ o → first_in o ≡ Some b → HasFirst a t b
+    by None found is = absurd cc
+    by (Some x) found is =
+        let r = first_of_inbox x.inbox b is in record { actor = x; found = found; rest = r.0; inbox = r.1 }
+
+abbrev pub without_first : ℕ → WorldState → WorldState
+without_first a w = record w { table = popped a w.table }
+
+-- ---- a dataspace's turn
+
+space_low : (a : ℕ) → is_space a ≡ true → a < 9
+space_low a is = grind (arith, nat_tests, is)
+
+space_above : (a : ℕ) → is_space a ≡ true → a ≢ 0
+space_above a is same = absurd (grind (arith, nat_tests, is, same))
+
+abbrev pub turning_of : ℕ → Batch → WorldState → Turning
+turning_of a b w = all_turned a b.from b.events (begin_turn a (without_first a w))
+
+abbrev pub space_after : ℕ → Batch → WorldState → WorldState
+space_after a b w = record (without_first a w) { spaces = with_entry a (turning_of a b w).seat w.spaces }
+
+pub space_runs : (a : ℕ) (b : Batch) (w : WorldState) → IsSound [] w → is_space a ≡ true
+    → first_batch a w.table ≡ Some b
+    → Runs (16 + w.opened) a (popped a w.table) (took_all value_alone b.events (seat_of a w).got) (turning_of a b w)
+space_runs a b w k space is =
+    let x = has_first a w.table b is in
+    let served = in_space a w x.actor space (k.served a x.actor x.found) in
+    let log = subst (λ bs. IsLog w.table.next (keys_of (seat_of a w).got) bs) x.inbox served.log in
+    let front : IsStrictlySortedBy nat_cmp (keys_of (seat_of a w).got ++ made_in b.events) =
+    ascend_before (keys_of (seat_of a w).got ++ made_in b.events) (made_in (events_of x.rest))
+    (subst (IsStrictlySortedBy nat_cmp)
+    (ap (λ hs. keys_of (seat_of a w).got ++ hs) (made_in-append b.events (events_of x.rest))
+    ∙ sym (append_assoc (keys_of (seat_of a w).got) (made_in b.events) (made_in (events_of x.rest)))) log.0) in
+    turn_runs (16 + w.opened) a b.from (popped a w.table) (seat_of a w).got (begin_turn a (without_first a w)) b.events
+    (space_low a space) (omega arith) (table-popped a w.table k.table)
+    (live-popped a a w.table ∙ k.always a (space_low a space))
+    (λ c l m. live-popped a c w.table ∙ k.no_watchers c l m) k.rows
+    (subst (AllByRecursion (FitsBatch (16 + w.opened) w.table.rows a)) x.inbox served.fits).0
+    front
+    (record {
+      moves = begin_moves a (popped a w.table) (table-popped a w.table k.table);
+      good = begin_good (16 + w.opened) a (popped a w.table) k.rows;
+      met = k.met a space;
+      near = near_self w.table.rows (seat_of a w).got
+          (ascend_before (keys_of (seat_of a w).got) (made_in b.events) front);
+      known = k.known a space;
+      ends = tt;
+    })
+  where
+    in_space : (a : ℕ) (w : WorldState) (x : Actor) → is_space a ≡ true → IsServed [] a x.inbox w (is_space a)
+        → IsServedBy value_alone [] (16 + w.opened) w.table.rows w.table.next a (seat_of a w).got x.inbox
+    in_space a w x is s = subst (IsServed [] a x.inbox w) is s
+
+-- who is served in the world without the batch, as the dataspace leaves it
+space_served_self : (ends : List ℕ) (a : ℕ) (b : Batch) (rest : List Batch) (w : WorldState) (full : Rows) (seat : Seat)
+    → IsServedBy value_alone [] (16 + w.opened) w.table.rows w.table.next a (seat_of a w).got (b ∷ rest)
+    → IsNear ends w.table.rows (took_all value_alone b.events (seat_of a w).got) seat.got
+    → IsLog w.table.next (keys_of seat.got) rest
+    → IsServedBy value_alone ends (16 + w.opened) w.table.rows w.table.next a seat.got rest
+space_served_self ends a b rest w full seat s n log = record {
+  near = λ here.
+      near_both ends w.table.rows (stands value_alone a w.table.rows)
+      (took_all value_alone (events_of rest) (took_all value_alone b.events (seat_of a w).got))
+      (took_all value_alone (events_of rest) seat.got)
+      (subst (IsNear [] w.table.rows (stands value_alone a w.table.rows))
+      (took_all_append Plain value_alone b.events (events_of rest) (seat_of a w).got) (s.near refl))
+      (near_took Plain value_alone ends w.table.rows (events_of rest) _ _ n);
+  log = log;
+  fits = s.fits.1;
+}
+
+-- another actor's part is what it was
+seat_other : (a c : ℕ) (seat : Seat) (w : WorldState) → c ≢ a
+    → seat_of c (record (without_first a w) { spaces = with_entry a seat w.spaces }) ≡ seat_of c w
+seat_other a c seat w ne = ap (λ o. unwrap_or o no_seat) (put_other a c seat w.spaces ne)
+
+seat_self : (a : ℕ) (seat : Seat) (w : WorldState)
+    → seat_of a (record (without_first a w) { spaces = with_entry a seat w.spaces }) ≡ seat
+seat_self a seat w = ap (λ o. unwrap_or o no_seat) (put_found a seat w.spaces)
+
+space_served_other : (ends : List ℕ) (a c : ℕ) (seat : Seat) (w : WorldState) (inbox : List Batch) → c ≢ a → (s : Bool)
+    → IsServed [] c inbox w s
+    → IsServed ends c inbox (record (without_first a w) { spaces = with_entry a seat w.spaces }) s
+space_served_other ends a c seat w inbox ne true s =
+    subst (λ (z : Seat). IsServedBy value_alone ends (16 + w.opened) w.table.rows w.table.next c z.got inbox)
+    (sym (seat_other a c seat w ne)) (served_any value_alone ends _ _ _ c (seat_of c w).got inbox s)
+space_served_other ends a c seat w inbox ne false s = served_any at_object ends _ _ _ c (held_by c w) inbox s
+
+space_served : (ends : List ℕ) (a : ℕ) (b : Batch) (w : WorldState) (seat : Seat) → IsSound [] w → is_space a ≡ true
+    → first_batch a w.table ≡ Some b
+    → IsNear ends w.table.rows (took_all value_alone b.events (seat_of a w).got) seat.got
+    → ((rest : List Batch) → IsLog w.table.next (keys_of (seat_of a w).got) (b ∷ rest)
+    → IsLog w.table.next (keys_of seat.got) rest)
+    → (c : ℕ) (x : Actor) → find_actor c (popped a w.table).actors ≡ Some x
+    → IsServed ends c x.inbox (record (without_first a w) { spaces = with_entry a seat w.spaces }) (is_space c)
+space_served ends a b w seat k space is near log c x found = elim (one_or_not c a) [
+  | inr ne ↦ space_served_other ends a c seat w x.inbox ne (is_space c)
+      (k.served c x (sym (found-popped_other a c w.table ne) ∙ found))
+  | inl same ↦
+      (let y = found-popped a w.table b x is (ap (λ i. find_actor i (popped a w.table).actors) (sym same) ∙ found) in
+      let s = subst (IsServed [] a y.0.inbox w) space (k.served a y.0 y.1) in
+      let t = subst (λ bs. IsServedBy value_alone [] (16 + w.opened) w.table.rows w.table.next a
+      (seat_of a w).got bs) y.2 s in
+      let u = space_served_self ends a b x.inbox w [] seat t near (log x.inbox t.log) in
+      subst (λ i. IsServed ends i x.inbox (record (without_first a w) { spaces = with_entry a seat w.spaces })
+      (is_space i))
+      (sym same)
+      (subst (IsServed ends a x.inbox (record (without_first a w) { spaces = with_entry a seat w.spaces })) (sym space)
+      (subst (λ (z : Seat). IsServedBy value_alone ends (16 + w.opened) w.table.rows w.table.next a z.got x.inbox)
+      (sym (seat_self a seat w)) u)))
+]
+
+space_planned : (a : ℕ) (b : Batch) (w : WorldState) → IsSound [] w → is_space a ≡ true
+    → first_batch a w.table ≡ Some b
+    → IsPlanned (actors_in (turning_of a b w).spreads) (space_after a b w) a (turning_of a b w).plan
+space_planned a b w k space is =
+    let u : Turning = turning_of a b w in
+    let r = space_runs a b w k space is in
+    record {
+      table = table-popped a w.table k.table;
+      always = λ c l. live-popped a c w.table ∙ k.always c l;
+      no_watchers = λ c l m. live-popped a c w.table ∙ k.no_watchers c l m;
+      numbers = λ c live. k.numbers c (sym (live-popped a c w.table) ∙ live);
+      served = space_served (actors_in u.spreads) a b w u.seat k space is r.near
+          (λ rest log. space_log a w.table.next b rest (begin_turn a (without_first a w)) log);
+      known = λ c s. elim (one_or_not c a) [
+        | inl same ↦ subst (λ i. AllByRecursion (IsKnown (16 + w.opened))
+            (values_of (seat_of i (space_after a b w)).got))
+            (sym same) (subst (λ (z : Seat). AllByRecursion (IsKnown (16 + w.opened)) (values_of z.got))
+            (sym (seat_self a u.seat w)) r.known)
+        | inr ne ↦ subst (λ (z : Seat). AllByRecursion (IsKnown (16 + w.opened)) (values_of z.got))
+            (sym (seat_other a c u.seat w ne)) (k.known c s)
+      ];
+      held_ascends = k.held_ascends;
+      unheld = λ c dead. k.unheld c (sym (live-popped a c w.table) ∙ dead);
+      moves = r.moves;
+      good = r.good;
+      met = λ c s. elim (one_or_not c a) [
+        | inl same ↦ subst (λ i. IsMet i (seat_of i (space_after a b w)) u.plan.table.rows) (sym same)
+            (subst (λ (z : Seat). IsMet a z u.plan.table.rows) (sym (seat_self a u.seat w)) r.met)
+        | inr ne ↦ subst (λ (z : Seat). IsMet c z u.plan.table.rows) (sym (seat_other a c u.seat w ne))
+            (met_others still_met a c (seat_of c w) (popped a w.table) u.plan ne r.moves (k.met c s))
+      ];
+      idle = idle_after a (popped a w.table) u.plan (space_above a space) r.moves k.idle;
+    }
+
+-- ---- what a turn keeps
+
+abbrev pub ends_of : Turned → List ℕ
+ends_of (turned.Ran xs) = actors_in xs
+ends_of (turned.Taken b) = []
+ends_of turned.Idle = []
+ends_of turned.Gone = []
+
+pub record IsTurned (w : WorldState) (t : TurnOf) : Type 0 where
+  pub sound : IsSound (ends_of t.turned) t.world
+  pub far : AllByRecursion (λ c. 17 ≤ c) (ends_of t.turned)
+  pub lives : (b : ℕ) → is_live b t.world.table ≡ is_live b w.table
+
+pub space_turned : (a : ℕ) (b : Batch) (w : WorldState) → IsSound [] w → is_space a ≡ true
+    → first_batch a w.table ≡ Some b → IsTurned w (space_turn a b (without_first a w))
+space_turned a b w k space is =
+    let p = space_planned a b w k space is in
+    record {
+      sound = commit_sound posted_to posted_table served_after (actors_in (turning_of a b w).spreads)
+          (space_after a b w) a
+          (turning_of a b w).plan p;
+      far = all_weaker _ (λ c. 17 ≤ c) (λ c e. e.0) (actors_in (turning_of a b w).spreads)
+          (space_runs a b w k space is).ends;
+      lives = λ c. live_done posted_table (space_after a b w) a c
+          (turning_of a b w).plan p.moves ∙ live-popped a c w.table;
+    }

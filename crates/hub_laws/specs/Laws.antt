@@ -1,0 +1,39 @@
+-- What holds after every list of steps whose callers saw to their conditions.
+use Rattle.std.specs.Prelude.{ℕ, List, [], ◌∷◌}
+use Rattle.hub_core.specs.State.{State, opening}
+use Rattle.hub_core.specs.Machine.{step, IsAllowed}
+use Rattle.hub_core.specs.Replays.{replay, IsSettled}
+use Rattle.hub_core.specs.declared.steps.Step.{Step}
+use Rattle.hub_laws.specs.Delivery.{IsDelivered, IsGot}
+use Rattle.hub_laws.specs.Wanting.{AreMet}
+use Rattle.hub_laws.specs.Endings.{HaveEnded}
+use Rattle.hub_laws.specs.Settled.{HoldsWhatItGot, HoldsFromScratch}
+
+-- each step meets its condition in the state that the steps before it leave
+abbrev pub AreAllowed : State → List Step → Type 0
+AreAllowed s [] = Unit {0}
+AreAllowed s (e ∷ es) = IsAllowed s e × AreAllowed (step s e).state es
+
+abbrev pub AfterAll : (State → Type 0) → Type 0
+AfterAll P = (steps : List Step) → AreAllowed opening steps → P (replay steps)
+
+abbrev pub Delivery : Type 0
+Delivery = AfterAll (λ s. IsDelivered s.world)
+
+-- where nothing is pending, inboxes are empty
+abbrev pub SettledDelivery : Type 0
+SettledDelivery = AfterAll (λ s. IsSettled s → IsGot s.world)
+
+abbrev pub Wants : Type 0
+Wants = AfterAll (λ s. AreMet s.world)
+
+abbrev pub Endings : Type 0
+Endings = AfterAll HaveEnded
+
+-- what each live connection holds is what it has got
+abbrev pub Holdings : Type 0
+Holdings = (k : ℕ) (steps : List Step) → AreAllowed opening steps → HoldsWhatItGot k steps
+
+-- where nothing is pending, it holds exactly what is captured from scratch
+abbrev pub SettledHoldings : Type 0
+SettledHoldings = (k : ℕ) (steps : List Step) → AreAllowed opening steps → HoldsFromScratch k steps

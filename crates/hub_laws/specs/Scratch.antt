@@ -1,0 +1,65 @@
+-- What a live connection holds once nothing is pending, from the rows alone. Syndicate Protocol, "dataspaces": each
+-- observer is told of each distinct list of captures of its observation, once.
+use Rattle.std.specs.Prelude.{ℕ, List, [], ◌∷◌, ◌++◌, map, not, ◌==◌, ◌&&◌, nat_le, Option, Some, None, filter}
+use Rattle.std.specs.Prelude.{if◌then◌else◌}
+use Rattle.std.specs.List.{flat_map}
+use Rattle.pv_value.specs.Plain.{Plain, sequence, plains}
+use Rattle.dp_pattern.specs.Patterns.{Pattern}
+use Rattle.dp_pattern.specs.Matching.{same, matched}
+use Rattle.ds_space.specs.declared.references.Reference.{Reference}
+use Rattle.ds_space.specs.Wants.{observer_of}
+use Rattle.ac_table.specs.declared.batches.Row.{Row}
+use Rattle.ac_world.specs.Turns.{observer_in}
+use Rattle.ac_world.specs.Worlds.{actor_of}
+use Rattle.hub_core.specs.Crossing.{crossed_out}
+use Rattle.hub_core.specs.State.{State}
+
+-- an object of the connection's, and what is asserted there, as the connection knows it
+pub record Pair : Type 0 where
+  pub oid : ℕ
+  pub value : Plain
+
+-- each value once
+abbrev pub distinct : List Plain → List Plain
+distinct [] = []
+distinct (v ∷ vs) = v ∷ filter (λ w. not (same v w)) (distinct vs)
+
+-- the values that are asserted at an actor
+abbrev pub asserted_at : ℕ → List Row → List Plain
+asserted_at a rows = map (λ r. r.value) (filter (λ r. r.target == a) rows)
+
+abbrev pub as_sequence : Option (List Plain) → List Plain
+as_sequence None = []
+as_sequence (Some cs) = sequence (plains cs) ∷ []
+
+-- the lists of captures of a pattern, over values
+abbrev pub captures_by : Pattern → List Plain → List Plain
+captures_by p vs = flat_map (λ v. as_sequence (matched p v)) vs
+
+abbrev pub pair_at : ℕ → ℕ → Plain → Pair
+pair_at a entity v = record { oid = entity; value = crossed_out a v }
+
+-- an observer that is an object of actor a holds each distinct list of captures
+abbrev pub told_by : ℕ → List Plain → Option Reference → Option Pattern → List Pair
+told_by a vs (Some r) (Some p) = if r.at == a then map (pair_at a r.entity) (distinct (captures_by p vs)) else []
+told_by a vs (Some r) None = []
+told_by a vs None o = []
+
+-- for each distinct observation among the values at a dataspace
+abbrev pub told_over : ℕ → List Plain → List Pair
+told_over a vs = flat_map (λ o. told_by a vs (observer_in o) (observer_of o)) (distinct vs)
+
+-- and what connections assert at it directly
+abbrev pub told_directly : ℕ → List Row → List Pair
+told_directly a rows =
+    map (λ r. pair_at a r.entity r.value) (filter (λ r. (r.target == a) && nat_le 17 r.owner) rows)
+
+abbrev pub dataspaces : List ℕ
+dataspaces = 1 ∷ 2 ∷ 3 ∷ 4 ∷ 5 ∷ 6 ∷ 7 ∷ 8 ∷ []
+
+abbrev pub scratch_at : ℕ → List Row → List Pair
+scratch_at a rows = flat_map (λ d. told_over a (asserted_at d rows)) dataspaces ++ told_directly a rows
+
+-- connection k, from scratch
+abbrev pub scratch : ℕ → State → List Pair
+scratch k s = scratch_at (actor_of k) s.world.table.rows

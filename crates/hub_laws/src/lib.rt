@@ -1,0 +1,39 @@
+//! Laws of the machine over all its runs: what holds after every list of steps whose callers saw to
+//! their conditions. Each is the contract of a function that does nothing, and is proved of the
+//! definitions alone: `specs/Laws.antt` has them.
+#![tactic(auto)]
+
+ghost use Rattle.hub_laws.specs.Laws.{Delivery, SettledDelivery, Wants, Endings};
+ghost use Rattle.hub_laws.specs.Laws.{Holdings, SettledHoldings};
+
+/// Delivery: what a live actor has got, followed by the events of its inbox, is what stands at it.
+pub fn what_stands_is_delivered()
+    ensures { Delivery }
+{}
+
+/// Settled delivery: where nothing is pending, what a live actor has got is what stands at it.
+pub fn what_stands_is_got()
+    ensures { SettledDelivery }
+{}
+
+/// Wants: the rows that a dataspace owns are those of what it wants by what it has got, one for
+/// each key, and no others.
+pub fn rows_are_wants()
+    ensures { Wants }
+{}
+
+/// Endings: no row has an owner that isn't live, and nothing is kept of an ended connection.
+pub fn endings_leave_nothing()
+    ensures { Endings }
+{}
+
+/// Holdings: what each live connection holds by the packets that it was sent is what it has got.
+pub fn holdings_are_what_was_got()
+    ensures { Holdings }
+{}
+
+/// Settled holdings: where nothing is pending, each live connection holds exactly what is captured
+/// from scratch, each pair of an object and a value as often.
+pub fn settled_holdings_are_from_scratch()
+    ensures { SettledHoldings }
+{}

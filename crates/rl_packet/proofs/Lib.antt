@@ -1,0 +1,4 @@
+pub mod Events
+pub mod Keeping
+pub mod Refusals
+pub mod Wires

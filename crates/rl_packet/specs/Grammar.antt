@@ -1,0 +1,92 @@
+-- Which values are packets. Syndicate Protocol, "packets": a turn is a sequence of events `[oid event]`, an event
+-- `<A assertion handle>`, `<R handle>`, `<M body>` or `<S #:peer>`; an error is `<error message detail>`, the message
+-- a string; `#f` means nothing; any other record is an extension. Oids and handles are from 0 to 2 ^ 63 - 1.
+use Rattle.std.specs.Prelude.{◌≡◌, zero, suc, pos, ◌^◌, ◌<◌, Bool, true, false, ◌&&◌, List, is_some}
+use Rattle.std.specs.List.{AllByRecursion}
+use Rattle.pv_value.specs.Plain.{Plain, integer, string, record_of, sequence, set_of, dictionary, embedded}
+use Rattle.pv_value.specs.Plain.{Plains, no_more, then_more, PlainPairs, no_pairs, then_pair}
+use Rattle.dp_pattern.specs.Words.{number_in}
+use Rattle.rl_packet.specs.Packets.{Event, Assert, Retract, Message, Sync, TurnEvent, event_value, aimed_value}
+use Rattle.rl_packet.specs.Packets.{Packet, Turn, Error, Nop, Extension, turn_value, packet_value}
+use Rattle.rl_packet.specs.declared.reading.PacketFault.{PacketFault}
+use Rattle.rl_packet.specs.declared.reading.PacketFault.TheVariants.{BadPacket, NoMemory}
+
+-- what an embedded value holds on the wire: `[0 oid]`, or `[1 oid caveat ..]`
+abbrev pub is_wire_reference : Plain → Bool
+is_wire_reference (sequence (then_more (integer (pos zero)) (then_more oid no_more))) = is_some (number_in oid)
+is_wire_reference (sequence (then_more (integer (pos (suc zero))) (then_more oid caveats))) = is_some (number_in oid)
+is_wire_reference v = false
+
+-- whether every embedded value in it that isn't inside another one is a wire reference
+abbrev mutual
+  pub is_wired : Plain → Bool
+  is_wired (embedded x) = is_wire_reference x
+  is_wired (record_of l fs) = is_wired l && all_wired fs
+  is_wired (sequence xs) = all_wired xs
+  is_wired (set_of xs) = all_wired xs
+  is_wired (dictionary ps) = all_pairs_wired ps
+  is_wired v = true
+
+  pub all_wired : Plains → Bool
+  all_wired no_more = true
+  all_wired (then_more x xs) = is_wired x && all_wired xs
+
+  pub all_pairs_wired : PlainPairs → Bool
+  all_pairs_wired no_pairs = true
+  all_pairs_wired (then_pair k v ps) = (is_wired k && is_wired v) && all_pairs_wired ps
+
+-- `#:peer`, a wire reference
+abbrev pub is_peer : Plain → Bool
+is_peer (embedded x) = is_wire_reference x
+is_peer v = false
+
+abbrev pub IsEvent : Event → Type 0
+IsEvent (Assert v h) = (is_wired v ≡ true) × (h < 2 ^ 63)
+IsEvent (Retract h) = h < 2 ^ 63
+IsEvent (Message v) = is_wired v ≡ true
+IsEvent (Sync peer) = is_peer peer ≡ true
+
+abbrev pub IsTurnEvent : TurnEvent → Type 0
+IsTurnEvent e = (e.oid < 2 ^ 63) × IsEvent e.event
+
+abbrev pub is_string : Plain → Bool
+is_string (string s) = true
+is_string v = false
+
+abbrev pub is_record : Plain → Bool
+is_record (record_of l fs) = true
+is_record v = false
+
+-- an error has a string as its message; an extension is a record, and the value of no error
+abbrev pub IsPacket : Packet → Type 0
+IsPacket (Turn es) = AllByRecursion IsTurnEvent es
+IsPacket (Error message detail) = is_string message ≡ true
+IsPacket Nop = Unit {0}
+IsPacket (Extension v) =
+    (is_record v ≡ true) × ((m d : Plain) → is_string m ≡ true → v ≡ packet_value (Error m d) → ⊥)
+
+-- a value is that of a packet, of a turn, of an event at an object, of an event
+abbrev pub IsPacketOf : Plain → Packet → Type 0
+IsPacketOf v p = IsPacket p × (v ≡ packet_value p)
+
+abbrev pub IsTurnOf : Plain → List TurnEvent → Type 0
+IsTurnOf v es = AllByRecursion IsTurnEvent es × (v ≡ turn_value es)
+
+abbrev pub IsTurnEventOf : Plain → TurnEvent → Type 0
+IsTurnEventOf v e = IsTurnEvent e × (v ≡ aimed_value e)
+
+abbrev pub IsEventOf : Plain → Event → Type 0
+IsEventOf v e = IsEvent e × (v ≡ event_value e)
+
+-- the message and the detail of an error
+abbrev pub IsErrorOf : Plain → Plain → Plain → Type 0
+IsErrorOf v message detail = IsPacketOf v (Error message detail)
+
+-- a bad packet is none of these; where memory ran out, nothing is said
+abbrev pub NoneIs : {X : Type 0} → (X → Type 0) → PacketFault → Type 0
+NoneIs {X = X} P BadPacket = (x : X) → P x → ⊥
+NoneIs P NoMemory = Unit {0}
+
+-- a value is that of one packet
+abbrev pub OnePacket : Type 0
+OnePacket = (p q : Packet) → IsPacket p → IsPacket q → packet_value p ≡ packet_value q → p ≡ q

@@ -1,0 +1,4 @@
+pub mod Grammar
+pub mod Holding
+pub mod Kept
+pub mod Packets
