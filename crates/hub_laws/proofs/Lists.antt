@@ -1,6 +1,6 @@
 -- Entries by ascending number: what is found among them, and which lists of them are the same.
 use Rattle.std.proofs.Common.{◌≡◌, ℕ, ◌<◌, ◌==◌, List, [], ◌∷◌, ◌++◌, Bool, true, false, cond, Option, Some, None}
-use Rattle.std.proofs.Common.{◌⊎◌, inl, inr, Ordering, Less, Equal, Greater, refl, sym, ◌∙◌, arith, filter}
+use Rattle.std.proofs.Common.{◌⊎◌, inl, inr, Ordering, Less, Equal, Greater, refl, sym, ◌∙◌, arith}
 use Rattle.std.specs.BTreeMap.{is_at}
 use Rattle.std.specs.List.{AllByRecursion}
 use Rattle.std.specs.List.Sorted.{IsStrictlySortedBy}
@@ -9,6 +9,7 @@ use Rattle.std.specs.Ordering.{nat_cmp}
 use Rattle.std.proofs.lemmas.Bool.Decides.{nat_tests}
 use Rattle.std.proofs.lemmas.Map.Keys.{sorted_head, sorted_tail}
 use Rattle.pv_value.specs.Plain.{Plain}
+pub use Rattle.ac_table.proofs.Lists.{all_weaker, all_filter}
 use Rattle.ac_table.specs.declared.batches.Row.{Row}
 use Rattle.ac_table.specs.declared.batches.Event.{Event}
 use Rattle.ac_table.specs.declared.batches.Event.TheVariants.{Assert, Retract, Message, Sync}
@@ -24,25 +25,10 @@ took_all_append X f (e ∷ es) ds got = took_all_append X f es ds (took f e got)
 
 -- ---- lists of which each element passes
 
-pub all_weaker : {X : Type 0} (P Q : X → Type 0) → ((x : X) → P x → Q x) → (xs : List X) → AllByRecursion P xs
-    → AllByRecursion Q xs
-all_weaker P Q f [] a = tt
-all_weaker P Q f (x ∷ xs) a = (f x a.0, all_weaker P Q f xs a.1)
-
 pub all_append : {X : Type 0} (P : X → Type 0) (xs ys : List X) → AllByRecursion P xs → AllByRecursion P ys
     → AllByRecursion P (xs ++ ys)
 all_append P [] ys a b = b
 all_append P (x ∷ xs) ys a b = (a.0, all_append P xs ys a.1 b)
-
--- those that pass a test, where each that passes it is so
-pub all_filter : {X : Type 0} (P Q : X → Type 0) (test : X → Bool) → ((x : X) → test x ≡ true → P x → Q x)
-    → (xs : List X) → AllByRecursion P xs → AllByRecursion Q (filter test xs)
-all_filter P Q test f [] a = tt
-all_filter P Q test f (x ∷ xs) a = split (test x) refl (all_filter P Q test f xs a.1)
-  where
-    split : (b : Bool) → test x ≡ b → AllByRecursion Q (filter test xs) → AllByRecursion Q (filter test (x ∷ xs))
-    split true is rest = rw is (f x is a.0, rest)
-    split false is rest = rw is rest
 
 -- ---- what is found
 
