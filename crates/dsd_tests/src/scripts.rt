@@ -1,18 +1,19 @@
-//! Turns as scripts write them.
+//! Scripts and their reports, by the calls of their crate.
 
-use pv_value::Value;
-use rl_packet::{Event, Packet, Turn, TurnEvent, packet_value};
-use sc_script::turn_of;
+use ds_space::PlainSpace;
+use pv_value::weight;
+use sc_script::{Form, report, run_script};
 use std::test::Fail;
 
 #[test]
-fn a_turn_is_read_from_its_value(rt: HostRuntime) -> Result<(), Fail> {
+fn a_connection_comes_and_is_reported(rt: HostRuntime) -> Result<(), Fail> {
     let alloc = rt.alloc();
-    let mut events = Vec::new(alloc);
-    let event = Event::Assert(Value::integer(5), 1);
-    events.push(TurnEvent { oid: 0, event })?;
-    let value = packet_value(alloc, &Packet::Turn(Turn::from_vec(events)))?;
-    assert_eq!(rt; turn_of(alloc, value)?.map(|turn| turn.len()), Some(1));
-    assert!(rt; turn_of(alloc, Value::boolean(false))?.is_none());
+    let ran = run_script::<PlainSpace>(alloc, b"<open 1>", Form::Text)?;
+    assert_eq!(rt; ran.pending, 0);
+    assert_eq!(rt; ran.connections.len(), 1);
+    assert!(rt; ran.connections[0].live);
+    assert!(rt; ran.connections[0].held.is_empty());
+    // <report 0 [<conn 1 live [] #[]>]> has 35 bytes and 10 nodes
+    assert_eq!(rt; weight(&report(alloc, &ran)?), 35 + 10 * 48);
     Ok(())
 }

@@ -1,8 +1,7 @@
-//! What the rows of data can't bring: the calls themselves, with threads at hand and without, and a
-//! sink of another kind.
+//! What the rows of data can't bring: the call with threads at hand, and a sink of another kind.
 ghost use Rattle.std.specs.Prelude.{Some};
 
-use dsd_top::{dsd_main, dsd_once};
+use dsd_top::dsd_main;
 use out_ports::memory::{MemHost, MemListen, MemSink, MemSource};
 use out_ports::ports::{Put, Sink};
 use std::alloc::{AllocError, Global};
@@ -62,21 +61,6 @@ fn status_for<Rt: Threads + Wait + Sync, O: Sink>(
     let mut input = source_of(alloc, bytes)?;
     let mut host = no_host(alloc);
     Ok(dsd_main(rt, alloc, &words, &mut input, out, diag, &mut host))
-}
-
-#[test]
-fn one_observer_holds_ann_once(rt: HostRuntime) -> Result<(), Fail> {
-    let alloc = rt.alloc();
-    let words = [String::from_str(alloc, "run")?];
-    let mut input = source_of(alloc, PRESENT.as_slice())?;
-    let mut out = sink(alloc)?;
-    let mut diag = sink(alloc)?;
-    let mut host = no_host(alloc);
-    let status = dsd_once(alloc, &words, &mut input, &mut out, &mut diag, &mut host);
-    assert_eq!(rt; status, 0);
-    assert_eq!(rt; out.held(), PRESENT_REPORT.as_slice());
-    assert!(rt; diag.held().is_empty());
-    Ok(())
 }
 
 #[test]

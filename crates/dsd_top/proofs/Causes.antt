@@ -1,16 +1,16 @@
 -- What a status says, by its cause.
-use Rattle.std.proofs.Common.{◌≡◌, ◌≢◌, ℕ, List, Option, Some, None, IfSome, IfErr, Result, Ok, Err, Contains, lit<}
-use Rattle.std.proofs.Common.{refl, sym, subst, arith}
+use Rattle.std.proofs.Common.{◌≡◌, ◌≢◌, ℕ, ◌<◌, List, length, Option, Some, None, IfSome, IfErr, Result, Ok, Err}
+use Rattle.std.proofs.Common.{Contains, lit<, refl, sym, subst, arith}
 use Rattle.std.specs.Result.{IsErrAnd}
 use Rattle.dsd_top.specs.declared.once.Fault.{Fault}
 use Rattle.dsd_top.specs.declared.once.Fault.TheVariants.{BadInput, BadWords, ReadFailed, WriteFailed, NoMemory}
-use Rattle.dsd_top.specs.declared.once.Fault.TheVariants.{TooLong, NotBuilt}
+use Rattle.dsd_top.specs.declared.once.Fault.TheVariants.{Limit, NotBuilt}
 use Rattle.out_ports.specs.declared.streams.ReadFault.{ReadFault}
 use Rattle.out_ports.specs.declared.streams.ReadFault.TheVariants as reading
 use Rattle.dsd_top.specs.declared.words.Command.{Command}
 use Rattle.dsd_top.specs.declared.words.Command.TheVariants.{Run, RunText, CanonicalForms, Printed, Written}
-use Rattle.dsd_top.specs.Statuses.{IsStatus, statuses_by, IsBadInputAt, IsNotBuiltAt, IsBadInput, IsNotBuilt, IsOver}
-use Rattle.dsd_top.specs.Statuses.{IsCut, status_of, IsBehindInput, from_read, IsCauseOf, Tells}
+use Rattle.dsd_top.specs.Statuses.{IsStatus, statuses_by, IsBadInputAt, IsOverAt, IsNotBuiltAt, IsBadInput, IsOver}
+use Rattle.dsd_top.specs.Statuses.{IsNotBuilt, IsCut, status_of, IsBehindInput, from_read, IsCauseOf, Tells}
 
 pub is_status : (f : Fault) → IsStatus (status_of f)
 is_status (BadInput n) = (1, lit< tt, refl)
@@ -18,34 +18,38 @@ is_status BadWords = (2, lit< tt, refl)
 is_status ReadFailed = (3, lit< tt, refl)
 is_status WriteFailed = (4, lit< tt, refl)
 is_status NoMemory = (5, lit< tt, refl)
-is_status TooLong = (6, lit< tt, refl)
+is_status (Limit w) = (6, lit< tt, refl)
 is_status (NotBuilt n) = (7, lit< tt, refl)
+
+-- a place before the last is one for every command
+within : (c : Command) (k : ℕ) → k < 6 → k < length (statuses_by c)
+within Run k h = omega (arith, h)
+within RunText k h = omega (arith, h)
+within CanonicalForms k h = h
+within Printed k h = h
+within Written k h = h
 
 -- a cause that stands of the input is one of the command's
 pub cause_known : (c : Command) (bytes : List ℕ) (f : Fault) → IsCauseOf c bytes f
     → Contains (statuses_by c) (status_of f)
-cause_known c bytes (BadInput n) h = (1, lit< tt, refl)
+cause_known c bytes (BadInput n) h = (1, within c 1 (lit< tt), refl)
 cause_known c bytes BadWords h = absurd h
 cause_known c bytes ReadFailed h = absurd h
 cause_known c bytes WriteFailed h = absurd h
-cause_known c bytes NoMemory h = (4, lit< tt, refl)
-cause_known Run bytes TooLong h = absurd h
-cause_known RunText bytes TooLong h = absurd h
-cause_known CanonicalForms bytes TooLong h = (5, lit< tt, refl)
-cause_known Printed bytes TooLong h = (5, lit< tt, refl)
-cause_known Written bytes TooLong h = (5, lit< tt, refl)
-cause_known Run bytes (NotBuilt n) h = (5, lit< tt, refl)
-cause_known RunText bytes (NotBuilt n) h = (5, lit< tt, refl)
+cause_known c bytes NoMemory h = (4, within c 4 (lit< tt), refl)
+cause_known c bytes (Limit w) h = (5, within c 5 (lit< tt), refl)
+cause_known Run bytes (NotBuilt n) h = (6, lit< tt, refl)
+cause_known RunText bytes (NotBuilt n) h = (6, lit< tt, refl)
 cause_known CanonicalForms bytes (NotBuilt n) h = absurd h
 cause_known Printed bytes (NotBuilt n) h = absurd h
 cause_known Written bytes (NotBuilt n) h = absurd h
 
 pub read_known : (c : Command) (e : ReadFault) → Contains (statuses_by c) (status_of (from_read e))
-read_known c reading.Failed = (2, lit< tt, refl)
-read_known c reading.NoMemory = (4, lit< tt, refl)
+read_known c reading.Failed = (2, within c 2 (lit< tt), refl)
+read_known c reading.NoMemory = (4, within c 4 (lit< tt), refl)
 
 pub write_known : (c : Command) → Contains (statuses_by c) (status_of WriteFailed)
-write_known c = (3, lit< tt, refl)
+write_known c = (3, within c 3 (lit< tt), refl)
 
 pub read_failed : (f : Fault) → status_of f ≡ 3 → f ≡ ReadFailed
 read_failed (BadInput n) e = absurd (omega arith)
@@ -53,7 +57,7 @@ read_failed BadWords e = absurd (omega arith)
 read_failed ReadFailed e = refl
 read_failed WriteFailed e = absurd (omega arith)
 read_failed NoMemory e = absurd (omega arith)
-read_failed TooLong e = absurd (omega arith)
+read_failed (Limit w) e = absurd (omega arith)
 read_failed (NotBuilt n) e = absurd (omega arith)
 
 pub write_failed : (f : Fault) → status_of f ≡ 4 → f ≡ WriteFailed
@@ -62,7 +66,7 @@ write_failed BadWords e = absurd (omega arith)
 write_failed ReadFailed e = absurd (omega arith)
 write_failed WriteFailed e = refl
 write_failed NoMemory e = absurd (omega arith)
-write_failed TooLong e = absurd (omega arith)
+write_failed (Limit w) e = absurd (omega arith)
 write_failed (NotBuilt n) e = absurd (omega arith)
 
 pub none_is : (f : Fault) → status_of f ≡ 0 → ⊥
@@ -71,13 +75,18 @@ none_is BadWords e = absurd (omega arith)
 none_is ReadFailed e = absurd (omega arith)
 none_is WriteFailed e = absurd (omega arith)
 none_is NoMemory e = absurd (omega arith)
-none_is TooLong e = absurd (omega arith)
+none_is (Limit w) e = absurd (omega arith)
 none_is (NotBuilt n) e = absurd (omega arith)
 
 some_bad : (c : Command) (left : Option (List ℕ)) (n : ℕ) → IfSome left (λ bytes. IsBadInputAt c bytes n)
     → IfSome left (IsBadInput c)
 some_bad c None n h = tt
 some_bad c (Some bytes) n h = (n, h)
+
+some_over : (c : Command) (left : Option (List ℕ)) (w : ℕ) → IfSome left (λ bytes. IsOverAt c bytes w)
+    → IfSome left (IsOver c)
+some_over c None w h = tt
+some_over c (Some bytes) w h = (w, h)
 
 some_not_built : (c : Command) (left : Option (List ℕ)) (n : ℕ) → IfSome left (λ bytes. IsNotBuiltAt c bytes n)
     → IfSome left (IsNotBuilt c)
@@ -91,7 +100,7 @@ module _ (c : Command) (left before now : Option (List ℕ)) where
   input_is_bad ReadFailed h e = absurd (omega arith)
   input_is_bad WriteFailed h e = absurd (omega arith)
   input_is_bad NoMemory h e = absurd (omega arith)
-  input_is_bad TooLong h e = absurd (omega arith)
+  input_is_bad (Limit w) h e = absurd (omega arith)
   input_is_bad (NotBuilt n) h e = absurd (omega arith)
 
   pub input_is_over : (f : Fault) → Tells c f left before now → status_of f ≡ 6 → IfSome left (IsOver c)
@@ -100,7 +109,7 @@ module _ (c : Command) (left before now : Option (List ℕ)) where
   input_is_over ReadFailed h e = absurd (omega arith)
   input_is_over WriteFailed h e = absurd (omega arith)
   input_is_over NoMemory h e = absurd (omega arith)
-  input_is_over TooLong h e = h.0
+  input_is_over (Limit w) h e = some_over c left w h.0
   input_is_over (NotBuilt n) h e = absurd (omega arith)
 
   pub input_not_built : (f : Fault) → Tells c f left before now → status_of f ≡ 10 → IfSome left (IsNotBuilt c)
@@ -109,7 +118,7 @@ module _ (c : Command) (left before now : Option (List ℕ)) where
   input_not_built ReadFailed h e = absurd (omega arith)
   input_not_built WriteFailed h e = absurd (omega arith)
   input_not_built NoMemory h e = absurd (omega arith)
-  input_not_built TooLong h e = absurd (omega arith)
+  input_not_built (Limit w) h e = absurd (omega arith)
   input_not_built (NotBuilt n) h e = some_not_built c left n h.0
 
   pub is_cut : (f : Fault) → Tells c f left before now → status_of f ≡ 4
@@ -119,7 +128,7 @@ module _ (c : Command) (left before now : Option (List ℕ)) where
   is_cut ReadFailed h e = absurd (omega arith)
   is_cut WriteFailed h e = h
   is_cut NoMemory h e = absurd (omega arith)
-  is_cut TooLong h e = absurd (omega arith)
+  is_cut (Limit w) h e = absurd (omega arith)
   is_cut (NotBuilt n) h e = absurd (omega arith)
 
   pub is_unwritten : (f : Fault) → Tells c f left before now → status_of f ≢ 4 → now ≡ before
@@ -128,7 +137,7 @@ module _ (c : Command) (left before now : Option (List ℕ)) where
   is_unwritten ReadFailed h e = h
   is_unwritten WriteFailed h e = absurd (e refl)
   is_unwritten NoMemory h e = h
-  is_unwritten TooLong h e = h.1
+  is_unwritten (Limit w) h e = h.1
   is_unwritten (NotBuilt n) h e = h.1
 
 -- the cause that an error is

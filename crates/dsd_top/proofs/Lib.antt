@@ -1,3 +1,4 @@
 pub mod Causes
 pub mod InForm
 pub mod Readings
+pub mod Reported

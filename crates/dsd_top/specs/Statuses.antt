@@ -1,14 +1,14 @@
 -- What a status says of the words, the input and what was written.
-use Rattle.std.specs.Prelude.{◌≡◌, ◌≢◌, ◌⊎◌, ℕ, ◌<◌, ◌≤◌, List, [], ◌∷◌, length, Option, Some, None, Contains, IfSome}
+use Rattle.std.specs.Prelude.{◌≡◌, ◌≢◌, ℕ, ◌<◌, ◌≤◌, List, [], ◌∷◌, length, Option, Some, None, Contains, IfSome}
 use Rattle.out_ports.specs.Ports.{Appends, AppendsFront}
-use Rattle.pv_value.specs.Plain.{Plain}
-use Rattle.sc_script.specs.Reports.{IsReportOf}
-use Rattle.sc_script.specs.Runs.{course_of, stopped}
-use Rattle.sc_script.specs.TextVerdicts.{IsTextJudged}
-use Rattle.sc_script.specs.Verdicts.{Verdict, good, bad, not_built, IsJudged}
-use Rattle.sc_script.specs.declared.events.ScriptEvent.{ScriptEvent}
-use Rattle.sc_script.specs.declared.scripts.ScriptFault.{ScriptFault}
-use Rattle.sc_script.specs.declared.scripts.ScriptFault.TheVariants as script
+use Rattle.hub_laws.specs.Settled.{HoldsFromScratch}
+use Rattle.sc_script.specs.Reports.{ran_of, report_of}
+use Rattle.sc_script.specs.Runs.{Decider, Decides, Cause, bad, limit, not_built, goes, stops, Running}
+use Rattle.sc_script.specs.Scripts.{IsCourseOf}
+use Rattle.sc_script.specs.declared.faults.ScriptFault.{ScriptFault}
+use Rattle.sc_script.specs.declared.faults.ScriptFault.TheVariants as stopped
+use Rattle.sc_script.specs.declared.scripts.Form.{Form as Script}
+use Rattle.sc_script.specs.declared.scripts.Form.TheVariants as script
 use Rattle.out_ports.specs.declared.streams.ReadFault.{ReadFault}
 use Rattle.out_ports.specs.declared.streams.ReadFault.TheVariants as reading
 use Rattle.dsd_top.specs.Forms.{in_form}
@@ -31,17 +31,15 @@ use Rattle.dsd_top.specs.declared.once.Fault.TheVariants as fault
 abbrev pub IsStatus : ℕ → Type 0
 IsStatus n = Contains (0 ∷ 1 ∷ 2 ∷ 3 ∷ 4 ∷ 5 ∷ 6 ∷ 10 ∷ []) n
 
--- the status of a command for an input past its bounds: a script of what isn't built, or too many bytes of values
-abbrev pub bound_of : Command → ℕ
-bound_of Run = 10
-bound_of RunText = 10
-bound_of CanonicalForms = 6
-bound_of Printed = 6
-bound_of Written = 6
+-- what isn't built comes of scripts alone
+abbrev pub unbuilt_of : Command → List ℕ
+unbuilt_of Run = 10 ∷ []
+unbuilt_of RunText = 10 ∷ []
+unbuilt_of c = []
 
 -- those that come for a command
 abbrev pub statuses_by : Command → List ℕ
-statuses_by c = 0 ∷ 1 ∷ 3 ∷ 4 ∷ 5 ∷ bound_of c ∷ []
+statuses_by c = 0 ∷ 1 ∷ 3 ∷ 4 ∷ 5 ∷ 6 ∷ unbuilt_of c
 
 -- those that come for what the words ask for, and where they are none of the table's
 abbrev pub statuses_of : Option Request → List ℕ
@@ -53,53 +51,48 @@ statuses_of (Some (Tell n)) = 0 ∷ 4 ∷ []
 abbrev pub IfTold : Option Command → Option (List ℕ) → (Command → List ℕ → Type 0) → Type 0
 IfTold command left P = IfSome command (λ c. IfSome left (P c))
 
--- what is written for the events of a script
-abbrev pub IsAnswerFor : Form → List ScriptEvent → List ℕ → Type 0
-IsAnswerFor form es out = (v : Plain) × IsReportOf es v × (out ≡ in_form form v)
+-- the input is a script, and this the report of its run in the form; where nothing is pending, each live connection
+-- holds what is captured from scratch
+abbrev pub IsReported : Script → Form → List ℕ → List ℕ → Type 0
+IsReported script form bytes out =
+    (N : Decider) → Decides N → (r : Running) × IsCourseOf N script bytes (goes r)
+    × ((k : ℕ) → HoldsFromScratch k r.steps) × (out ≡ in_form form (report_of (ran_of r.steps)))
 
--- the bytes are a script, and these its report
-abbrev pub IsReported : List ℕ → List ℕ → Type 0
-IsReported bytes out = (es : List ScriptEvent) × IsJudged bytes (good es) × IsAnswerFor form.Written es out
-
--- the text is a script, and these its report, printed
-abbrev pub IsReportedText : List ℕ → List ℕ → Type 0
-IsReportedText text out = (es : List ScriptEvent) × IsTextJudged text (good es) × IsAnswerFor form.Printed es out
+-- the input stops as a script for this cause
+abbrev pub StopsFor : Script → List ℕ → Cause → Type 0
+StopsFor script bytes c = (N : Decider) → Decides N → IsCourseOf N script bytes (stops c)
 
 -- what the command makes of the input
 abbrev pub IsAnswerOf : Command → List ℕ → List ℕ → Type 0
-IsAnswerOf Run bytes out = IsReported bytes out
-IsAnswerOf RunText bytes out = IsReportedText bytes out
+IsAnswerOf Run bytes out = IsReported script.Binary form.Written bytes out
+IsAnswerOf RunText bytes out = IsReported script.Text form.Printed bytes out
 IsAnswerOf CanonicalForms bytes out = AreIn form.Canonical bytes out
 IsAnswerOf Printed bytes out = AreIn form.Printed bytes out
 IsAnswerOf Written bytes out = IsTextIn form.Written bytes out
 
 -- value n of the input is malformed
 abbrev pub IsBadInputAt : Command → List ℕ → ℕ → Type 0
-IsBadInputAt Run bytes n = IsJudged bytes (bad n)
-IsBadInputAt RunText bytes n = IsTextJudged bytes (bad n)
+IsBadInputAt Run bytes n = StopsFor script.Binary bytes (bad n)
+IsBadInputAt RunText bytes n = StopsFor script.Text bytes (bad n)
 IsBadInputAt CanonicalForms bytes n = (length bytes ≤ 67108864) × IsBadValueAt bytes n
 IsBadInputAt Printed bytes n = (length bytes ≤ 67108864) × IsBadValueAt bytes n
 IsBadInputAt Written bytes n = (length bytes ≤ 67108864) × IsBadTextAt bytes n
 
--- by the verdicts that stand of an input: value n of it is no event, or the run of the script stops there
-abbrev pub GoesPastAt : (Verdict → Type 0) → ℕ → Type 0
-GoesPastAt Stand n = Stand (not_built n) ⊎ ((es : List ScriptEvent) × Stand (good es) × (course_of es ≡ stopped n))
-
 -- value n of the input goes past what is built
 abbrev pub IsNotBuiltAt : Command → List ℕ → ℕ → Type 0
-IsNotBuiltAt Run bytes n = GoesPastAt (IsJudged bytes) n
-IsNotBuiltAt RunText bytes n = GoesPastAt (IsTextJudged bytes) n
-IsNotBuiltAt CanonicalForms bytes n = ⊥
-IsNotBuiltAt Printed bytes n = ⊥
-IsNotBuiltAt Written bytes n = ⊥
+IsNotBuiltAt Run bytes n = StopsFor script.Binary bytes (not_built n)
+IsNotBuiltAt RunText bytes n = StopsFor script.Text bytes (not_built n)
+IsNotBuiltAt c bytes n = ⊥
 
--- the input is longer than the command takes
-abbrev pub IsOver : Command → List ℕ → Type 0
-IsOver Run bytes = ⊥
-IsOver RunText bytes = ⊥
-IsOver CanonicalForms bytes = 67108864 < length bytes
-IsOver Printed bytes = 67108864 < length bytes
-IsOver Written bytes = 67108864 < length bytes
+-- of values, limit 1 alone: the input has more than 67,108,864 bytes
+abbrev pub IsOverOf : List ℕ → ℕ → Type 0
+IsOverOf bytes w = (w ≡ 1) × (67108864 < length bytes)
+
+-- limit w is passed
+abbrev pub IsOverAt : Command → List ℕ → ℕ → Type 0
+IsOverAt Run bytes w = StopsFor script.Binary bytes (limit w)
+IsOverAt RunText bytes w = StopsFor script.Text bytes (limit w)
+IsOverAt c bytes w = IsOverOf bytes w
 
 -- ---- for any command
 
@@ -114,6 +107,9 @@ IsCut c bytes before now = (out : List ℕ) × IsAnswerOf c bytes out × Appends
 abbrev pub IsBadInput : Command → List ℕ → Type 0
 IsBadInput c bytes = (n : ℕ) × IsBadInputAt c bytes n
 
+abbrev pub IsOver : Command → List ℕ → Type 0
+IsOver c bytes = (w : ℕ) × IsOverAt c bytes w
+
 abbrev pub IsNotBuilt : Command → List ℕ → Type 0
 IsNotBuilt c bytes = (n : ℕ) × IsNotBuiltAt c bytes n
 
@@ -125,18 +121,12 @@ status_of fault.BadWords = 2
 status_of fault.ReadFailed = 3
 status_of fault.WriteFailed = 4
 status_of fault.NoMemory = 5
-status_of fault.TooLong = 6
+status_of (fault.Limit w) = 6
 status_of (fault.NotBuilt n) = 10
 
 -- the causes that come only behind the whole input
 abbrev pub IsBehindInput : Fault → Type 0
 IsBehindInput f = (status_of f ≢ 3) × (status_of f ≢ 5)
-
--- what a script's fault says of the verdicts that stand of an input
-abbrev pub IsScriptCause : (Verdict → Type 0) → ScriptFault → Type 0
-IsScriptCause Stand (script.Bad n) = Stand (bad n)
-IsScriptCause Stand (script.NotBuilt n) = GoesPastAt Stand n
-IsScriptCause Stand script.NoMemory = Unit {0}
 
 -- what a cause says of the input, where a command was making its answer
 abbrev pub IsCauseOf : Command → List ℕ → Fault → Type 0
@@ -145,7 +135,7 @@ IsCauseOf c bytes fault.BadWords = ⊥
 IsCauseOf c bytes fault.ReadFailed = ⊥
 IsCauseOf c bytes fault.WriteFailed = ⊥
 IsCauseOf c bytes fault.NoMemory = Unit {0}
-IsCauseOf c bytes fault.TooLong = IsOver c bytes
+IsCauseOf c bytes (fault.Limit w) = IsOverAt c bytes w
 IsCauseOf c bytes (fault.NotBuilt n) = IsNotBuiltAt c bytes n
 
 -- what a cause says of the input and of what was written
@@ -155,17 +145,18 @@ Tells c fault.BadWords left before now = ⊥
 Tells c fault.ReadFailed left before now = now ≡ before
 Tells c fault.WriteFailed left before now = IfSome left (λ bytes. IsCut c bytes before now)
 Tells c fault.NoMemory left before now = now ≡ before
-Tells c fault.TooLong left before now = IfSome left (IsOver c) × (now ≡ before)
+Tells c (fault.Limit w) left before now = IfSome left (λ bytes. IsOverAt c bytes w) × (now ≡ before)
 Tells c (fault.NotBuilt n) left before now = IfSome left (λ bytes. IsNotBuiltAt c bytes n) × (now ≡ before)
 
 abbrev pub from_script : ScriptFault → Fault
-from_script (script.Bad n) = fault.BadInput n
-from_script (script.NotBuilt n) = fault.NotBuilt n
-from_script script.NoMemory = fault.NoMemory
+from_script (stopped.Bad n) = fault.BadInput n
+from_script (stopped.Limit w) = fault.Limit w
+from_script (stopped.NotBuilt n) = fault.NotBuilt n
+from_script stopped.NoMemory = fault.NoMemory
 
 abbrev pub from_input : InputFault → Fault
 from_input (input.Bad n) = fault.BadInput n
-from_input input.TooLong = fault.TooLong
+from_input input.TooLong = fault.Limit 1
 from_input input.NoMemory = fault.NoMemory
 
 abbrev pub from_read : ReadFault → Fault

@@ -8,4 +8,4 @@ mod values;
 mod words;
 
 pub use once::{dsd_main, dsd_once};
-pub use sc_script::{one_reading, one_reading_of_text, one_verdict, one_verdict_of_text};
+pub use sc_script::{next_is_decided, one_course, one_reading};

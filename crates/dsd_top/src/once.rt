@@ -2,15 +2,12 @@
 ghost use Rattle.std.specs.Prelude.{◌≡◌, ◌≢◌, ◌≤◌, ◌↔◌, [], ◌∷◌, true, false, None, Contains};
 ghost use Rattle.std.specs.Prelude.{IfSome, IfOk, IfErr, OnOk, OnErr, IsErrOf};
 ghost use Rattle.out_ports.specs.Ports.{Rose, Appends, AppendsFront};
-ghost use Rattle.sc_script.specs.Runs.{course_of, IsStopped};
-ghost use Rattle.sc_script.specs.TextVerdicts.{IsTextJudged};
-ghost use Rattle.sc_script.specs.Verdicts.{IsJudged};
+ghost use Rattle.sc_script.specs.Scripts.{StopsAt};
 ghost use Rattle.dsd_top.specs.Commands.{texts, request_of, command_of, notice_of, text_of};
 ghost use Rattle.dsd_top.specs.Commands.{is_serve as begins_with_serve};
-ghost use Rattle.dsd_top.specs.Statuses.{IsStatus, statuses_by, statuses_of, IfTold, IsAnswerFor};
-ghost use Rattle.dsd_top.specs.Statuses.{IsReported, IsReportedText, IsAnswerOf, IsAnswered};
+ghost use Rattle.dsd_top.specs.Statuses.{IsStatus, statuses_by, statuses_of, IfTold};
+ghost use Rattle.dsd_top.specs.Statuses.{IsReported, IsAnswerOf, IsAnswered};
 ghost use Rattle.dsd_top.specs.Statuses.{IsCut, IsBadInput, IsNotBuilt, IsOver, IsCauseOf, Tells};
-ghost use Rattle.dsd_top.specs.Statuses.{IsScriptCause};
 ghost use Rattle.dsd_top.specs.Statuses.{status_of, IsBehindInput, from_script, from_input};
 ghost use Rattle.dsd_top.specs.Statuses.{from_read};
 ghost use Rattle.dsd_top.specs.declared.once.Fault.TheVariants as fault;
@@ -19,9 +16,11 @@ use crate::forms::{Form, value_in};
 use crate::texts::text_to_end;
 use crate::values::{InputFault, values_to_end};
 use crate::words::{Command, Notice, Request, find_request, is_serve};
+use ds_space::PlainSpace;
+use hub_laws::settled_holdings_are_from_scratch;
 use out_ports::ports::{Host, Sink, Source};
 use out_ports::streams::{ReadFault, WriteFault, read_to_end, write_all};
-use sc_script::{Script, ScriptFault, read_script, read_text_script, report};
+use sc_script::{Form as Script, ScriptFault, report, run_script};
 use std::alloc::Global;
 use std::sync::Wait;
 use std::thread::Threads;
@@ -34,7 +33,7 @@ enum Fault {
     ReadFailed,
     WriteFailed,
     NoMemory,
-    TooLong,
+    Limit(u8),
     NotBuilt(u64),
 }
 
@@ -48,7 +47,7 @@ impl Fault {
             Fault::ReadFailed => 3,
             Fault::WriteFailed => 4,
             Fault::NoMemory => 5,
-            Fault::TooLong => 6,
+            Fault::Limit(_) => 6,
             Fault::NotBuilt(_) => 10,
         }
     }
@@ -60,6 +59,7 @@ impl From<ScriptFault> for Fault {
     fn from(fault: ScriptFault) -> Fault {
         match fault {
             ScriptFault::Bad(n) => Fault::BadInput(n),
+            ScriptFault::Limit(limit) => Fault::Limit(limit),
             ScriptFault::NotBuilt(n) => Fault::NotBuilt(n),
             ScriptFault::NoMemory => Fault::NoMemory,
         }
@@ -72,7 +72,7 @@ impl From<InputFault> for Fault {
     fn from(fault: InputFault) -> Fault {
         match fault {
             InputFault::Bad(n) => Fault::BadInput(n),
-            InputFault::TooLong => Fault::TooLong,
+            InputFault::TooLong => Fault::Limit(1),
             InputFault::NoMemory => Fault::NoMemory,
         }
     }
@@ -97,31 +97,20 @@ impl From<WriteFault> for Fault {
     }
 }
 
-/// The report of the script's run, in this form. It stops where an event goes past what is built.
-fn report_in(alloc: Global, script: Script, form: Form) -> Result<Vec<u8>, ScriptFault>
-    ensures answer { IfOk result (λ out. IsAnswerFor form script out.items) }
-    ensures stop { IfErr result (IsStopped (course_of script)) }
+/// The report of the run of the script that the input is, in this form.
+fn report_in(
+    alloc: Global,
+    bytes: &[u8],
+    script: Script,
+    form: Form,
+) -> Result<Vec<u8>, ScriptFault>
+    ensures answer { IfOk result (λ out. IsReported script form bytes.now out.items) }
+    ensures stop { IfErr result (StopsAt script bytes.now) }
 {
-    let value = report(alloc, script)?;
+    settled_holdings_are_from_scratch();
+    let ran = run_script::<PlainSpace>(alloc, bytes, script)?;
+    let value = report(alloc, &ran)?;
     Ok(value_in(alloc, &value, form)?)
-}
-
-/// What is written for a script.
-fn report_of_script(alloc: Global, bytes: &[u8]) -> Result<Vec<u8>, ScriptFault>
-    ensures answer { IfOk result (λ out. IsReported bytes.now out.items) }
-    ensures fault { IfErr result (IsScriptCause (IsJudged bytes.now)) }
-{
-    let script = read_script(alloc, bytes)?;
-    report_in(alloc, script, Form::Written)
-}
-
-/// What is written for a script in text.
-fn report_of_text(alloc: Global, text: &[u8]) -> Result<Vec<u8>, ScriptFault>
-    ensures answer { IfOk result (λ out. IsReportedText text.now out.items) }
-    ensures fault { IfErr result (IsScriptCause (IsTextJudged text.now)) }
-{
-    let script = read_text_script(alloc, text)?;
-    report_in(alloc, script, Form::Printed)
 }
 
 /// What the command makes of the input.
@@ -130,8 +119,8 @@ fn answer(alloc: Global, command: Command, bytes: &[u8]) -> Result<Vec<u8>, Faul
     ensures cause { IfErr result (IsCauseOf command bytes.now) }
 {
     match command {
-        Command::Run => Ok(report_of_script(alloc, bytes)?),
-        Command::RunText => Ok(report_of_text(alloc, bytes)?),
+        Command::Run => Ok(report_in(alloc, bytes, Script::Binary, Form::Written)?),
+        Command::RunText => Ok(report_in(alloc, bytes, Script::Text, Form::Printed)?),
         Command::CanonicalForms => Ok(values_to_end(alloc, bytes, Form::Canonical)?),
         Command::Printed => Ok(values_to_end(alloc, bytes, Form::Printed)?),
         Command::Written => Ok(text_to_end(alloc, bytes, Form::Written)?),
@@ -175,6 +164,13 @@ fn say_place<E: Sink>(alloc: Global, diag: &mut E, what: &str, place: u64) {
     }
 }
 
+/// Writes a line that names a limit. Where memory is wanting for it, it is left out.
+fn say_limit<E: Sink>(alloc: Global, diag: &mut E, limit: u8) {
+    if let Ok(line) = format!(in alloc; "dsd: limit {limit}\n") {
+        say(diag, line.as_str());
+    }
+}
+
 /// Says why the status isn't 0.
 fn tell<E: Sink>(alloc: Global, diag: &mut E, fault: Fault) {
     match fault {
@@ -183,7 +179,7 @@ fn tell<E: Sink>(alloc: Global, diag: &mut E, fault: Fault) {
         Fault::ReadFailed => say(diag, "dsd: read failed\n"),
         Fault::WriteFailed => say(diag, "dsd: write failed\n"),
         Fault::NoMemory => say(diag, "dsd: out of memory\n"),
-        Fault::TooLong => say(diag, "dsd: limit 1\n"),
+        Fault::Limit(limit) => say_limit(alloc, diag, limit),
         Fault::NotBuilt(n) => say_place(alloc, diag, "not built", n),
     }
 }
@@ -212,7 +208,7 @@ fn show<O: Sink, E: Sink>(alloc: Global, notice: Notice, out: &mut O, diag: &mut
 /// Does what the words say, and answers the status: 0 where all input was read, or a notice asked
 /// for, and all output written, 1 where a value of the input is malformed, 2 where the words are
 /// none of the table's, 3 where the input failed, 4 where the output failed, 5 for want of memory,
-/// 6 where the input is longer than the command takes, 10 where the input goes past what is built.
+/// 6 where a limit is passed, 10 where the input goes past what is built.
 /// At every status but 0 one line on `diag` says why; a fault of `diag` changes nothing.
 pub fn dsd_once<I: Source, O: Sink, E: Sink, H: Host>(
     alloc: Global,

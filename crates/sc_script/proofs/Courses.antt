@@ -1,69 +1,57 @@
 -- Courses: how the rest of one goes on with each part that is done, and how it ends or stops.
-use Rattle.std.proofs.Common.{◌≡◌, ℕ, zero, suc, ◌+◌, List, ◌∷◌, refl, sym, ap, ◌∙◌, subst, Option, Some, None}
-use Rattle.hub_core.specs.Replays.{replay, lowest}
-use Rattle.hub_core.specs.State.{State}
-use Rattle.hub_core.specs.declared.steps.Step.{Step}
-use Rattle.sc_script.specs.declared.events.ScriptEvent.{ScriptEvent}
-use Rattle.sc_script.specs.declared.scripts.ScriptFault.{ScriptFault}
-use Rattle.sc_script.specs.declared.scripts.ScriptFault.TheVariants as fault
-use Rattle.sc_script.specs.Runs.{Course, ran, stopped, goes_on, turned, drained, after_event, after_events, OutsState}
-use Rattle.sc_script.specs.Runs.{IsAt, HasRun, IsStopped}
+use Rattle.std.proofs.Common.{◌≡◌, ℕ, zero, suc, refl, sym, ap, ◌∙◌, subst, Option, Some, None}
+use Rattle.hub_core.specs.Replays.{lowest}
+use Rattle.sc_script.specs.declared.faults.ScriptFault.{ScriptFault}
+use Rattle.sc_script.specs.declared.faults.ScriptFault.TheVariants as fault
+use Rattle.sc_script.specs.Runs.{Running, RunState, Course, goes, stops, goes_on, state_of, turned}
+use Rattle.sc_script.specs.Runs.{turned_where, drained, IsAt, HasRun, IsStopped}
 
 -- the course as a whole goes on from the state in this way
-abbrev pub GoesOn : Course → (List Step → Course) → State → OutsState → Type 0
-GoesOn whole rest s outs = (steps : List Step) × IsAt steps s outs × (whole ≡ rest steps)
+abbrev pub GoesOn : Course → (Running → Course) → RunState → Type 0
+GoesOn whole rest s = (r : Running) × IsAt r s × (whole ≡ rest r)
 
-goes_from : (whole : Course) (later : List Step → Course) (c : Course) (s : State) (outs : OutsState)
-    → whole ≡ goes_on later c → HasRun c s outs → GoesOn whole later s outs
-goes_from whole later (ran steps) s outs is h = (steps, h, is)
-goes_from whole later (stopped n) s outs is h = absurd h
+goes_from : (whole : Course) (later : Running → Course) (c : Course) (s : RunState) → whole ≡ goes_on later c
+    → HasRun c s → GoesOn whole later s
+goes_from whole later (goes r) s is h = (r, h, is)
+goes_from whole later (stops c) s is h = absurd h
 
-stops_from : (whole : Course) (later : List Step → Course) (c : Course) (f : ScriptFault) → whole ≡ goes_on later c
+stops_from : (whole : Course) (later : Running → Course) (c : Course) (f : ScriptFault) → whole ≡ goes_on later c
     → IsStopped c f → IsStopped whole f
-stops_from whole later c (fault.Bad n) is h = absurd h
+stops_from whole later c (fault.Bad n) is h = is ∙ ap (goes_on later) h
+stops_from whole later c (fault.Limit w) is h = is ∙ ap (goes_on later) h
 stops_from whole later c (fault.NotBuilt n) is h = is ∙ ap (goes_on later) h
 stops_from whole later c fault.NoMemory is h = tt
 
-module _ (whole : Course) (rest : List Step → Course) (s : State) (outs : OutsState)
-    (g : GoesOn whole rest s outs) where
-  pub ends : ((t : List Step) → IsAt t s outs → rest t ≡ ran t) → HasRun whole s outs
-  ends is = subst (λ c. HasRun c s outs) (sym (g.2 ∙ is g.0 g.1)) g.1
+module _ (whole : Course) (rest : Running → Course) (s : RunState) (g : GoesOn whole rest s) where
+  pub course_ends : ((r : Running) → IsAt r s → rest r ≡ goes r) → HasRun whole s
+  course_ends is = subst (λ c. HasRun c s) (sym (g.2 ∙ is g.0 g.1)) g.1
 
   -- by a first part of what is left
-  module _ (part later : List Step → Course)
-      (is : (t : List Step) → IsAt t s outs → rest t ≡ goes_on later (part t)) where
-    pub goes : (now : State) (more : OutsState) → ((t : List Step) → IsAt t s outs → HasRun (part t) now more)
-        → GoesOn whole later now more
-    goes now more next = goes_from whole later (part g.0) now more (g.2 ∙ is g.0 g.1) (next g.0 g.1)
+  module _ (part later : Running → Course) (is : (r : Running) → IsAt r s → rest r ≡ goes_on later (part r)) where
+    pub part_goes : (now : RunState) → ((r : Running) → IsAt r s → HasRun (part r) now) → GoesOn whole later now
+    part_goes now next = goes_from whole later (part g.0) now (g.2 ∙ is g.0 g.1) (next g.0 g.1)
 
-    pub stops : (f : ScriptFault) → ((t : List Step) → IsAt t s outs → IsStopped (part t) f) → IsStopped whole f
-    stops f next = stops_from whole later (part g.0) f (g.2 ∙ is g.0 g.1) (next g.0 g.1)
+    pub part_stops : (f : ScriptFault) → ((r : Running) → IsAt r s → IsStopped (part r) f) → IsStopped whole f
+    part_stops f next = stops_from whole later (part g.0) f (g.2 ∙ is g.0 g.1) (next g.0 g.1)
 
 -- ---- turns of a drain
 
-lowest_at : (t : List Step) (s : State) (outs : OutsState) (a : Option ℕ) → lowest s ≡ a → IsAt t s outs
-    → lowest (replay t) ≡ a
-lowest_at t s outs a is at = ap lowest (sym at.0) ∙ is
+lowest_at : (r : Running) (s : RunState) (a : Option ℕ) → lowest s.state ≡ a → IsAt r s → lowest (state_of r) ≡ a
+lowest_at r s a is at = ap lowest (sym at.state) ∙ is
 
-pub turn_first : (n m k a : ℕ) (s : State) (outs : OutsState) → m ≡ suc k → lowest s ≡ Some a → (t : List Step)
-    → IsAt t s outs → drained n m t ≡ goes_on (drained n k) (turned n t (Some a))
-turn_first n m k a s outs more is t at =
-    ap (λ i. drained n i t) more
-    ∙ ap (λ o. goes_on (drained n k) (turned n t o)) (lowest_at t s outs (Some a) is at)
+pub lowest_of : {s t : RunState} → s ≡ t → lowest t.state ≡ lowest s.state
+lowest_of is = ap (λ s. lowest s.state) (sym is)
 
-none_left : (n m : ℕ) (t : List Step) → lowest (replay t) ≡ None → drained n m t ≡ ran t
-none_left n zero t h = refl
-none_left n (suc m) t h = ap (λ o. goes_on (drained n m) (turned n t o)) h ∙ none_left n m t h
+pub turn_first : (n m k a : ℕ) (s : RunState) → m ≡ suc k → lowest s.state ≡ Some a → (r : Running) → IsAt r s
+    → drained n m r ≡ goes_on (drained n k) (turned n a r)
+turn_first n m k a s more is r at =
+    ap (λ i. drained n i r) more
+    ∙ ap (λ o. goes_on (drained n k) (turned_where n o r)) (lowest_at r s (Some a) is at)
 
-pub drain_ends : (n m : ℕ) (s : State) (outs : OutsState) → lowest s ≡ None → (t : List Step) → IsAt t s outs
-    → drained n m t ≡ ran t
-drain_ends n m s outs is t at = none_left n m t (lowest_at t s outs None is at)
+none_left : (n m : ℕ) (r : Running) → lowest (state_of r) ≡ None → drained n m r ≡ goes r
+none_left n zero r h = refl
+none_left n (suc m) r h = ap (λ o. goes_on (drained n m) (turned_where n o r)) h ∙ none_left n m r h
 
--- ---- events of a script
-
-pub event_first : (n place next : ℕ) (left es : List ScriptEvent) (e : ScriptEvent) (s : State) (outs : OutsState)
-    → left ≡ e ∷ es → place ≡ n → next ≡ n + 1 → (t : List Step) → IsAt t s outs
-    → after_events n left t ≡ goes_on (after_events next es) (after_event place e t)
-event_first n place next left es e s outs is here more t at =
-    ap (λ l. after_events n l t) is
-    ∙ (λ i. goes_on (after_events (sym more i) es) (after_event (sym here i) e t))
+pub drain_ends : (n m : ℕ) (s : RunState) → lowest s.state ≡ None → (r : Running) → IsAt r s
+    → drained n m r ≡ goes r
+drain_ends n m s is r at = none_left n m r (lowest_at r s None is at)

@@ -1,90 +1,112 @@
--- The events of scripts of the first path: which value writes which event, and where it may stand.
-use Rattle.std.specs.Prelude.{◌≡◌, ℕ, ◌≤◌, Bool, true, false, ◌==◌, not, ◌&&◌, IsTrue}
-use Rattle.std.specs.Prelude.{List, [], ◌∷◌, ◌++◌, length, map, codes}
-use Rattle.std.specs.List.{list_any}
-use Rattle.pv_value.specs.Plain.{Plain, byte_string}
-use Rattle.pv_binary.specs.OneOfThree.{AreBytes}
-use Rattle.pv_binary.specs.Spells.{Spells}
-use Rattle.dp_pattern.specs.Words.{labelled, number}
-use Rattle.rl_packet.specs.Packets.{turn_value}
-use Rattle.rl_packet.specs.declared.packets.Event.{Event}
-use Rattle.rl_packet.specs.declared.packets.Event.TheVariants.{Assert, Retract, Message, Sync}
-use Rattle.rl_packet.specs.declared.packets.TurnEvent.{TurnEvent}
-use Rattle.sc_script.specs.FirstPath.{IsSimpleTurn}
-use Rattle.sc_script.specs.declared.events.ScriptEvent.{ScriptEvent}
-use Rattle.sc_script.specs.declared.events.ScriptEvent.TheVariants.{Open, Bytes, Drain}
+-- The events of scripts, and the values that write them: records whose label is a symbol.
+use Rattle.std.specs.Prelude.{ℕ, ◌^◌, zero, suc, pos, Bool, true, false, ◌&&◌, not, nat_lt, nat_le, List, codes}
+use Rattle.std.specs.Prelude.{Option, Some, None, is_some, option_map, if◌then◌else◌}
+use Rattle.pv_value.specs.Plain.{Plain, integer, string, byte_string, symbol, record_of, sequence, Plains, no_more}
+use Rattle.pv_value.specs.Plain.{then_more}
+use Rattle.dp_pattern.specs.Words.{is_word}
+use Rattle.dp_pattern.specs.Written.{pattern_of}
+use Rattle.hub_core.specs.Plainness.{has_embedded}
+pub use Rattle.sc_script.specs.declared.events.ScriptEvent.{ScriptEvent}
+pub use Rattle.sc_script.specs.declared.events.ScriptEvent.TheVariants.{Open, Bytes, Close, Turn, Drain, LongDrain}
+pub use Rattle.sc_script.specs.declared.events.ScriptEvent.TheVariants.{Schema, Unbuilt}
 
--- ---- one event
+-- ---- numbers
 
--- `<open 1>`; `<bytes 1 b>`, where the bytes b spell one turn of the first path; `<drain n>`
-abbrev pub Writes : Plain → ScriptEvent → Type 0
-Writes v Open = v ≡ labelled (codes "open") (number 1 ∷ [])
-Writes v (Bytes es) =
-    IsSimpleTurn es × (b : List ℕ) × AreBytes b × Spells b (turn_value es)
-    × (v ≡ labelled (codes "bytes") (number 1 ∷ byte_string b ∷ []))
-Writes v (Drain n) = (n ≤ 1000000) × (v ≡ labelled (codes "drain") (number n ∷ []))
+-- the number that a value is, where it is below a bound
+abbrev pub number_below : ℕ → Plain → Option ℕ
+number_below bound (integer (pos n)) = if nat_lt n bound then Some n else None
+number_below bound v = None
 
--- what has come before: whether the connection was opened, and the handles that are in use
-pub record Before : Type 0 where
-  pub opened : Bool
-  pub used : List ℕ
+-- a connection or an actor
+abbrev pub name_in : Plain → Option ℕ
+name_in v = number_below (2 ^ 32) v
 
-abbrev pub start : Before
-start = record { opened = false; used = [] }
+-- a dataspace
+abbrev pub space_in : Plain → Option ℕ
+space_in (integer (pos (suc n))) = if nat_lt n 8 then Some (suc n) else None
+space_in v = None
 
--- the events of the first path are assertions
-abbrev pub handle_of : Event → ℕ
-handle_of (Assert v h) = h
-handle_of (Retract h) = h
-handle_of (Message v) = 0
-handle_of (Sync peer) = 0
+-- ---- events with one field
 
-abbrev pub handles_of : List TurnEvent → List ℕ
-handles_of es = map (λ e. handle_of e.event) es
+-- `<open s>`; the gatekeeper, 0, isn't built
+abbrev pub open_event : Plain → Option ScriptEvent
+open_event (integer (pos zero)) = Some Unbuilt
+open_event v = option_map Open (space_in v)
 
--- no handle is in use, and none stands twice
-abbrev pub are_new : List ℕ → List ℕ → Bool
-are_new used [] = true
-are_new used (h ∷ hs) = not (list_any (λ x. x == h) used) && are_new (used ++ h ∷ []) hs
+abbrev pub close_event : Plain → Option ScriptEvent
+close_event v = option_map Close (name_in v)
 
--- the opening is the first event and no other
-abbrev pub MayStand : Before → ScriptEvent → Type 0
-MayStand c Open = c.opened ≡ false
-MayStand c (Bytes es) = (c.opened ≡ true) × IsTrue (are_new c.used (handles_of es))
-MayStand c (Drain n) = c.opened ≡ true
+abbrev pub turn_event : Plain → Option ScriptEvent
+turn_event v = option_map Turn (name_in v)
 
-abbrev pub after : Before → ScriptEvent → Before
-after c Open = record { opened = true; used = c.used }
-after c (Bytes es) = record { opened = c.opened; used = c.used ++ handles_of es }
-after c (Drain n) = c
+-- `<drain n>`, n up to 1,000,000, or more
+abbrev pub drain_event : Plain → Option ScriptEvent
+drain_event (integer (pos n)) = if nat_le n 1000000 then Some (Drain n) else Some LongDrain
+drain_event v = None
 
--- the value is this event of the first path
-abbrev pub IsEvent : Before → Plain → ScriptEvent → Type 0
-IsEvent c v e = Writes v e × MayStand c e
+abbrev pub schema_event : Plain → Option ScriptEvent
+schema_event (string s) = Some Schema
+schema_event v = None
 
-abbrev pub IsNoEvent : Before → Plain → Type 0
-IsNoEvent c v = (e : ScriptEvent) → IsEvent c v e → ⊥
+abbrev pub event_of_one : List ℕ → Plain → Option ScriptEvent
+event_of_one word f =
+    if is_word word (codes "open") then open_event f
+    else if is_word word (codes "close") then close_event f
+    else if is_word word (codes "step") then turn_event f
+    else if is_word word (codes "drain") then drain_event f
+    else if is_word word (codes "schema") then schema_event f else None
 
--- ---- events one behind another
+-- ---- events with two
 
--- the values are these events, each where it stands
-abbrev pub EventsOf : Before → List Plain → List ScriptEvent → Before → Type 0
-EventsOf c [] [] d = d ≡ c
-EventsOf c (v ∷ vs) (e ∷ es) d = IsEvent c v e × EventsOf (after c e) vs es d
-EventsOf c [] (e ∷ es) d = ⊥
-EventsOf c (v ∷ vs) [] d = ⊥
+abbrev pub bytes_event : Plain → Plain → Option ScriptEvent
+bytes_event v (byte_string b) = option_map (λ k. Bytes k b) (name_in v)
+bytes_event v w = None
 
-abbrev pub AreEvents : List Plain → List ScriptEvent → Type 0
-AreEvents vs es = (d : Before) × EventsOf start vs es d
+abbrev pub event_of_two : List ℕ → Plain → Plain → Option ScriptEvent
+event_of_two word f g = if is_word word (codes "bytes") then bytes_event f g else None
 
--- behind n values that are events stands one that is none there
-pub record HasOtherAt (vs : List Plain) (n : ℕ) : Type 0 where
-  pub front : List Plain
-  pub value : Plain
-  pub rest : List Plain
-  pub are : vs ≡ front ++ value ∷ rest
-  pub place : length front ≡ n
-  pub events : List ScriptEvent
-  pub before : Before
-  pub fit : EventsOf start front events before
-  pub other : IsNoEvent before value
+-- ---- events with four, which aren't built
+
+abbrev pub is_byte_string : Plain → Bool
+is_byte_string (byte_string b) = true
+is_byte_string v = false
+
+abbrev pub is_sequence : Plain → Bool
+is_sequence (sequence xs) = true
+is_sequence v = false
+
+abbrev pub is_symbol : Plain → Bool
+is_symbol (symbol s) = true
+is_symbol v = false
+
+-- `<bind oid key space caveats>`
+abbrev pub is_binding : Plain → Plain → Plain → Plain → Bool
+is_binding oid key space caveats =
+    not (has_embedded oid) && is_byte_string key && is_some (space_in space) && is_sequence caveats
+    && not (has_embedded caveats)
+
+-- `<watch from pattern to name>`
+abbrev pub is_watch : Plain → Plain → Plain → Plain → Bool
+is_watch from pattern to name =
+    is_some (space_in from) && not (has_embedded pattern) && is_some (pattern_of pattern) && is_some (space_in to)
+    && is_symbol name
+
+abbrev pub unbuilt_where : Bool → Option ScriptEvent
+unbuilt_where b = if b then Some Unbuilt else None
+
+abbrev pub event_of_four : List ℕ → Plain → Plain → Plain → Plain → Option ScriptEvent
+event_of_four word f g h i =
+    if is_word word (codes "bind") then unbuilt_where (is_binding f g h i)
+    else if is_word word (codes "watch") then unbuilt_where (is_watch f g h i) else None
+
+-- ---- the event that a value writes, where it writes one
+
+abbrev pub event_of_record : List ℕ → Plains → Option ScriptEvent
+event_of_record word (then_more f no_more) = event_of_one word f
+event_of_record word (then_more f (then_more g no_more)) = event_of_two word f g
+event_of_record word (then_more f (then_more g (then_more h (then_more i no_more)))) = event_of_four word f g h i
+event_of_record word fs = None
+
+abbrev pub event_of : Plain → Option ScriptEvent
+event_of (record_of (symbol word) fs) = event_of_record word fs
+event_of v = None

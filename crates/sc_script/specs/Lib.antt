@@ -1,10 +1,7 @@
 pub mod Events
-pub mod FirstPath
 pub mod Inputs
 pub mod Lemmas
 pub mod Reports
 pub mod Runs
-pub mod Steps
+pub mod Scripts
 pub mod TextInputs
-pub mod TextVerdicts
-pub mod Verdicts

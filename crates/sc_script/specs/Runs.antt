@@ -1,54 +1,221 @@
--- The run of a script: the steps that its events make, one after another; or the event that goes past what is built.
-use Rattle.std.specs.Prelude.{◌≡◌, ℕ, zero, suc, ◌+◌, List, [], ◌∷◌, ◌++◌, Option, Some, None, unwrap_or}
-use Rattle.std.specs.Prelude.{if◌then◌else◌}
-use Rattle.ac_world.specs.Worlds.{entry_of, with_entry}
+-- The run of a script: the steps that its values make, one event after another, or the first cause that stops it.
+use Rattle.std.specs.Prelude.{◌≡◌, ◌≢◌, ℕ, zero, suc, ◌+◌, ◌-◌, List, [], ◌∷◌, ◌++◌, drop, length, Bool, ◌&&◌, ◌||◌}
+use Rattle.std.specs.Prelude.{◌==◌, nat_lt, nat_le, Option, Some, None, unwrap_or, if◌then◌else◌}
+use Rattle.std.specs.List.{flat_map}
+use Rattle.pv_value.specs.Plain.{Plain}
+use Rattle.pv_binary.specs.OneOfThree.{AreBytes}
+use Rattle.pv_binary.specs.Written.{written}
+use Rattle.ac_world.specs.Worlds.{entry_of, with_entry, without_entry}
+use Rattle.rl_packet.specs.Packets.{packet_value}
 use Rattle.rl_packet.specs.declared.packets.Packet.{Packet}
+use Rattle.rl_packet.specs.declared.packets.Packet.TheVariants as packet
+use Rattle.rl_packet.specs.declared.packets.TurnEvent.{TurnEvent}
+use Rattle.rl_stream.specs.declared.nexts.Next.{Next}
+use Rattle.rl_stream.specs.declared.nexts.Next.TheVariants as next
+use Rattle.rl_stream.specs.Nexts.{IsNext}
+use Rattle.hub_core.specs.declared.faults.Fault.TheVariants as fault
 use Rattle.hub_core.specs.Plainness.{is_plain}
-use Rattle.hub_core.specs.Replays.{replay, sent_to, lowest}
-use Rattle.hub_core.specs.State.{State, foreign}
+use Rattle.hub_core.specs.State.{State, opening, foreign, is_there}
+use Rattle.hub_core.specs.Machine.{step as step_of}
+use Rattle.hub_core.specs.Replays.{replay, sent_to, lowest, packet_in}
 use Rattle.hub_core.specs.declared.steps.Step.{Step}
 use Rattle.hub_core.specs.declared.steps.Step.TheVariants as step
-use Rattle.sc_script.specs.declared.events.ScriptEvent.{ScriptEvent}
-use Rattle.sc_script.specs.declared.events.ScriptEvent.TheVariants.{Open, Bytes, Drain}
-use Rattle.sc_script.specs.declared.scripts.ScriptFault.{ScriptFault}
-use Rattle.sc_script.specs.declared.scripts.ScriptFault.TheVariants as fault
+use Rattle.hub_core.specs.declared.steps.Reply.{Reply}
+use Rattle.hub_core.specs.declared.steps.Reply.TheVariants as reply
+use Rattle.hub_laws.specs.Laws.{AreAllowed}
+use Rattle.sc_script.specs.declared.faults.ScriptFault.{ScriptFault}
+use Rattle.sc_script.specs.declared.faults.ScriptFault.TheVariants as script
+use Rattle.sc_script.specs.Events.{ScriptEvent, Open, Bytes, Close, Turn, Drain, LongDrain, Schema, Unbuilt, event_of}
 
--- the steps that were made; or event n names objects as only a server with a relay could take or tell it
+-- ---- how far a run is, and what stops one
+
+-- what of a connection's bytes isn't read yet, and the place of its first byte in all that the connection sent
+pub record StreamState : Type 0 where
+  pub rest : List ℕ
+  pub place : ℕ
+
+-- the steps that were made, and each connection's stream by its number
+pub record Running : Type 0 where
+  pub steps : List Step
+  pub streams : List (ℕ × StreamState)
+
+-- value n is malformed, is no event, or names a connection that was never opened; limit w is passed; or in event n what
+-- isn't built yet would be done
+pub data Cause : Type 0 where
+  bad : (n : ℕ) → Cause
+  limit : (w : ℕ) → Cause
+  not_built : (n : ℕ) → Cause
+
 pub data Course : Type 0 where
-  ran : (steps : List Step) → Course
-  stopped : (n : ℕ) → Course
+  goes : (r : Running) → Course
+  stops : (c : Cause) → Course
 
--- one course and then another
-abbrev pub goes_on : (List Step → Course) → Course → Course
-goes_on more (ran steps) = more steps
-goes_on more (stopped n) = stopped n
+-- one part after another
+abbrev pub goes_on : (Running → Course) → Course → Course
+goes_on more (goes r) = more r
+goes_on more (stops c) = stops c
 
--- in event n a turn of the actor, where there is one; none that would tell a connection of another's object is built
-abbrev pub turned : ℕ → List Step → Option ℕ → Course
-turned n steps None = ran steps
-turned n steps (Some a) = if foreign a (replay steps) then stopped n else ran (steps ++ step.Turn a ∷ [])
+abbrev pub beginning : Running
+beginning = record { steps = []; streams = [] }
 
--- a turn of the lowest actor with work
-abbrev pub turned_lowest : ℕ → List Step → Course
-turned_lowest n steps = turned n steps (lowest (replay steps))
+abbrev pub state_of : Running → State
+state_of r = replay r.steps
 
--- so many times
-abbrev pub drained : ℕ → ℕ → List Step → Course
-drained n zero steps = ran steps
-drained n (suc m) steps = goes_on (drained n m) (turned_lowest n steps)
+-- ---- steps
 
-abbrev pub after_event : ℕ → ScriptEvent → List Step → Course
-after_event n Open steps = ran (steps ++ step.Arrive 1 ∷ [])
-after_event n (Bytes es) steps = if is_plain es then ran (steps ++ step.Packet 1 es ∷ []) else stopped n
-after_event n (Drain m) steps = drained n m steps
+-- the packets that were sent, to whomever, one behind another
+abbrev pub all_sent_from : State → List Step → List Packet
+all_sent_from s [] = []
+all_sent_from s (e ∷ es) = packet_in (step_of s e).reply ++ all_sent_from (step_of s e).state es
 
--- the events from number n on
-abbrev pub after_events : ℕ → List ScriptEvent → List Step → Course
-after_events n [] steps = ran steps
-after_events n (e ∷ es) steps = goes_on (after_events (n + 1) es) (after_event n e steps)
+abbrev pub spelled : List Packet → List ℕ
+spelled packets = flat_map (λ p. written (packet_value p)) packets
 
-abbrev pub course_of : List ScriptEvent → Course
-course_of es = after_events 0 es []
+-- how many bytes were sent
+abbrev pub sent_size : List Step → ℕ
+sent_size steps = length (spelled (all_sent_from (replay []) steps))
+
+abbrev pub with_step : Step → Running → Running
+with_step e r = record { steps = r.steps ++ e ∷ []; streams = r.streams }
+
+-- a run sends no more than 268,435,456 bytes
+abbrev pub unless_too_much : Running → Course
+unless_too_much r = if nat_lt 268435456 (sent_size r.steps) then stops (limit 4) else goes r
+
+-- the numbers are used up, or more connections would be live than may be
+abbrev pub by_reply : Reply → Running → Course
+by_reply reply.Worn r = stops (limit 5)
+by_reply reply.Full r = stops (limit 2)
+by_reply (reply.Sent p) r = unless_too_much r
+by_reply answer r = goes r
+
+abbrev pub stepped : Step → Running → Course
+stepped e r = by_reply (step_of (state_of r) e).reply (with_step e r)
+
+-- in event n a turn of an actor; one that would tell a connection of another's object isn't built
+abbrev pub turned : ℕ → ℕ → Running → Course
+turned n a r = if foreign a (state_of r) then stops (not_built n) else stepped (step.Turn a) r
+
+abbrev pub turned_where : ℕ → Option ℕ → Running → Course
+turned_where n None r = goes r
+turned_where n (Some a) r = turned n a r
+
+-- so many turns of the lowest actor with work
+abbrev pub drained : ℕ → ℕ → Running → Course
+drained n zero r = goes r
+drained n (suc m) r = goes_on (drained n m) (turned_where n (lowest (state_of r)) r)
+
+-- ---- bytes
+
+abbrev pub no_stream : StreamState
+no_stream = record { rest = []; place = 0 }
+
+abbrev pub stream_of : ℕ → Running → StreamState
+stream_of k r = unwrap_or (entry_of k r.streams) no_stream
+
+abbrev pub with_stream : ℕ → StreamState → Running → Running
+with_stream k s r = record { steps = r.steps; streams = with_entry k s r.streams }
+
+-- so many bytes more are read
+abbrev pub read_off : ℕ → StreamState → StreamState
+read_off n st = record { rest = drop n st.rest; place = st.place + n }
+
+-- what is next in bytes whose first is at this place
+abbrev pub Decider : Type 0
+Decider = List ℕ → ℕ → Next
+
+abbrev pub Decides : Decider → Type 0
+Decides N = (rest : List ℕ) (place : ℕ) → AreBytes rest → IsNext rest place (N rest place)
+
+-- there is one
+abbrev pub HasDecider : Type 0
+HasDecider = (N : Decider) × Decides N
+
+-- in event n a turn of connection k; one that isn't plain isn't built
+abbrev pub turn_sent : ℕ → ℕ → List TurnEvent → Running → Course
+turn_sent n k es r = if is_plain es then stepped (step.Packet k es) r else stops (not_built n)
+
+-- more is read where the connection is still there; st is its stream
+abbrev pub read_where : ℕ → StreamState → (Running → Course) → Running → Course
+read_where k st more r = if is_there k (state_of r) then more r else goes (with_stream k st r)
+
+-- a packet: a turn is sent, an error ends the connection, and anything else is passed over; st is the stream behind it
+abbrev pub with_packet : ℕ → ℕ → Packet → StreamState → (Running → Course) → Running → Course
+with_packet n k (packet.Turn es) st more r = goes_on (read_where k st more) (turn_sent n k es r)
+with_packet n k (packet.Error message detail) st more r = stepped (step.Close k) (with_stream k st r)
+with_packet n k packet.Nop st more r = more r
+with_packet n k (packet.Extension v) st more r = more r
+
+-- what is next is no packet: the connection ends where it is bad; st is its stream
+abbrev pub with_no_packet : ℕ → Next → StreamState → Running → Course
+with_no_packet k (next.BadBytes number place) st r =
+    stepped (step.Bad k (fault.BadBytes number place)) (with_stream k st r)
+with_no_packet k next.BadPacket st r = stepped (step.Bad k fault.BadPacket) (with_stream k st r)
+with_no_packet k other st r = goes (with_stream k st r)
+
+-- what is next; more is read behind a packet, from as many bytes on as it has
+abbrev pub with_next : ℕ → ℕ → Next → StreamState → (ℕ → Running → Course) → Running → Course
+with_next n k (next.Whole p size) st more r = with_packet n k p (read_off size st) (more size) r
+with_next n k other st more r = with_no_packet k other st r
+
+-- the packets of a connection that is there, so many at most; st is its stream
+abbrev pub all_read : Decider → ℕ → ℕ → ℕ → StreamState → Running → Course
+all_read N n k zero st r = goes (with_stream k st r)
+all_read N n k (suc m) st r = with_next n k (N st.rest st.place) st (λ size. all_read N n k m (read_off size st)) r
+
+-- more bytes in a stream
+abbrev pub with_bytes : List ℕ → StreamState → StreamState
+with_bytes b st = record { rest = st.rest ++ b; place = st.place }
+
+-- the packets in a stream; each has one byte at least
+abbrev pub packets_read : Decider → ℕ → ℕ → StreamState → Running → Course
+packets_read N n k st r = all_read N n k (suc (length st.rest)) st r
+
+-- a stream is taken out, to be put back with more bytes, or fewer
+abbrev pub without_stream : ℕ → Running → Running
+without_stream k r = record { steps = r.steps; streams = without_entry k r.streams }
+
+-- bytes come; those for an ended connection are dropped
+abbrev pub bytes_come : Decider → ℕ → ℕ → List ℕ → Running → Course
+bytes_come N n k b r =
+    if is_there k (state_of r)
+    then packets_read N n k (with_bytes b (stream_of k r)) (without_stream k r) else goes r
+
+-- ---- events
+
+-- whether a connection was ever opened
+abbrev pub was_opened : ℕ → Running → Bool
+was_opened k r = nat_le 1 k && nat_le k (state_of r).world.opened
+
+-- of the system's actors each may be asked for a turn, and of connections those that were opened
+abbrev pub may_turn : ℕ → Running → Bool
+may_turn a r = nat_le a 16 || was_opened (a - 16) r
+
+abbrev pub after_event : Decider → ℕ → ScriptEvent → Running → Course
+after_event N n (Open s) r = stepped (step.Arrive s) r
+after_event N n (Bytes k b) r = if was_opened k r then bytes_come N n k b r else stops (bad n)
+after_event N n (Close k) r = if was_opened k r then stepped (step.Close k) r else stops (bad n)
+after_event N n (Turn a) r = if may_turn a r then turned n a r else stops (bad n)
+after_event N n (Drain m) r = drained n m r
+after_event N n LongDrain r = stops (limit 3)
+after_event N n Schema r = if n == 0 then stops (not_built 0) else stops (bad n)
+after_event N n Unbuilt r = stops (not_built n)
+
+abbrev pub after_value : Decider → ℕ → Option ScriptEvent → Running → Course
+after_value N n None r = stops (bad n)
+after_value N n (Some e) r = after_event N n e r
+
+-- the values from number n on
+abbrev pub after_values : Decider → ℕ → List Plain → Running → Course
+after_values N n [] r = goes r
+after_values N n (v ∷ vs) r = goes_on (after_values N (n + 1) vs) (after_value N n (event_of v) r)
+
+-- behind the values comes the end of the input, or what is no value
+abbrev pub ended : Bool → ℕ → Running → Course
+ended whole n r = if whole then goes r else stops (bad n)
+
+abbrev pub course_of : Decider → List Plain → Bool → Course
+course_of N vs whole = goes_on (ended whole (length vs)) (after_values N 0 vs beginning)
 
 -- ---- what the code keeps
 
@@ -59,19 +226,71 @@ OutsState = List (ℕ × List Packet)
 abbrev pub sent_of : ℕ → OutsState → List Packet
 sent_of k outs = unwrap_or (entry_of k outs) []
 
-abbrev pub with_packet : ℕ → Packet → OutsState → OutsState
-with_packet k p outs = with_entry k (sent_of k outs ++ p ∷ []) outs
+abbrev pub with_sent : ℕ → Packet → OutsState → OutsState
+with_sent k p outs = with_entry k (sent_of k outs ++ p ∷ []) outs
 
--- the state and what each connection was sent are those after these steps
-abbrev pub IsAt : List Step → State → OutsState → Type 0
-IsAt steps s outs = (s ≡ replay steps) × ((k : ℕ) → sent_of k outs ≡ sent_to k steps)
+pub record RunState : Type 0 where
+  pub state : State
+  pub outs : OutsState
+  pub size : ℕ
+  pub streams : List (ℕ × StreamState)
 
-abbrev pub HasRun : Course → State → OutsState → Type 0
-HasRun (ran steps) s outs = IsAt steps s outs
-HasRun (stopped n) s outs = ⊥
+-- the actor whose turn a step is
+abbrev pub turning : Step → Option ℕ
+turning (step.Turn a) = Some a
+turning e = None
 
--- why a run stops
+-- how many bytes a packet has on the wire
+abbrev pub size_of : Packet → ℕ
+size_of p = length (written (packet_value p))
+
+-- a packet of an actor's turn is kept for its connection
+abbrev pub kept : Option ℕ → Packet → OutsState → OutsState
+kept None p outs = outs
+kept (Some a) p outs = if nat_le 16 a then with_sent (a - 16) p outs else outs
+
+abbrev pub noted : Option ℕ → Packet → RunState → RunState
+noted a p s = record { state = s.state; outs = kept a p s.outs; size = s.size + size_of p; streams = s.streams }
+
+-- each step met its condition; the state, what each connection was sent, how many bytes, and the streams are the run's
+pub record IsAt (r : Running) (s : RunState) : Type 0 where
+  pub allowed : AreAllowed opening r.steps
+  pub state : s.state ≡ state_of r
+  pub sent : (k : ℕ) → sent_of k s.outs ≡ sent_to k r.steps
+  pub size : s.size ≡ sent_size r.steps
+  pub streams : s.streams ≡ r.streams
+
+abbrev pub HasRun : Course → RunState → Type 0
+HasRun (goes r) s = IsAt r s
+HasRun (stops c) s = ⊥
+
+abbrev pub cause_in : ScriptFault → Option Cause
+cause_in (script.Bad n) = Some (bad n)
+cause_in (script.Limit w) = Some (limit w)
+cause_in (script.NotBuilt n) = Some (not_built n)
+cause_in script.NoMemory = None
+
+-- the course stops for the cause that a fault tells; where memory ran out, nothing is said
+abbrev pub StopsFor : Course → Option Cause → Type 0
+StopsFor course None = Unit {0}
+StopsFor course (Some c) = course ≡ stops c
+
 abbrev pub IsStopped : Course → ScriptFault → Type 0
-IsStopped c (fault.Bad n) = ⊥
-IsStopped c (fault.NotBuilt n) = c ≡ stopped n
-IsStopped c fault.NoMemory = Unit {0}
+IsStopped course f = StopsFor course (cause_in f)
+
+-- what is promised of each part of a run: over every decider, from where the run is
+abbrev pub RunsAs : RunState → (Decider → Running → Course) → RunState → Type 0
+RunsAs s part t = (N : Decider) → Decides N → (r : Running) → IsAt r s → HasRun (part N r) t
+
+abbrev pub StopsAs : RunState → (Decider → Running → Course) → ScriptFault → Type 0
+StopsAs s part f = (N : Decider) → Decides N → (r : Running) → IsAt r s → IsStopped (part N r) f
+
+-- behind a packet the run is where the course ends, or more is read from where it is, of the same stream
+abbrev pub ReadsOn : RunState → Option StreamState → StreamState → ((Running → Course) → Course) → Type 0
+ReadsOn t None st part = (more : Running → Course) → HasRun (part more) t
+ReadsOn t (Some left) st part =
+    (left ≡ st) × (r : Running) × IsAt r t × ((more : Running → Course) → part more ≡ more r)
+
+-- an event that opens a connection names a dataspace
+abbrev pub NamesASpace : ScriptEvent → Type 0
+NamesASpace e = (s : ℕ) → e ≡ Open s → s ≢ 0

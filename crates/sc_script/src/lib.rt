@@ -1,20 +1,21 @@
-//! Scripts of the first path: their reading, their runs, and the reports of these.
+//! Scripts: their reading, their runs over the machine, what these leave, and the reports of that.
 //!
-//! What stands of an input is the verdict of `specs/Verdicts.antt`, and what is told of a script's
-//! run is the report of `specs/Reports.antt`.
+//! What stands of an input is its course in `specs/Scripts.antt`: it runs through the steps that
+//! its values make, or stops for the first cause.
 #![tactic(auto)]
 
 mod events;
+mod faults;
 mod laws;
 mod outs;
+mod ran;
 mod reports;
 mod runs;
 mod scripts;
-mod simple;
-mod text_scripts;
+mod streams;
 
-pub use laws::{one_reading, one_reading_of_text, one_verdict, one_verdict_of_text};
+pub use faults::ScriptFault;
+pub use laws::{next_is_decided, one_course, one_reading};
+pub use ran::{Connection, Ran, run_script};
 pub use reports::report;
-pub use scripts::{Script, ScriptFault, read_script};
-pub use simple::turn_of;
-pub use text_scripts::{is_text, read_text_script};
+pub use scripts::{Form, is_text};

@@ -1,6 +1,6 @@
 //! What connections were sent.
 ghost use Rattle.std.specs.Prelude.{◌≡◌, ◌++◌, [], ◌∷◌, OnOk};
-ghost use Rattle.sc_script.specs.Runs.{sent_of, with_packet};
+ghost use Rattle.sc_script.specs.Runs.{sent_of, with_sent};
 
 use pv_value::NoMemory;
 use rl_packet::Packet;
@@ -74,7 +74,7 @@ impl Outs {
 
     /// One more packet for a connection.
     pub(crate) fn add(&mut self, connection: u32, packet: Packet) -> Result<(), NoMemory>
-        ensures { OnOk result (self.new ≡ with_packet connection packet self.old) }
+        ensures { OnOk result (self.new ≡ with_sent connection packet self.old) }
     {
         let mut list = match self.lists.remove(&connection) {
             Some(packets) => packets.list,

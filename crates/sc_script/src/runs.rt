@@ -1,91 +1,175 @@
-//! Runs of scripts.
-ghost use Rattle.std.specs.Prelude.{◌≡◌, ◌++◌, ℕ, [], ◌∷◌, List, Some, IfOk, IfErr, OnOk};
-ghost use Rattle.hub_core.specs.Replays.{sent_by};
-ghost use Rattle.hub_core.specs.declared.steps.Step.{Step as StepOf};
-ghost use Rattle.hub_core.specs.declared.steps.Step.TheVariants as step;
-ghost use Rattle.sc_script.specs.Runs.{turned, drained, after_event, course_of, sent_of};
-ghost use Rattle.sc_script.specs.Runs.{ran, stopped, IsAt, HasRun, IsStopped};
-ghost use Rattle.std.specs.Prelude.{if◌then◌else◌};
-ghost use Rattle.hub_core.specs.Plainness.{is_plain};
+//! Runs of scripts, over any body of a dataspace.
+ghost use Rattle.std.specs.Prelude.{◌≡◌, ◌≢◌, ◌+◌, ◌<◌, ◌≤◌, ℕ, IfOk, IfErr, IfSome};
+ghost use Rattle.hub_core.specs.Machine.{IsAllowed};
+ghost use Rattle.sc_script.specs.declared.faults.ScriptFault.TheVariants as fault;
+ghost use Rattle.sc_script.specs.Events.{event_of};
+ghost use Rattle.sc_script.specs.Runs.{Running, Decider, Decides, Course, goes, beginning, stepped};
+ghost use Rattle.sc_script.specs.Runs.{turned, drained, with_stream, turn_sent, with_no_packet};
+ghost use Rattle.sc_script.specs.Runs.{packets_read, bytes_come, was_opened, may_turn, after_event};
+ghost use Rattle.sc_script.specs.Runs.{after_value, course_of, turning, size_of, noted, IsAt};
+ghost use Rattle.sc_script.specs.Runs.{HasRun};
+ghost use Rattle.sc_script.specs.Runs.{IsStopped, RunsAs, StopsAs, NamesASpace, with_packet};
+ghost use Rattle.sc_script.specs.Runs.{ReadsOn};
 
-use crate::events::ScriptEvent;
+use crate::events::{ScriptEvent, event_of};
+use crate::faults::ScriptFault;
 use crate::outs::Outs;
-use crate::scripts::{Script, ScriptFault};
-use ds_space::PlainSpace;
-use hub_core::{Hub, Reply, Step, plain};
-use pv_value::NoMemory;
-use rl_packet::Turn;
+use crate::streams::{Stream, Streams};
+use ds_space::Space;
+use hub_core::{Fault, Hub, Reply, Step, plain};
+use pv_binary::write_into;
+use pv_value::{NoMemory, Value};
+use rl_packet::{Packet, Turn, packet_value};
+use rl_stream::{Next, next_packet, one_next};
 use std::alloc::Global;
+use std::marker::Model;
 
 /// Connection k is actor 16 + k.
 const BEFORE_CONNECTIONS: u32 = 16;
 
-/// A run so far: the server, and the packets that connections were sent.
+/// The most bytes that a run sends.
+const SENT_BYTES: u64 = 268_435_456;
+
+/// A run so far: the server, what connections were sent and how many bytes, and what they sent.
 #[derive(Drop)]
-pub(crate) struct Run {
-    pub(crate) hub: Hub<PlainSpace>,
+pub(crate) struct Run<S: Space + Drop> {
+    pub(crate) hub: Hub<S>,
     pub(crate) outs: Outs,
+    size: u64,
+    streams: Streams,
 }
 
-impl Run {
-    fn begin(alloc: Global) -> Result<Run, NoMemory>
-        ensures { IfOk result (λ run. IsAt [] run.hub run.outs) }
+impl<S: Space + Drop> Model for Run<S> {
+    ghost use Rattle.std.specs.Coded.{codes};
+    ghost use Rattle.pv_value.specs.Lemmas.Coded.{plain_code};
+    ghost use Rattle.sc_script.specs.Runs.{RunState};
+
+    ghost Value = { RunState };
+
+    ghost coded = { Prim.hlevel (codes, plain_code) };
+
+    ghost view = { λ r. record {
+      state = r.hub;
+      outs = r.outs;
+      size = r.size;
+      streams = r.streams;
+    } };
+
+    ghost use Rattle.std.specs.Prelude.{◌≤◌};
+
+    ghost invariant = { λ r. r.size ≤ 268435456 };
+}
+
+/// How many bytes a packet has on the wire.
+fn size_of(alloc: Global, packet: &Packet) -> Result<usize, NoMemory>
+    ensures { IfOk result (λ n. n ≡ size_of packet.now) }
+{
+    let value = packet_value(alloc, packet)?;
+    let mut bytes = Vec::new(alloc);
+    write_into(&mut bytes, &value)?;
+    Ok(bytes.len())
+}
+
+/// The actor whose turn a step is.
+fn turning(event: &Step) -> Option<u32>
+    ensures { result ≡ turning event.now }
+{
+    match event {
+        Step::Turn(actor) => Some(*actor),
+        _ => None,
+    }
+}
+
+impl<S: Space + Drop> Run<S> {
+    fn begin(alloc: Global) -> Result<Run<S>, NoMemory>
+        ensures { IfOk result (IsAt beginning) }
     {
         Ok(Run {
             hub: Hub::begin(alloc)?,
             outs: Outs::new(alloc),
+            size: 0,
+            streams: Streams::new(alloc),
         })
     }
 
-    /// Connection 1 comes, to dataspace 1.
-    fn open(self, alloc: Global) -> Result<Run, NoMemory>
-        ensures { IfOk result (λ run. (steps : List StepOf) → IsAt steps self.hub self.outs
-            → IsAt (steps ++ step.Arrive 1 ∷ []) run.hub run.outs) }
+    /// A packet was sent by a step, which is an actor's turn: it is kept for its connection, and
+    /// its bytes count.
+    fn note(self, alloc: Global, actor: Option<u32>, packet: Packet) -> Result<Run<S>, ScriptFault>
+        ensures run { IfOk result (λ run. run ≡ noted actor packet self) }
+        ensures stop { IfErr result (λ f. f ≢ fault.NoMemory
+            → (f ≡ fault.Limit 4) × (268435456 < self.size + size_of packet)) }
     {
-        let Run { hub, outs } = self;
-        let (hub, _) = hub.step(alloc, Step::Arrive(1))?;
-        Ok(Run { hub, outs })
-    }
-
-    /// Connection 1 sends a turn, in event `place`.
-    fn packet(self, alloc: Global, place: u64, turn: Turn) -> Result<Run, ScriptFault>
-        ensures run { IfOk result (λ run. (steps : List StepOf) → IsAt steps self.hub self.outs
-            → HasRun (if is_plain turn then ran (steps ++ step.Packet 1 turn ∷ [])
-            else stopped place) run.hub run.outs) }
-        ensures stop { IfErr result (λ f. (steps : List StepOf) → IsAt steps self.hub self.outs
-            → IsStopped (if is_plain turn then ran (steps ++ step.Packet 1 turn ∷ [])
-            else stopped place) f) }
-    {
-        if !plain(&turn) {
-            return Err(ScriptFault::NotBuilt(place));
+        let Run {
+            hub,
+            mut outs,
+            size,
+            streams,
+        } = self;
+        let size = size.saturating_add(size_of(alloc, &packet)? as u64);
+        if size > SENT_BYTES {
+            return Err(ScriptFault::Limit(4));
         }
-        let Run { hub, outs } = self;
-        let (hub, _) = hub.step(alloc, Step::Packet(1, turn))?;
-        Ok(Run { hub, outs })
+        if let Some(actor) = actor
+            && actor >= BEFORE_CONNECTIONS
+        {
+            outs.add(actor - BEFORE_CONNECTIONS, packet)?;
+        }
+        Ok(Run {
+            hub,
+            outs,
+            size,
+            streams,
+        })
     }
 
-    /// An actor takes the first batch of its inbox, in event `place`.
-    fn turn(self, alloc: Global, place: u64, actor: u32) -> Result<Run, ScriptFault>
-        ensures run { IfOk result (λ run. (steps : List StepOf) → IsAt steps self.hub self.outs
-            → HasRun (turned place steps (Some actor)) run.hub run.outs) }
-        ensures stop { IfErr result (λ f. (steps : List StepOf) → IsAt steps self.hub self.outs
-            → IsStopped (turned place steps (Some actor)) f) }
+    /// A step, whose condition is seen to.
+    fn step(self, alloc: Global, event: Step) -> Result<Run<S>, ScriptFault>
+        requires { IsAllowed self.state event }
+        ensures run { IfOk result (RunsAs self (λ N. stepped event)) }
+        ensures stop { IfErr result (StopsAs self (λ N. stepped event)) }
+    {
+        let actor = turning(&event);
+        let Run {
+            hub,
+            outs,
+            size,
+            streams,
+        } = self;
+        let (hub, reply) = hub.step(alloc, event)?;
+        let run = Run {
+            hub,
+            outs,
+            size,
+            streams,
+        };
+        match reply {
+            Reply::Worn => Err(ScriptFault::Limit(5)),
+            Reply::Full => Err(ScriptFault::Limit(2)),
+            Reply::Sent(packet) => {
+                let run = run.note(alloc, actor, packet)?;
+                // the proof learns here that a run sends no more than it may
+                let _ = &run.size;
+                Ok(run)
+            }
+            _ => Ok(run),
+        }
+    }
+
+    /// A turn of an actor, in event `place`.
+    fn turn(self, alloc: Global, place: u64, actor: u32) -> Result<Run<S>, ScriptFault>
+        ensures run { IfOk result (RunsAs self (λ N. turned place actor)) }
+        ensures stop { IfErr result (StopsAs self (λ N. turned place actor)) }
     {
         if self.hub.foreign(actor) {
             return Err(ScriptFault::NotBuilt(place));
         }
-        let Run { hub, mut outs } = self;
-        let (hub, reply) = hub.step(alloc, Step::Turn(actor))?;
-        note(&mut outs, actor, reply)?;
-        Ok(Run { hub, outs })
+        self.step(alloc, Step::Turn(actor))
     }
 
     /// Up to so many turns of the lowest actor that has work, in event `place`.
-    fn drain(self, alloc: Global, place: u64, turns: u64) -> Result<Run, ScriptFault>
-        ensures run { IfOk result (λ run. (steps : List StepOf) → IsAt steps self.hub self.outs
-            → HasRun (drained place turns steps) run.hub run.outs) }
-        ensures stop { IfErr result (λ f. (steps : List StepOf) → IsAt steps self.hub self.outs
-            → IsStopped (drained place turns steps) f) }
+    fn drain(self, alloc: Global, place: u64, turns: u64) -> Result<Run<S>, ScriptFault>
+        ensures run { IfOk result (RunsAs self (λ N. drained place turns)) }
+        ensures stop { IfErr result (StopsAs self (λ N. drained place turns)) }
     {
         let mut run = self;
         for _ in 0..turns {
@@ -97,43 +181,231 @@ impl Run {
         Ok(run)
     }
 
-    /// One event, of number `place`.
-    fn event(self, alloc: Global, place: u64, event: ScriptEvent) -> Result<Run, ScriptFault>
-        ensures run { IfOk result (λ run. (steps : List StepOf) → IsAt steps self.hub self.outs
-            → HasRun (after_event place event steps) run.hub run.outs) }
-        ensures stop { IfErr result (λ f. (steps : List StepOf) → IsAt steps self.hub self.outs
-            → IsStopped (after_event place event steps) f) }
+    /// A connection's stream is put back.
+    fn with_stream(self, connection: u32, stream: Stream) -> Result<Run<S>, NoMemory>
+        ensures { IfOk result (RunsAs self (λ N r. goes (with_stream connection stream r))) }
     {
-        match event {
-            ScriptEvent::Open => Ok(self.open(alloc)?),
-            ScriptEvent::Bytes(turn) => self.packet(alloc, place, turn),
-            ScriptEvent::Drain(turns) => self.drain(alloc, place, turns),
+        let Run {
+            hub,
+            outs,
+            size,
+            mut streams,
+        } = self;
+        streams.put(connection, stream)?;
+        Ok(Run {
+            hub,
+            outs,
+            size,
+            streams,
+        })
+    }
+
+    /// A turn of a connection, in event `place`.
+    fn send(
+        self,
+        alloc: Global,
+        place: u64,
+        connection: u32,
+        turn: Turn,
+    ) -> Result<Run<S>, ScriptFault>
+        ensures run { IfOk result (RunsAs self (λ N. turn_sent place connection turn)) }
+        ensures stop { IfErr result (StopsAs self (λ N. turn_sent place connection turn)) }
+    {
+        if !plain(&turn) {
+            return Err(ScriptFault::NotBuilt(place));
+        }
+        self.step(alloc, Step::Packet(connection, turn))
+    }
+
+    /// What is next isn't a packet: the connection ends where it is bad. Its stream is put back.
+    fn stop_reading(
+        self,
+        alloc: Global,
+        connection: u32,
+        next: Next,
+        stream: Stream,
+    ) -> Result<Run<S>, ScriptFault>
+        ensures run { IfOk result (RunsAs self (λ N. with_no_packet connection next stream)) }
+        ensures stop { IfErr result (StopsAs self (λ N. with_no_packet connection next stream)) }
+    {
+        let run = self.with_stream(connection, stream)?;
+        match next {
+            Next::BadBytes(number, place) => {
+                let fault = Fault::BadBytes(number, place);
+                run.step(alloc, Step::Bad(connection, fault))
+            }
+            Next::BadPacket => run.step(alloc, Step::Bad(connection, Fault::BadPacket)),
+            _ => Ok(run),
         }
     }
-}
 
-/// Keeps the packet that an actor's turn sent, where the actor is a connection.
-fn note(outs: &mut Outs, actor: u32, reply: Reply) -> Result<(), NoMemory>
-    ensures { OnOk result ((k : ℕ)
-        → sent_of k outs.new ≡ sent_of k outs.old ++ sent_by k (step.Turn actor) reply) }
-{
-    if actor < BEFORE_CONNECTIONS {
-        return Ok(());
+    /// A packet of a connection, in event `place`. The stream behind it is put back where no more
+    /// is read.
+    fn packet(
+        self,
+        alloc: Global,
+        place: u64,
+        connection: u32,
+        packet: Packet,
+        stream: Stream,
+    ) -> Result<(Run<S>, Option<Stream>), ScriptFault>
+        ensures run { IfOk result (λ done. (N : Decider) → Decides N → (r : Running) → IsAt r self
+            → ReadsOn done.0 done.1 stream
+            (λ more. with_packet place connection packet stream more r)) }
+        ensures left { IfOk result (λ done. IfSome done.1 (λ left. left ≡ stream)) }
+        ensures stop { IfErr result (λ f. (more : Running → Course)
+            → StopsAs self (λ N. with_packet place connection packet stream more) f) }
+    {
+        match packet {
+            Packet::Turn(turn) => {
+                let run = self.send(alloc, place, connection, turn)?;
+                if run.hub.live(connection) {
+                    return Ok((run, Some(stream)));
+                }
+                Ok((run.with_stream(connection, stream)?, None))
+            }
+            Packet::Error(_, _) => {
+                let run = self.with_stream(connection, stream)?;
+                Ok((run.step(alloc, Step::Close(connection))?, None))
+            }
+            Packet::Nop | Packet::Extension(_) => Ok((self, Some(stream))),
+        }
     }
-    match reply {
-        Reply::Sent(packet) => outs.add(actor - BEFORE_CONNECTIONS, packet),
-        _ => Ok(()),
-    }
-}
 
-/// Does all events of a script.
-pub(crate) fn run_script(alloc: Global, script: Script) -> Result<Run, ScriptFault>
-    ensures run { IfOk result (λ run. HasRun (course_of script) run.hub run.outs) }
-    ensures stop { IfErr result (IsStopped (course_of script)) }
-{
-    let mut run = Run::begin(alloc)?;
-    for (place, event) in script.into_events().into_iter().enumerate() {
-        run = run.event(alloc, place as u64, event)?;
+    /// The packets in the stream of a connection that is there, in event `place`. The stream was
+    /// taken out, and is put back.
+    fn read_packets(
+        self,
+        alloc: Global,
+        place: u64,
+        connection: u32,
+        mut stream: Stream,
+    ) -> Result<Run<S>, ScriptFault>
+        ensures run { IfOk result
+            (RunsAs self (λ N. packets_read N place connection stream)) }
+        ensures stop { IfErr result
+            (StopsAs self (λ N. packets_read N place connection stream)) }
+    {
+        one_next();
+        let mut run = self;
+        loop {
+            let next = next_packet(alloc, stream.rest(), stream.place())?;
+            let Next::Whole(packet, size) = next else {
+                return run.stop_reading(alloc, connection, next, stream);
+            };
+            stream.read_off(size);
+            let (now, left) = run.packet(alloc, place, connection, packet, stream)?;
+            let Some(left) = left else {
+                return Ok(now);
+            };
+            run = now;
+            stream = left;
+        }
     }
-    Ok(run)
+
+    /// Bytes of a connection come, in event `place`.
+    fn bytes(
+        self,
+        alloc: Global,
+        place: u64,
+        connection: u32,
+        bytes: &[u8],
+    ) -> Result<Run<S>, ScriptFault>
+        ensures run { IfOk result
+            (RunsAs self (λ N. bytes_come N place connection bytes.now)) }
+        ensures stop { IfErr result
+            (StopsAs self (λ N. bytes_come N place connection bytes.now)) }
+    {
+        if !self.hub.live(connection) {
+            return Ok(self);
+        }
+        let Run {
+            hub,
+            outs,
+            size,
+            mut streams,
+        } = self;
+        let stream = streams.take(connection, bytes)?;
+        let run = Run {
+            hub,
+            outs,
+            size,
+            streams,
+        };
+        run.read_packets(alloc, place, connection, stream)
+    }
+
+    /// Whether a connection was ever opened.
+    fn was_opened(&self, connection: u32) -> bool
+        ensures { (r : Running) → IsAt r self.now → result ≡ was_opened connection r }
+    {
+        connection >= 1 && connection <= self.hub.opened()
+    }
+
+    /// Whether an actor may be asked for a turn: one of the system, or a connection that was ever
+    /// opened.
+    fn may_turn(&self, actor: u32) -> bool
+        ensures { (r : Running) → IsAt r self.now → result ≡ may_turn actor r }
+    {
+        actor <= BEFORE_CONNECTIONS || self.was_opened(actor - BEFORE_CONNECTIONS)
+    }
+
+    /// Event `place` of a script.
+    fn event(self, alloc: Global, place: u64, event: ScriptEvent) -> Result<Run<S>, ScriptFault>
+        requires { NamesASpace event }
+        ensures run { IfOk result (RunsAs self (λ N. after_event N place event)) }
+        ensures stop { IfErr result (StopsAs self (λ N. after_event N place event)) }
+    {
+        match event {
+            ScriptEvent::Open(space) => self.step(alloc, Step::Arrive(space)),
+            ScriptEvent::Bytes(connection, bytes) if self.was_opened(connection) => {
+                self.bytes(alloc, place, connection, bytes.as_slice())
+            }
+            ScriptEvent::Close(connection) if self.was_opened(connection) => {
+                self.step(alloc, Step::Close(connection))
+            }
+            ScriptEvent::Turn(actor) if self.may_turn(actor) => self.turn(alloc, place, actor),
+            ScriptEvent::Drain(turns) => self.drain(alloc, place, turns),
+            ScriptEvent::LongDrain => Err(ScriptFault::Limit(3)),
+            ScriptEvent::Schema if place == 0 => Err(ScriptFault::NotBuilt(0)),
+            ScriptEvent::Unbuilt => Err(ScriptFault::NotBuilt(place)),
+            _ => Err(ScriptFault::Bad(place)),
+        }
+    }
+
+    /// Value `place` of a script.
+    fn value(self, alloc: Global, place: u64, value: &Value) -> Result<Run<S>, ScriptFault>
+        ensures run { IfOk result
+            (RunsAs self (λ N. after_value N place (event_of value.now))) }
+        ensures stop { IfErr result
+            (StopsAs self (λ N. after_value N place (event_of value.now))) }
+    {
+        match event_of(alloc, value)? {
+            Some(event) => self.event(alloc, place, event),
+            None => Err(ScriptFault::Bad(place)),
+        }
+    }
+
+    /// The run of values, which were read to the end of the input or to where no more could be.
+    pub(crate) fn of_values(
+        alloc: Global,
+        values: &[Value],
+        whole: bool,
+    ) -> Result<Run<S>, ScriptFault>
+        ensures run { IfOk result (λ run. (N : Decider) → Decides N
+            → HasRun (course_of N values.now whole) run) }
+        ensures stop { IfErr result (λ f. (N : Decider) → Decides N
+            → IsStopped (course_of N values.now whole) f) }
+    {
+        let mut run = Run::begin(alloc)?;
+        let mut place = 0;
+        for value in values {
+            run = run.value(alloc, place, value)?;
+            place += 1;
+        }
+        if !whole {
+            return Err(ScriptFault::Bad(place));
+        }
+        Ok(run)
+    }
 }

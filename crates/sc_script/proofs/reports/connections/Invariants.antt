@@ -1,10 +1,7 @@
-use Rattle.std.proofs.Common.{◌≡◌, List}
-use Rattle.hub_core.specs.declared.steps.Step.{Step}
-use Rattle.sc_script.specs.Runs.{IsAt}
-use Rattle.sc_script.specs.Reports.{connections}
+use Rattle.std.proofs.Common.{◌≡◌, take}
+use Rattle.sc_script.specs.Reports.{connection_values}
 use Rattle.sc_script.proofs.reports.connections.Given as goal
 
 -- the connections so far are told
-abbrev pub invariant-loop-earlier : goal.invariant-loop-earlier
-invariant-loop-earlier l =
-    (steps : List Step) → IsAt steps l.run.hub l.run.outs → l.values.items ≡ connections steps l.earlier
+abbrev pub invariant-loop-connection : goal.invariant-loop-connection
+invariant-loop-connection l = l.values.items ≡ connection_values 1 (take l.connection-index l.connections)

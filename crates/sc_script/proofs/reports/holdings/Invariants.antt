@@ -3,4 +3,4 @@ use Rattle.sc_script.specs.Reports.{holding_value}
 use Rattle.sc_script.proofs.reports.holdings.Given as goal
 
 abbrev pub invariant-loop-holding : goal.invariant-loop-holding
-invariant-loop-holding l = l.values.items ≡ map holding_value (take l.holding-index l.holding-items)
+invariant-loop-holding l = l.values.items ≡ map holding_value (take l.holding-index l.held)

@@ -1,7 +1,7 @@
 use Rattle.std.proofs.Common.{◌≡◌, ap, ◌∙◌, unwrap_or, [], ◌∷◌, ◌++◌, List, Option}
 use Rattle.rl_packet.specs.declared.packets.Packet.{Packet}
 use Rattle.ac_world.proofs.Taken.{back}
-use Rattle.sc_script.specs.Runs.{sent_of, with_packet}
+use Rattle.sc_script.specs.Runs.{sent_of, with_sent}
 use Rattle.sc_script.proofs.outs.Outs.add.Goals as goal
 use Rattle.sc_script.proofs.outs.Outs.add.Goals.{in-Some, in-None}
 
@@ -19,4 +19,4 @@ returns c =
     let more = c.in_ok-push.ensures.items ∙ ap (λ (l : List Packet). l ++ c.args.packet ∷ []) so_far in
     back k _ (sent_of k es ++ c.args.packet ∷ []) es _ _ c.self.invariant c.remove.ensures.entries
     c.in_ok-insert.ensures.entries more
-    ∙ ap (with_packet k c.args.packet) c.self.view_is
+    ∙ ap (with_sent k c.args.packet) c.self.view_is

@@ -1,13 +1,33 @@
-use Rattle.std.proofs.Common.{◌∷◌, [], ◌++◌, sym, append-nil, ◌∙◌, if◌then◌else◌, subst}
-use Rattle.hub_core.specs.declared.steps.Step.TheVariants.{Packet}
-use Rattle.sc_script.specs.Runs.{ran, stopped, sent_of, HasRun}
-use Rattle.sc_script.proofs.Replays.{at_more}
+use Rattle.std.proofs.Common.{◌≡◌, sym, ap, ◌∙◌}
+use Rattle.hub_core.specs.State.{is_there}
+use Rattle.sc_script.specs.Runs.{RunState, with_stream}
+use Rattle.sc_script.proofs.Reading.{err_so, stops_first, reads_more, reads_no_more}
 use Rattle.sc_script.proofs.runs.Run.packet.Goals as goal
 
-pub returns-clause-run : goal.returns-clause-run
-returns-clause-run c = λ steps at.
-    let e = Packet 1 c.args.turn in
-    subst (λ b. HasRun (if b then ran (steps ++ e ∷ []) else stopped c.args.place) c.in_ok-hub.hub c.args.self.outs)
-    (sym c.if-not-plain.false ∙ c.plain.ensures)
-    (at_more steps e _ _ c.args.self.outs _ at c.in_ok-hub.ensures.state
-    (λ k. sym (append-nil (sent_of k c.args.self.outs))))
+pub returns-in_err-run-in-Turn-clause-stop : goal.returns-in_err-run-in-Turn-clause-stop
+returns-in_err-run-in-Turn-clause-stop g c = err_so _ _ _ c.from_residual.ensures.1 (λ more N d r at.
+    rw c.in-Turn.is (stops_first _ _ _ (c.in_err-run-in-Turn.ensures.stop N d r at)))
+
+pub returns-then-live-clause-run : goal.returns-then-live-clause-run
+returns-then-live-clause-run g c = λ N d r at.
+    let k = c.args.connection in
+    rw c.in-Turn.is (reads_more _ k c.args.stream _ (c.in_ok-run-in-Turn.ensures.run N d r at)
+    (ap (λ (s : RunState). is_there k s.state) (sym c.run.view_is) ∙ sym c.live.ensures.there ∙ c.if-live.true))
+
+pub returns-in-Turn-clause-run : goal.returns-in-Turn-clause-run
+returns-in-Turn-clause-run g c = λ N d r at.
+    let k = c.args.connection in
+    rw c.in-Turn.is (reads_no_more _ k c.args.stream _ _ (c.in_ok-run-in-Turn.ensures.run N d r at)
+    (ap (λ (s : RunState). is_there k s.state) (sym c.run.view_is) ∙ sym c.live.ensures.there ∙ c.if-live.false)
+    (λ t is. c.in_ok-with_stream-in-Turn.ensures N d t is))
+
+pub returns-in_err-step-in-Error-clause-stop : goal.returns-in_err-step-in-Error-clause-stop
+returns-in_err-step-in-Error-clause-stop g c =
+    err_so _ _ _ c.from_residual-in_err-step-in-Error.ensures.1 (λ more N d r at.
+    rw c.in-Error.is (c.in_err-step-in-Error.ensures.stop N d (with_stream c.args.connection c.args.stream r)
+    (c.in_ok-run-in-Error.ensures N d r at)))
+
+pub returns-in-Error-clause-run : goal.returns-in-Error-clause-run
+returns-in-Error-clause-run g c = λ N d r at more.
+    rw c.in-Error.is (c.in_ok-step-in-Error.ensures.run N d (with_stream c.args.connection c.args.stream r)
+    (c.in_ok-run-in-Error.ensures N d r at))

@@ -1,0 +1,45 @@
+-- A connection's packets: how a course goes on behind each that is read.
+use Rattle.std.proofs.Common.{◌≡◌, ℕ, zero, suc, ◌+◌, ◌<◌, List, length, drop, refl, sym, ap, ◌∙◌, subst, arith}
+use Rattle.std.proofs.Common.{Option, Some, None, Bool, true, false, cond, length-drop}
+use Rattle.std.proofs.Common.{Result, Ok, Err, IfErr}
+use Rattle.std.specs.Result.{IsErrAnd}
+use Rattle.hub_core.specs.State.{is_there}
+use Rattle.rl_packet.specs.declared.packets.TurnEvent.{TurnEvent}
+use Rattle.sc_script.specs.Runs.{Running, StreamState, Cause, Course, goes, stops, goes_on, state_of, with_stream}
+use Rattle.sc_script.specs.Runs.{read_off, Decider, Decides, all_read, read_where, turn_sent, ReadsOn, RunState, IsAt}
+use Rattle.sc_script.specs.Runs.{HasRun, StopsFor}
+
+-- what `?` passes on of a fault
+pub err_so : {T E : Type 0} (P : E → Type 0) (r : Result T E) (f : E) → IsErrAnd r (λ x. x ≡ f) → P f → IfErr r P
+err_so P (Ok t) f is h = tt
+err_so P (Err x) f is h = subst P (sym is) h
+
+-- where a course has a run, it goes on from there
+pub gone : (c : Course) (s : RunState) → HasRun c s → (r : Running) × IsAt r s × (c ≡ goes r)
+gone (goes r) s h = (r, h, refl)
+gone (stops c) s h = absurd h
+
+-- what stops a first part stops the whole
+pub stops_first : (later : Running → Course) (c : Course) (o : Option Cause) → StopsFor c o
+    → StopsFor (goes_on later c) o
+stops_first later c None h = tt
+stops_first later c (Some x) h = ap (goes_on later) h
+
+-- behind a turn more is read, where the connection is still there
+pub reads_more : (c : Course) (k : ℕ) (st : StreamState) (s : RunState) → HasRun c s → is_there k s.state ≡ true
+    → ReadsOn s (Some st) st (λ more. goes_on (read_where k st more) c)
+reads_more (goes r) k st s h is = (
+  refl,
+  r,
+  h,
+  λ more. ap (λ b. cond b (more r) (goes (with_stream k st r))) (ap (is_there k) (sym h.state) ∙ is),
+)
+reads_more (stops c) k st s h is = absurd h
+
+pub reads_no_more : (c : Course) (k : ℕ) (st : StreamState) (s t : RunState) → HasRun c s
+    → is_there k s.state ≡ false → ((r : Running) → IsAt r s → IsAt (with_stream k st r) t)
+    → ReadsOn t None st (λ more. goes_on (read_where k st more) c)
+reads_no_more (goes r) k st s t h is put = λ more.
+    subst (λ b. HasRun (cond b (more r) (goes (with_stream k st r))) t) (sym (ap (is_there k) (sym h.state) ∙ is))
+    (put r h)
+reads_no_more (stops c) k st s t h is put = absurd h

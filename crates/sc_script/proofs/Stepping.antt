@@ -1,0 +1,112 @@
+-- A step of a run, by its reply: the run goes on from what is kept behind it, or sends too much.
+use Rattle.std.proofs.Common.{◌≡◌, ℕ, ◌+◌, ◌≤◌, ◌<◌, true, false, [], ◌∷◌, ◌++◌, refl, sym, ap, ◌∙◌, subst}
+use Rattle.std.proofs.Common.{append-nil, arith, nat_lt, length, if◌then◌else◌}
+use Rattle.std.proofs.lemmas.Bool.Decides.{nat_tests}
+use Rattle.pv_binary.specs.Written.{written}
+use Rattle.rl_packet.specs.Packets.{packet_value}
+use Rattle.rl_packet.specs.declared.packets.Packet.{Packet}
+use Rattle.hub_core.specs.Machine.{step, IsAllowed}
+use Rattle.hub_core.specs.Replays.{packet_in, sent_by}
+use Rattle.hub_core.specs.declared.steps.Step.{Step}
+use Rattle.hub_core.specs.declared.steps.Reply.{Reply}
+use Rattle.hub_core.specs.declared.steps.Reply.TheVariants.{Worn, Barred, Halted, Full, Opened, Gone, Refused, Idle}
+use Rattle.hub_core.specs.declared.steps.Reply.TheVariants.{Sent, Ran, Taken}
+use Rattle.sc_script.specs.declared.faults.ScriptFault.{ScriptFault}
+use Rattle.sc_script.specs.declared.faults.ScriptFault.TheVariants as fault
+use Rattle.sc_script.specs.Runs.{Running, RunState, Course, goes, stops, limit, by_reply, stepped, with_step}
+use Rattle.sc_script.specs.Runs.{unless_too_much, sent_size, sent_of, kept, turning, size_of, IsAt, HasRun, IsStopped}
+use Rattle.sc_script.proofs.Replays.{at_more, bytes_of, sent_size-more}
+use Rattle.sc_script.proofs.Sending.{kept_sent, none_sent}
+
+-- ---- no packet
+
+abbrev pub IsQuiet : Reply → Type 0
+IsQuiet reply = ((r : Running) → by_reply reply r ≡ goes r) × (packet_in reply ≡ [])
+
+pub quiet : (reply : Reply) → (reply ≡ Worn → ⊥) → (reply ≡ Full → ⊥) → ((p : Packet) → reply ≡ Sent p → ⊥)
+    → IsQuiet reply
+quiet Worn worn full sent = absurd (worn refl)
+quiet Barred worn full sent = (λ r. refl, refl)
+quiet Halted worn full sent = (λ r. refl, refl)
+quiet Full worn full sent = absurd (full refl)
+quiet (Opened k) worn full sent = (λ r. refl, refl)
+quiet Gone worn full sent = (λ r. refl, refl)
+quiet (Refused f) worn full sent = (λ r. refl, refl)
+quiet Idle worn full sent = (λ r. refl, refl)
+quiet (Sent p) worn full sent = absurd (sent p refl)
+quiet Ran worn full sent = (λ r. refl, refl)
+quiet Taken worn full sent = (λ r. refl, refl)
+
+-- ---- a packet
+
+goes_where : (r : Running) (n : ℕ) → n ≡ sent_size r.steps → n ≤ 268435456 → unless_too_much r ≡ goes r
+goes_where r n is few =
+    let b : nat_lt 268435456 (sent_size r.steps) ≡ false = grind (arith, nat_tests) in
+    ap (λ b. if b then stops (limit 4) else goes r) b
+
+stops_where : (r : Running) (n : ℕ) → sent_size r.steps ≡ n → 268435456 < n → unless_too_much r ≡ stops (limit 4)
+stops_where r n is many =
+    let b : nat_lt 268435456 (sent_size r.steps) ≡ true = grind (arith, nat_tests) in
+    ap (λ b. if b then stops (limit 4) else goes r) b
+
+-- ---- steps
+
+sum_none : {a b n : ℕ} → a ≡ b → n ≡ 0 → a ≡ b + n
+sum_none p q = omega arith
+
+-- the reply is that of the run
+by_the_reply : (e : Step) (r : Running) (s : RunState) (reply : Reply) → IsAt r s → reply ≡ (step s.state e).reply
+    → stepped e r ≡ by_reply reply (with_step e r)
+by_the_reply e r s reply at is =
+    ap (λ x. by_reply x (with_step e r)) (sym (is ∙ ap (λ t. (step t e).reply) at.state))
+
+one_sent : (p : Packet) (reply : Reply) → reply ≡ Sent p → bytes_of (packet_in reply) ≡ size_of p
+one_sent p reply is =
+    ap (λ x. bytes_of (packet_in x)) is ∙ ap length (append-nil (written (packet_value p)))
+
+pub stops_sending : (e : Step) (r : Running) (s : RunState) (p : Packet) → IsAt r s → (step s.state e).reply ≡ Sent p
+    → 268435456 < s.size + size_of p → stepped e r ≡ stops (limit 4)
+stops_sending e r s p at is many =
+    let all : sent_size (r.steps ++ e ∷ []) ≡ s.size + size_of p =
+    sent_size-more r.steps e
+    ∙ (λ i. sym at.size i + bytes_of (packet_in (step (sym at.state i) e).reply))
+    ∙ ap (λ n. s.size + n) (one_sent p (step s.state e).reply is) in
+    by_the_reply e r s (Sent p) at (sym is) ∙ stops_where (with_step e r) (s.size + size_of p) all many
+
+module _ (e : Step) (r : Running) (s now : RunState) (at : IsAt r s) (may : IsAllowed s.state e)
+    (is_state : now.state ≡ (step s.state e).state) where
+  pub goes_quietly : (reply : Reply) → reply ≡ (step s.state e).reply → IsQuiet reply → now.outs ≡ s.outs
+      → now.size ≡ s.size → now.streams ≡ s.streams → HasRun (stepped e r) now
+  goes_quietly reply is none is_outs is_size is_streams =
+      let nothing : packet_in (step s.state e).reply ≡ [] = ap packet_in (sym is) ∙ none.1 in
+      subst (λ c. HasRun c now) (sym (by_the_reply e r s reply at is ∙ none.0 (with_step e r)))
+      (at_more r e s now at may is_state
+      (λ k. ap (sent_of k) is_outs ∙ sym (append-nil (sent_of k s.outs))
+      ∙ ap (λ ps. sent_of k s.outs ++ ps) (sym (none_sent e k (step s.state e).reply nothing)))
+      (sum_none is_size (ap bytes_of nothing)) is_streams)
+
+  pub goes_sending : (p : Packet) → (step s.state e).reply ≡ Sent p → now.outs ≡ kept (turning e) p s.outs
+      → now.size ≡ s.size + size_of p → now.streams ≡ s.streams → now.size ≤ 268435456 → HasRun (stepped e r) now
+  goes_sending p is is_outs is_size is_streams few =
+      let there = at_more r e s now at may is_state
+      (λ k. ap (sent_of k) is_outs ∙ kept_sent e k p s.outs
+      ∙ ap (λ x. sent_of k s.outs ++ sent_by k e x) (sym is))
+      (is_size ∙ ap (λ n. s.size + n) (sym (one_sent p (step s.state e).reply is))) is_streams in
+      let by = by_the_reply e r s (Sent p) at (sym is) in
+      subst (λ c. HasRun c now) (sym (by ∙ goes_where (with_step e r) now.size there.size few)) there
+
+-- ---- what a fault tells
+
+pub stops_for : (f : ScriptFault) (n : ℕ) (course : Course)
+    → ((f ≡ fault.NoMemory → ⊥) → (f ≡ fault.Limit 4) × (268435456 < n))
+    → (268435456 < n → course ≡ stops (limit 4)) → IsStopped course f
+stops_for (fault.Bad k) n course told stop =
+    let t = told (λ e. cc) in
+    subst (IsStopped course) (sym t.0) (stop t.1)
+stops_for (fault.Limit w) n course told stop =
+    let t = told (λ e. cc) in
+    subst (IsStopped course) (sym t.0) (stop t.1)
+stops_for (fault.NotBuilt k) n course told stop =
+    let t = told (λ e. cc) in
+    subst (IsStopped course) (sym t.0) (stop t.1)
+stops_for fault.NoMemory n course told stop = tt

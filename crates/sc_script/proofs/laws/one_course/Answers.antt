@@ -1,0 +1,8 @@
+use Rattle.sc_script.proofs.OneCourse.{some_course, same_course}
+use Rattle.sc_script.proofs.laws.one_course.Goals as goal
+
+pub returns : goal.returns
+returns c = record {
+  some = some_course c.one_reading.ensures.some;
+  one = same_course c.one_reading.ensures.one;
+}

@@ -1,0 +1,9 @@
+use Rattle.std.proofs.Common.{◌≡◌}
+use Rattle.sc_script.specs.Runs.{Running, IsAt}
+use Rattle.sc_script.specs.Reports.{connections_after}
+use Rattle.sc_script.proofs.ran.connections.Given as goal
+
+-- what is left of the connections so far
+abbrev pub invariant-loop-earlier : goal.invariant-loop-earlier
+invariant-loop-earlier g l =
+    (r : Running) → IsAt r l.run → l.connections.items ≡ connections_after r.steps l.earlier

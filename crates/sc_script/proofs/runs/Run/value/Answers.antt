@@ -1,0 +1,25 @@
+-- A value: the event that it writes names a dataspace where it opens a connection, and its course is the value's.
+use Rattle.std.proofs.Common.{◌≡◌, Some, sym, ap, ◌∙◌}
+use Rattle.sc_script.specs.Events.{event_of}
+use Rattle.sc_script.specs.Runs.{after_event, after_value}
+use Rattle.sc_script.proofs.Opening.{names_space}
+use Rattle.sc_script.proofs.PartsPassed.{runs_so, stops_so}
+use Rattle.sc_script.proofs.runs.Run.value.Goals as goal
+
+pub event-requires : goal.event-requires
+event-requires g c =
+    names_space c.args.value.now c.in-Some.event (sym c.in_ok-event.ensures ∙ c.in-Some.is)
+
+pub returns-in-Some-clause-run : goal.returns-in-Some-clause-run
+returns-in-Some-clause-run g c =
+    let n = c.args.place in
+    let is : Some c.in-Some.event ≡ event_of c.args.value.now = sym c.in-Some.is ∙ c.in_ok-event.ensures in
+    runs_so c.args.self (λ N. after_event N n c.in-Some.event) (λ N. after_value N n (event_of c.args.value.now))
+    (λ N r at. ap (λ o. after_value N n o r) is) c.event.result c.event.ensures.run
+
+pub returns-in-Some-clause-stop : goal.returns-in-Some-clause-stop
+returns-in-Some-clause-stop g c =
+    let n = c.args.place in
+    let is : Some c.in-Some.event ≡ event_of c.args.value.now = sym c.in-Some.is ∙ c.in_ok-event.ensures in
+    stops_so c.args.self (λ N. after_event N n c.in-Some.event) (λ N. after_value N n (event_of c.args.value.now))
+    (λ N r at. ap (λ o. after_value N n o r) is) c.event.result c.event.ensures.stop

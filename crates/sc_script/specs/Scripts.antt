@@ -1,0 +1,54 @@
+-- What stands of an input as a script: a run of all its values, or the first cause that stops it. The length of the
+-- input is looked at first, and whether a text is UTF-8; then its values in order, each done before the next is judged.
+use Rattle.std.specs.Prelude.{◌≡◌, ℕ, ◌<◌, ◌≤◌, ◌⊎◌, Bool, false, List, [], length}
+use Rattle.std.specs.Prelude.{Option, Some, None}
+use Rattle.std.specs.Str.{IsUtf8}
+use Rattle.pv_value.specs.Plain.{Plain}
+use Rattle.hub_core.specs.State.{opening}
+use Rattle.hub_laws.specs.Laws.{AreAllowed}
+use Rattle.sc_script.specs.declared.faults.ScriptFault.{ScriptFault}
+use Rattle.sc_script.specs.declared.scripts.Form.{Form}
+use Rattle.sc_script.specs.declared.scripts.Form.TheVariants.{Binary, Text}
+use Rattle.sc_script.specs.Inputs.{AreRead}
+use Rattle.sc_script.specs.TextInputs.{AreTextRead}
+use Rattle.sc_script.specs.Runs.{Decider, Decides, Cause, limit, Course, goes, stops, course_of, Running, RunState}
+use Rattle.sc_script.specs.Runs.{IsAt, cause_in}
+use Rattle.sc_script.specs.Reports.{RanState, ran_of}
+
+-- no value is read of what isn't UTF-8
+abbrev pub IsNoText : List ℕ → List Plain → Bool → Type 0
+IsNoText text vs whole = (IsUtf8 text → ⊥) × (vs ≡ []) × (whole ≡ false)
+
+-- the values up to the end of the input, or to where it goes on with none
+abbrev pub AreReadAs : Form → List ℕ → List Plain → Bool → Type 0
+AreReadAs Binary bytes vs whole = AreRead bytes vs whole
+AreReadAs Text text vs whole = (IsUtf8 text × AreTextRead text vs whole) ⊎ IsNoText text vs whole
+
+abbrev pub IsCourseOfValues : Decider → Form → List ℕ → Course → Type 0
+IsCourseOfValues N form bytes c =
+    (vs : List Plain) × (whole : Bool) × AreReadAs form bytes vs whole × (c ≡ course_of N vs whole)
+
+-- no more than 67,108,864 bytes
+abbrev pub IsCourseOf : Decider → Form → List ℕ → Course → Type 0
+IsCourseOf N form bytes c =
+    ((67108864 < length bytes) × (c ≡ stops (limit 1)))
+    ⊎ ((length bytes ≤ 67108864) × IsCourseOfValues N form bytes c)
+
+-- the input runs to where the run is
+abbrev pub RanAs : Form → List ℕ → RunState → Type 0
+RanAs form bytes s =
+    (N : Decider) → Decides N → (r : Running) × IsCourseOf N form bytes (goes r) × IsAt r s
+
+-- the input stops for the cause that a fault tells; where memory ran out, nothing is said
+abbrev pub StopsWith : Form → List ℕ → Option Cause → Type 0
+StopsWith form bytes None = Unit {0}
+StopsWith form bytes (Some c) = (N : Decider) → Decides N → IsCourseOf N form bytes (stops c)
+
+abbrev pub StopsAt : Form → List ℕ → ScriptFault → Type 0
+StopsAt form bytes f = StopsWith form bytes (cause_in f)
+
+-- the input runs through steps, each of which met its condition, to what is left
+abbrev pub LeavesAs : Form → List ℕ → RanState → Type 0
+LeavesAs form bytes ran =
+    (N : Decider) → Decides N → (r : Running) × IsCourseOf N form bytes (goes r) × AreAllowed opening r.steps
+    × (ran ≡ ran_of r.steps)

@@ -1,0 +1,123 @@
+//! What a run leaves.
+ghost use Rattle.std.specs.Prelude.{◌≡◌, ℕ, IfOk, IfErr};
+ghost use Rattle.sc_script.specs.Runs.{Running, IsAt, spelled as spelled_bytes};
+ghost use Rattle.sc_script.specs.Reports.{connection_after, connections_after, ran_of};
+ghost use Rattle.sc_script.specs.Scripts.{LeavesAs, StopsAt};
+
+use crate::faults::ScriptFault;
+use crate::runs::Run;
+use crate::scripts::{Form, run_of};
+use ds_space::Space;
+use pv_binary::write_into;
+use pv_value::{Blob, NoMemory};
+use rl_packet::{Holding, Packet, held, packet_value};
+use std::alloc::Global;
+use std::marker::Model;
+
+/// What a run leaves of a connection.
+#[derive(Drop)]
+pub struct Connection {
+    /// Whether it is there.
+    pub live: bool,
+    /// The written spellings of the packets that it was sent, one behind another.
+    pub out: Blob,
+    /// What its peer holds by them, by object and then handle.
+    pub held: Vec<Holding>,
+}
+
+impl Model for Connection {
+    ghost use Rattle.std.specs.Coded.{codes};
+    ghost use Rattle.pv_value.specs.Lemmas.Coded.{plain_code};
+    ghost use Rattle.sc_script.specs.Reports.{ConnectionState};
+
+    ghost Value = { ConnectionState };
+
+    ghost coded = { Prim.hlevel (codes, plain_code) };
+
+    ghost view = { λ c. record { live = c.live; out = c.out; held = c.held.items } };
+}
+
+/// What a run leaves: how many batches and errors wait, and the connections from number 1 on.
+#[derive(Drop)]
+pub struct Ran {
+    pub pending: u64,
+    pub connections: Vec<Connection>,
+}
+
+impl Model for Ran {
+    ghost use Rattle.std.specs.Coded.{codes};
+    ghost use Rattle.pv_value.specs.Lemmas.Coded.{plain_code};
+    ghost use Rattle.sc_script.specs.Reports.{RanState};
+
+    ghost Value = { RanState };
+
+    ghost coded = { Prim.hlevel (codes, plain_code) };
+
+    ghost view = { λ r. record { pending = r.pending; connections = r.connections.items } };
+}
+
+/// The written spellings of packets, one behind another.
+fn spelled(alloc: Global, packets: &[Packet]) -> Result<Blob, NoMemory>
+    ensures { IfOk result (λ bytes. bytes ≡ spelled_bytes packets.now) }
+{
+    let mut bytes = Vec::new(alloc);
+    for packet in packets {
+        let value = packet_value(alloc, packet)?;
+        write_into(&mut bytes, &value)?;
+    }
+    Blob::from_vec(bytes)
+}
+
+/// What a run leaves of the connection of this number.
+fn left_of<S: Space + Drop>(
+    alloc: Global,
+    run: &Run<S>,
+    number: u32,
+) -> Result<Connection, NoMemory>
+    ensures { IfOk result (λ c. (r : Running) → IsAt r run.now
+        → c ≡ connection_after r.steps number) }
+{
+    let packets = run.outs.of(number);
+    Ok(Connection {
+        live: run.hub.live(number),
+        out: spelled(alloc, packets)?,
+        held: held(alloc, packets)?,
+    })
+}
+
+/// The connections that have come, ascending.
+fn connections<S: Space + Drop>(alloc: Global, run: &Run<S>) -> Result<Vec<Connection>, NoMemory>
+    ensures { IfOk result (λ cs. (r : Running) → IsAt r run.now
+        → cs.items ≡ connections_after r.steps run.now.state.world.opened) }
+{
+    let mut connections = Vec::new(alloc);
+    for earlier in 0..run.hub.opened() {
+        connections.push(left_of(alloc, run, earlier + 1)?)?;
+    }
+    Ok(connections)
+}
+
+/// What a run leaves.
+fn left_by<S: Space + Drop>(alloc: Global, run: &Run<S>) -> Result<Ran, NoMemory>
+    ensures { IfOk result (λ ran. (r : Running) → IsAt r run.now → ran ≡ ran_of r.steps) }
+{
+    Ok(Ran {
+        pending: run.hub.pending(),
+        connections: connections(alloc, run)?,
+    })
+}
+
+/// What the run of the script leaves that an input is, over any body of a dataspace, or the first
+/// cause that stops it. The input's length is looked at first, and whether a text is UTF-8; then
+/// its values in order, each done before the next is judged.
+pub fn run_script<S: Space + Drop>(
+    alloc: Global,
+    bytes: &[u8],
+    form: Form,
+) -> Result<Ran, ScriptFault>
+    ensures run { IfOk result (LeavesAs form bytes.now) }
+    ensures stop { IfErr result (StopsAt form bytes.now) }
+{
+    let run = run_of::<S>(alloc, bytes, form)?;
+    Ok(left_by(alloc, &run)?)
+}
