@@ -5,6 +5,7 @@
 #![tactic(auto)]
 
 mod batches;
+mod handles;
 mod keeping;
 mod table;
 

@@ -1,5 +1,5 @@
 //! The table, as ordered maps.
-ghost use Rattle.std.specs.Prelude.{◌≡◌, ◌<◌, ◌^◌, ◌-◌, false, min, IfOk, OnOk, OnErr, Err};
+ghost use Rattle.std.specs.Prelude.{◌≡◌, ◌<◌, ◌≤◌, ◌^◌, ◌-◌, false, min, IfOk, OnOk, OnErr, Err};
 ghost use Rattle.std.specs.Prelude.{option_copied, MatchOption, None, Some, IfNone, ◌≢◌};
 ghost use Rattle.ac_table.specs.declared.TableFault.TheVariants.{NoMemory as no_memory};
 ghost use Rattle.ac_table.specs.Faults.{actor_fault, facet_fault, row_fault, Faults, ExactFaults};
@@ -11,6 +11,7 @@ ghost use Rattle.ac_table.specs.Tables.{popped, IsTable};
 
 use crate::TableFault;
 use crate::batches::{Batch, Row};
+use crate::handles::NextHandle;
 use crate::keeping::{put_row, take_rows};
 use pv_value::{NoMemory, Value};
 use std::alloc::Global;
@@ -28,7 +29,7 @@ struct Seat {
 #[derive(Drop)]
 pub struct Table {
     alloc: Global,
-    next: u64,
+    next: NextHandle,
     rows: BTreeMap<u64, Row>,
     seats: BTreeMap<u32, Seat>,
     /// The actors for which a batch waits.
@@ -58,7 +59,7 @@ impl Table {
     {
         Table {
             alloc,
-            next: 1,
+            next: NextHandle::first(),
             rows: BTreeMap::new(alloc),
             seats: BTreeMap::new(alloc),
             busy: BTreeSet::new(alloc),
@@ -77,10 +78,12 @@ impl Table {
         self.rows.get(&handle)
     }
 
+    /// The handle that the next row gets.
     pub fn next_handle(&self) -> u64
-        ensures { result ≡ self.now.next }
+        ensures next { result ≡ self.now.next }
+        ensures small { result ≤ 2 ^ 63 }
     {
-        self.next
+        self.next.get()
     }
 
     /// The batch that the actor takes next.
@@ -169,7 +172,7 @@ impl Table {
         if facet != 0 {
             return Err(TableFault::NoFacet);
         }
-        let handle = self.next;
+        let handle = self.next.get();
         if handle >= 1 << 63 {
             return Err(TableFault::NoMemory);
         }
@@ -185,7 +188,7 @@ impl Table {
             value,
         };
         put_row(&mut self.rows, &mut seat.own, row)?;
-        self.next = handle + 1;
+        self.next.advance();
         Ok(handle)
     }
 

@@ -70,7 +70,8 @@ impl<S: Space + Drop> World<S> {
 
     /// The handle that is drawn next.
     pub fn next_handle(&self) -> u64
-        ensures { result ≡ self.now.table.next }
+        ensures next { result ≡ self.now.table.next }
+        ensures small { result ≤ 2 ^ 63 }
     {
         self.table.next_handle()
     }

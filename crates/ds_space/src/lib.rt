@@ -19,7 +19,7 @@ mod weighing;
 
 pub use laws::{changes_are_exact, wants_are_in_order, wants_are_the_rule};
 pub use plain::PlainSpace;
-pub use references::{Reference, reference_of};
+pub use references::{Reference, reference_of, reference_value};
 pub use space::{Applied, Change, Changes, Fan, FanList, Fanned, Space, SpaceEvent};
 
 /// How much may be wanted over a space, and how much a message may fan out to.

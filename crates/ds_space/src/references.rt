@@ -1,12 +1,13 @@
 //! References as values.
-ghost use Rattle.std.specs.Prelude.{◌≡◌};
-ghost use Rattle.ds_space.specs.References.{reference_of, names_observer};
+ghost use Rattle.std.specs.Prelude.{◌≡◌, IfOk};
+ghost use Rattle.ds_space.specs.References.{reference_of, reference_value, names_observer};
 
-use dp_pattern::number_in;
-use pv_value::{Node, Value};
+use dp_pattern::{number, number_in};
+use pv_value::{Items, NoMemory, Node, Value};
+use std::alloc::Global;
 
-/// An object of an actor.
-#[derive(Clone, Copy, Debug, PartialEq, Eq)]
+/// An object of an actor. Objects are ordered by their actors, and those of one by their numbers.
+#[derive(Clone, Copy, Debug, PartialEq, Eq, PartialOrd, Ord)]
 pub struct Reference {
     pub at: u32,
     pub entity: u64,
@@ -34,6 +35,16 @@ pub fn reference_of(value: &Value) -> Option<Reference>
         at: at as u32,
         entity,
     })
+}
+
+/// The value that writes a reference.
+pub fn reference_value(alloc: Global, reference: Reference) -> Result<Value, NoMemory>
+    ensures { IfOk result (λ v. v ≡ reference_value reference) }
+{
+    let mut items = Vec::new(alloc);
+    items.push(number(u64::from(reference.at)))?;
+    items.push(number(reference.entity))?;
+    Ok(Value::sequence(Items::from_vec(alloc, items)?))
 }
 
 /// Whether it names an object of a watcher or of a connection.

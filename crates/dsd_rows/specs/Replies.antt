@@ -3,10 +3,10 @@ use Rattle.std.specs.Prelude.{List, ℕ, [], ◌∷◌, codes, Option, Some, Non
 use Rattle.pv_value.specs.Plain.{Plain, symbol}
 use Rattle.dp_pattern.specs.Words.{labelled, number}
 use Rattle.rl_packet.specs.Packets.{packet_value}
-use Rattle.hub_core.specs.Faults.{error_of}
-use Rattle.hub_core.specs.declared.steps.Reply.{Reply}
-use Rattle.hub_core.specs.declared.steps.Reply.TheVariants.{Worn, Barred, Halted, Full, Opened, Gone, Refused, Idle}
-use Rattle.hub_core.specs.declared.steps.Reply.TheVariants.{Sent, Ran, Taken}
+use Rattle.hub_machine.specs.Faults.{error_of}
+use Rattle.hub_machine.specs.declared.steps.Reply.{Reply}
+use Rattle.hub_machine.specs.declared.steps.Reply.TheVariants.{Worn, Barred, Halted, Full, Opened, Gone, Refused, Idle}
+use Rattle.hub_machine.specs.declared.steps.Reply.TheVariants.{Sent, Ran, Taken}
 
 abbrev pub reply_value : Reply → Plain
 reply_value Worn = symbol (codes "worn")

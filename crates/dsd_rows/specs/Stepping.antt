@@ -3,10 +3,10 @@
 use Rattle.std.specs.Prelude.{◌≡◌, ◌-◌, ◌^◌, min}
 use Rattle.pv_value.specs.Plain.{boolean}
 use Rattle.dp_pattern.specs.Words.{number}
-use Rattle.hub_core.specs.State.{State, is_there}
-use Rattle.hub_core.specs.Machine.{step}
-use Rattle.hub_core.specs.Replays.{pending, lowest}
-use Rattle.hub_core.specs.declared.steps.Step.{Step as StepOf}
+use Rattle.hub_machine.specs.State.{State, is_there}
+use Rattle.hub_machine.specs.Machine.{step}
+use Rattle.hub_machine.specs.Replays.{pending, lowest}
+use Rattle.hub_machine.specs.declared.steps.Step.{Step as StepOf}
 use Rattle.dsd_rows.specs.Replies.{reply_value, actor_value}
 use Rattle.dsd_rows.specs.declared.asking.Asked.{Asked}
 use Rattle.dsd_rows.specs.declared.asking.Asked.TheVariants.{Step, Pending, Lowest, Live, Holds}

@@ -1,7 +1,7 @@
 //! What a case of a row of steps does, or what it asks.
 
 use dp_pattern::{is_word, number_in, worded};
-use hub_core::{Fault as Cause, Step};
+use hub_machine::{Fault as Cause, Step};
 use pv_value::{Node, Value};
 use rl_packet::{Event, Packet, PacketFault, Turn, TurnEvent, packet_of};
 use row_cases::Fault;
@@ -98,7 +98,10 @@ fn assertions(alloc: Global, value: &Value, handle: u64, count: u32) -> Result<T
         let event = Event::Assert(value.copy()?, handle);
         events.push(TurnEvent { oid: 0, event })?;
     }
-    Ok(Turn::from_vec(events))
+    match Turn::of_events(events) {
+        Some(turn) => Ok(turn),
+        None => Err(Fault::Form("no packet")),
+    }
 }
 
 /// Why what a connection sent is no packet: `bad-packet`, or `<bad-bytes kind place>`.

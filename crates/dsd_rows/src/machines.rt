@@ -1,12 +1,13 @@
 //! The machine that a row of steps is tried on.
 ghost use Rattle.std.specs.Prelude.{◌≡◌, None, IfOk};
-ghost use Rattle.hub_core.specs.Machine.{IsAllowed};
+ghost use Rattle.hub_machine.specs.State.{State};
+ghost use Rattle.hub_machine.specs.Machine.{IsAllowed};
 
 use crate::asking::Asked;
 use crate::replies::{actor_value, holdings_value, reply_value};
 use dp_pattern::number;
 use ds_space::PlainSpace;
-use hub_core::{Hub, Reply, Step, plain};
+use hub_core::{Hub, Reply, Step, bare};
 use pv_value::{NoMemory, Value};
 use rl_packet::{Packet, held};
 use std::alloc::Global;
@@ -29,13 +30,12 @@ pub enum Answer {
 }
 
 /// What a caller of the hub has to see to, where the step lacks it.
-fn unfit(hub: &Hub<PlainSpace>, step: &Step) -> Option<&'static str>
-    ensures { result ≡ None → IsAllowed hub.now step.now }
+fn unfit(step: &Step) -> Option<&'static str>
+    ensures { result ≡ None → (s : State) → IsAllowed s step.now }
 {
     match step {
         Step::Arrive(space) if *space == 0 => Some("an arrival at the gatekeeper"),
-        Step::Packet(_, turn) if !plain(turn) => Some("a turn that isn't plain"),
-        Step::Turn(actor) if hub.foreign(*actor) => Some("a batch that tells of another's object"),
+        Step::Packet(_, turn) if !bare(turn) => Some("a turn that names caveats"),
         _ => None,
     }
 }
@@ -103,7 +103,7 @@ impl Machine {
     fn step(self, alloc: Global, step: Step) -> Result<(Machine, Answer), NoMemory>
         ensures { IfOk result (λ done. IsStepped self.hub step done.0.hub done.1) }
     {
-        if let Some(why) = unfit(&self.hub, &step) {
+        if let Some(why) = unfit(&step) {
             return Ok((self, Answer::Unfit(why)));
         }
         let Machine { hub, mut sent } = self;

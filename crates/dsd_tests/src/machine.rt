@@ -1,6 +1,6 @@
 //! The machine and its values, few and small: what runs through the whole of it is a row.
 ghost use Rattle.std.specs.Prelude.{◌≡◌, true, IfOk};
-ghost use Rattle.hub_core.specs.Plainness.{is_plain};
+ghost use Rattle.hub_machine.specs.Bareness.{are_bare};
 
 use ds_space::PlainSpace;
 use hub_core::{Hub, Reply, Step};
@@ -11,12 +11,15 @@ use std::test::Fail;
 
 /// `[[0 <A 5 handle>]]`
 fn five(alloc: Global, handle: u64) -> Result<Turn, Fail>
-    ensures { IfOk result (λ turn. is_plain turn ≡ true) }
+    ensures { IfOk result (λ turn. are_bare turn ≡ true) }
 {
     let mut events = Vec::new(alloc);
     let event = Event::Assert(Value::integer(5), handle);
     events.push(TurnEvent { oid: 0, event })?;
-    Ok(Turn::from_vec(events))
+    match Turn::of_events(events) {
+        Some(turn) => Ok(turn),
+        None => Err(Fail::new("no turn")),
+    }
 }
 
 /// The word for an answer.

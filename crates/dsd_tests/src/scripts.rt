@@ -2,7 +2,8 @@
 
 use ds_space::PlainSpace;
 use pv_value::weight;
-use sc_script::{Form, report, run_script};
+use sc_report::report;
+use sc_script::{Form, run_script};
 use std::test::Fail;
 
 #[test]

@@ -2,7 +2,8 @@
 use Rattle.std.specs.Prelude.{◌≡◌, ◌≢◌, ℕ, ◌<◌, ◌≤◌, List, [], ◌∷◌, length, Option, Some, None, Contains, IfSome}
 use Rattle.out_ports.specs.Ports.{Appends, AppendsFront}
 use Rattle.hub_laws.specs.Settled.{HoldsFromScratch}
-use Rattle.sc_script.specs.Reports.{ran_of, report_of}
+use Rattle.sc_report.specs.Reports.{report_of}
+use Rattle.sc_script.specs.Leavings.{ran_of}
 use Rattle.sc_script.specs.Runs.{Decider, Decides, Cause, bad, limit, not_built, goes, stops, Running}
 use Rattle.sc_script.specs.Scripts.{IsCourseOf}
 use Rattle.sc_script.specs.declared.faults.ScriptFault.{ScriptFault}

@@ -1,6 +1,5 @@
-pub mod Completing
-pub mod Crossings
-pub mod Observing
-pub mod References
-pub mod Refusing
+pub mod Keeping
+pub mod Places
 pub mod Small
+pub mod Tellings
+pub mod Turning

@@ -1,14 +1,3 @@
-pub mod Admission
-pub mod Causes
-pub mod Changes
-pub mod Completeness
-pub mod Crossing
-pub mod Endings
-pub mod Faults
-pub mod Laws
-pub mod Lemmas
-pub mod Machine
-pub mod Plainness
-pub mod Ports
-pub mod Replays
-pub mod State
+pub mod Counting
+pub mod Refusals
+pub mod Telling

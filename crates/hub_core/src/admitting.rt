@@ -1,22 +1,25 @@
 //! The admission of a packet: what its events do, or why one of them is refused.
-ghost use Rattle.std.specs.Prelude.{◌≡◌, ◌<◌, ◌≤◌, ◌+◌, ◌^◌, length, None, Some, IfOk, OnOk};
-ghost use Rattle.hub_core.specs.Crossing.{crossed_in};
-ghost use Rattle.hub_core.specs.Ports.{inbound_of};
-ghost use Rattle.hub_core.specs.Admission.{before_all, weighed, nested, rows_with, load_with};
-ghost use Rattle.hub_core.specs.Admission.{inside, value_cause, load_cause, assertion_cause};
-ghost use Rattle.hub_core.specs.Admission.{retraction_cause, message_cause, sync_cause, cause_of};
-ghost use Rattle.hub_core.specs.Admission.{after_assertion, after_retraction, after_message};
-ghost use Rattle.hub_core.specs.Admission.{after_sync, after_event, row_weighs, all_admitted};
-ghost use Rattle.hub_core.specs.Admission.{outcome, handle_cause, event_cause};
+ghost use Rattle.std.specs.Prelude.{◌≡◌, ◌<◌, ◌≤◌, ◌+◌, ◌^◌, length, None, Some};
+ghost use Rattle.std.specs.Prelude.{IfOk, IfErr, OnOk};
+ghost use Rattle.rl_ports.specs.Ports.{inbound_of};
+ghost use Rattle.hub_machine.specs.Admission.{before_all, weighed, rows_with, load_with, waits_at};
+ghost use Rattle.hub_machine.specs.Admission.{inside, kept, value_cause, load_cause, handle_cause};
+ghost use Rattle.hub_machine.specs.Admission.{retraction_cause, event_cause, cause_of, row_weighs};
+ghost use Rattle.hub_machine.specs.Admission.{after_assertion, after_retraction, after_message};
+ghost use Rattle.hub_machine.specs.Admission.{after_sync, after_event, after, all_admitted};
+ghost use Rattle.hub_machine.specs.Admission.{admitted};
+ghost use Rattle.hub_core.specs.Refusals.{IsWhyRefused, IsRefusedFor};
+ghost use Rattle.hub_core.specs.Counting.{counted_cause};
 
-use crate::crossing::crossed;
-use crate::faults::{Fault, over};
-use crate::limits::{BACKLOG, BACKLOG_WEIGHT, HANDLES, ROWS_WEIGHT, VALUE_DEPTH, VALUE_WEIGHT};
-use crate::ports::{Inbound, Ports};
+use crate::hub::FIRST_CONNECTION;
+use crate::refusals::{Refusal, refuse_for};
 use ac_world::{Act, Load, World};
-use ds_space::Space;
-use pv_value::{NoMemory, Node, Value, depth, weight};
+use ds_space::{Reference, Space};
+use hub_machine::{BACKLOG, BACKLOG_WEIGHT, Fault, HANDLES, ROWS_WEIGHT, over};
+use pv_value::{NoMemory, Node, Value, weight};
 use rl_packet::{Event, TurnEvent};
+use rl_ports::{Inbound, Ports};
+use rl_wire::wire_in;
 use std::alloc::Global;
 use std::collections::BTreeMap;
 use std::marker::Model;
@@ -39,7 +42,7 @@ pub(crate) struct Admitting {
 impl Model for Admitting {
     ghost use Rattle.std.specs.Coded.{codes};
     ghost use Rattle.pv_value.specs.Lemmas.Coded.{plain_code};
-    ghost use Rattle.hub_core.specs.Admission.{Admitting as AdmittingOf};
+    ghost use Rattle.hub_machine.specs.Admission.{Admitting as AdmittingOf};
 
     ghost Value = { AdmittingOf };
 
@@ -53,15 +56,6 @@ impl Model for Admitting {
       load = x.load;
       next = x.next;
     } };
-}
-
-/// A value that is too heavy or too deep.
-fn value_cause(value: &Value) -> Option<Fault>
-    ensures { result ≡ value_cause value.now }
-{
-    let heavy = over(VALUE_WEIGHT, 6, weight(value));
-    let deep = over(u64::from(VALUE_DEPTH), 7, u64::from(depth(value)));
-    heavy.or(deep)
 }
 
 /// More than may wait for the system's actors.
@@ -83,16 +77,25 @@ fn inside(value: &Value) -> &Value
     }
 }
 
+/// Whether events at an object wait for one of the system's actors.
+fn waits_at<S: Space + Drop>(to: Reference, world: &World<S>) -> bool
+    ensures { result ≡ waits_at to world.now }
+{
+    to.at < FIRST_CONNECTION && world.live(to.at)
+}
+
 impl Admitting {
-    /// Before the first event of a connection, whose actor this is.
+    /// Before the first event of a connection.
     pub(crate) fn new<S: Space + Drop>(
         alloc: Global,
-        actor: u32,
+        connection: u32,
         ports: Ports,
         world: &World<S>,
     ) -> Admitting
-        ensures { result ≡ before_all actor ports world.now }
+        requires { connection ≤ 2 ^ 31 }
+        ensures { result ≡ before_all connection ports world.now }
     {
+        let actor = 16 + connection;
         Admitting {
             acts: Vec::new(alloc),
             made: BTreeMap::new(alloc),
@@ -119,45 +122,66 @@ impl Admitting {
         self.rows.saturating_add(weight)
     }
 
-    /// What waits, with one event more.
-    fn load_with(&self, weight: u64) -> Load
-        ensures { result ≡ load_with weight self.now }
+    /// What waits, with one event more at an object.
+    fn load_with<S: Space + Drop>(&self, to: Reference, weight: u64, world: &World<S>) -> Load
+        ensures { result ≡ load_with world.now to weight self.now }
     {
-        self.load.and(Load { count: 1, weight })
+        if waits_at(to, world) {
+            self.load.and(Load { count: 1, weight })
+        } else {
+            self.load
+        }
+    }
+
+    /// A value that the connection sent, as the server keeps it.
+    fn kept(&self, alloc: Global, connection: u32, value: &Value) -> Result<Value, Refusal>
+        requires { connection ≤ 2 ^ 31 }
+        ensures kept { IfOk result (λ v. v ≡ kept connection value.now self.now) }
+        ensures free { OnOk result (value_cause connection value.now self.now ≡ None) }
+        ensures cause { IfErr result (IsWhyRefused (value_cause connection value.now self.now)) }
+    {
+        Ok(wire_in(alloc, &self.ports, connection, value)?)
     }
 
     /// A handle that is in use.
     fn handle_cause(&self, handle: u64) -> Option<Fault>
         ensures { result ≡ handle_cause handle self.now }
     {
-        match self.ports.inbound(handle) {
+        match self.ports.row_of(handle) {
             Some(_) => Some(Fault::HandleInUse(handle)),
             None => None,
         }
     }
 
-    /// What refuses an assertion.
-    fn assertion_cause(&self, value: &Value, handle: u64) -> Option<Fault>
-        ensures { result ≡ assertion_cause value.now handle self.now }
+    /// What is counted for an assertion, with which so much would wait, is looked at.
+    fn check_counts(&self, handle: u64, weight: u64, load: Load) -> Result<(), Refusal>
+        ensures free { OnOk result (counted_cause handle weight load self.now ≡ None) }
+        ensures unused { OnOk result (inbound_of handle self.now.ports ≡ None) }
+        ensures cause { IfErr result (IsWhyRefused (counted_cause handle weight load self.now)) }
     {
-        let weight = weight(value);
-        let of_value = value_cause(value);
         let in_use = self.handle_cause(handle);
         let handles = over(HANDLES, 4, (self.ports.in_use() as u64).saturating_add(1));
         let rows = over(ROWS_WEIGHT, 5, self.rows_with(weight));
-        let waits = load_cause(self.load_with(weight));
-        of_value.or(in_use).or(handles).or(rows).or(waits)
+        let waits = load_cause(load);
+        refuse_for(in_use.or(handles).or(rows).or(waits))
     }
 
     /// An assertion is done: its row gets the next handle.
-    fn assert_value(&mut self, value: Value, handle: u64) -> Result<(), NoMemory>
-        requires { self.old.next < 2 ^ 63 }
-        ensures { OnOk result (self.new ≡ after_assertion value handle self.old) }
+    fn assert_value<S: Space + Drop>(
+        &mut self,
+        to: Reference,
+        value: Value,
+        handle: u64,
+        world: &World<S>,
+    ) -> Result<(), NoMemory>
+        requires next { self.old.next < 2 ^ 63 }
+        requires unused { inbound_of handle self.old.ports ≡ None }
+        ensures { OnOk result (self.new ≡ after_assertion world.now to value handle self.old) }
     {
         let weight = weight(&value);
         self.rows = self.rows_with(weight);
-        self.load = self.load_with(weight);
-        self.acts.push(Act::Assert(self.ports.first(), 0, value))?;
+        self.load = self.load_with(to, weight, world);
+        self.acts.push(Act::Assert(to.at, to.entity, value))?;
         self.made.insert(self.next, weight)?;
         self.ports.take_handle(handle, Inbound::Row(self.next))?;
         self.next += 1;
@@ -165,17 +189,25 @@ impl Admitting {
     }
 
     /// A value is asserted, where nothing refuses it.
-    fn admit_assertion(&mut self, value: Value, handle: u64) -> Result<Option<Fault>, NoMemory>
+    fn admit_assertion<S: Space + Drop>(
+        &mut self,
+        to: Reference,
+        value: Value,
+        handle: u64,
+        world: &World<S>,
+    ) -> Result<(), Refusal>
         requires { self.old.next < 2 ^ 63 }
-        ensures cause { IfOk result (λ cause. cause ≡ assertion_cause value handle self.old) }
-        ensures after { IfOk result
-            (λ cause. cause ≡ None → self.new ≡ after_assertion value handle self.old) }
+        ensures free { OnOk result (counted_cause handle (weighed value)
+            (load_with world.now to (weighed value) self.old) self.old ≡ None) }
+        ensures cause { IfErr result (IsWhyRefused (counted_cause handle (weighed value)
+            (load_with world.now to (weighed value) self.old) self.old)) }
+        ensures after { OnOk result
+            (self.new ≡ after_assertion world.now to value handle self.old) }
     {
-        let cause = self.assertion_cause(&value, handle);
-        if cause.is_none() {
-            self.assert_value(value, handle)?;
-        }
-        Ok(cause)
+        let weight = weight(&value);
+        self.check_counts(handle, weight, self.load_with(to, weight, world))?;
+        self.assert_value(to, value, handle, world)?;
+        Ok(())
     }
 
     /// How much the row of a handle weighs.
@@ -214,74 +246,89 @@ impl Admitting {
         &mut self,
         handle: u64,
         world: &World<S>,
-    ) -> Result<Option<Fault>, NoMemory>
-        ensures cause { IfOk result (λ cause. cause ≡ retraction_cause handle self.old) }
-        ensures after { IfOk result (λ cause. cause ≡ None → self.new
+    ) -> Result<(), Refusal>
+        ensures free { OnOk result (retraction_cause handle self.old ≡ None) }
+        ensures cause { IfErr result (IsWhyRefused (retraction_cause handle self.old)) }
+        ensures after { OnOk result (self.new
             ≡ after_retraction handle (inbound_of handle self.old.ports) world.now self.old) }
     {
-        match self.ports.inbound(handle) {
-            Some(what) => {
-                self.retract(handle, what, world)?;
-                Ok(None)
-            }
-            None => Ok(Some(Fault::UnknownHandle(handle))),
+        match self.ports.row_of(handle) {
+            Some(what) => Ok(self.retract(handle, what, world)?),
+            None => Err(Refusal::Cause(Fault::UnknownHandle(handle))),
         }
     }
 
     /// A value is said, where nothing refuses it.
-    fn admit_message(&mut self, value: Value) -> Result<Option<Fault>, NoMemory>
-        ensures cause { IfOk result (λ cause. cause ≡ message_cause value self.old) }
-        ensures after { IfOk result
-            (λ cause. cause ≡ None → self.new ≡ after_message value self.old) }
+    fn admit_message<S: Space + Drop>(
+        &mut self,
+        to: Reference,
+        value: Value,
+        world: &World<S>,
+    ) -> Result<(), Refusal>
+        ensures free { OnOk result
+            (load_cause (load_with world.now to (weighed value) self.old) ≡ None) }
+        ensures cause { IfErr result
+            (IsWhyRefused (load_cause (load_with world.now to (weighed value) self.old))) }
+        ensures after { OnOk result (self.new ≡ after_message world.now to value self.old) }
     {
-        let load = self.load_with(weight(&value));
-        let cause = value_cause(&value).or(load_cause(load));
-        if cause.is_none() {
-            self.load = load;
-            self.acts.push(Act::Message(self.ports.first(), 0, value))?;
-        }
-        Ok(cause)
+        let load = self.load_with(to, weight(&value), world);
+        refuse_for(load_cause(load))?;
+        self.load = load;
+        self.acts.push(Act::Message(to.at, to.entity, value))?;
+        Ok(())
     }
 
     /// A peer asks for an answer, where nothing refuses it.
-    fn admit_sync(&mut self, peer: &Value) -> Result<Option<Fault>, NoMemory>
-        ensures cause { IfOk result (λ cause. cause ≡ sync_cause peer.now self.old) }
-        ensures after { IfOk result
-            (λ cause. cause ≡ None → self.new ≡ after_sync (inside peer.now) self.old) }
+    fn admit_sync<S: Space + Drop>(
+        &mut self,
+        to: Reference,
+        peer: &Value,
+        world: &World<S>,
+    ) -> Result<(), Refusal>
+        ensures free { OnOk result
+            (load_cause (load_with world.now to (weighed peer.now) self.old) ≡ None) }
+        ensures cause { IfErr result
+            (IsWhyRefused (load_cause (load_with world.now to (weighed peer.now) self.old))) }
+        ensures after { OnOk result (self.new ≡ after_sync world.now to peer.now self.old) }
     {
-        let at = inside(peer);
-        let load = self.load_with(weight(at));
-        let cause = value_cause(peer).or(load_cause(load));
-        if cause.is_none() {
-            self.load = load;
-            self.acts
-                .push(Act::Sync(self.ports.first(), 0, at.copy()?))?;
-        }
-        Ok(cause)
+        let load = self.load_with(to, weight(peer), world);
+        refuse_for(load_cause(load))?;
+        self.load = load;
+        self.acts.push(Act::Sync(to.at, to.entity, peer.copy()?))?;
+        Ok(())
     }
 
     /// What an object is told, where nothing refuses it.
     fn admit_event<S: Space + Drop>(
         &mut self,
         alloc: Global,
-        actor: u32,
+        connection: u32,
+        to: Reference,
         event: &Event,
         world: &World<S>,
-    ) -> Result<Option<Fault>, NoMemory>
-        requires { self.old.next < 2 ^ 63 }
-        ensures cause { IfOk result (λ cause. cause ≡ event_cause actor event.now self.old) }
-        ensures after { IfOk result
-            (λ cause. cause ≡ None → self.new ≡ after_event actor world.now event.now self.old) }
+    ) -> Result<(), Refusal>
+        requires small { connection ≤ 2 ^ 31 }
+        requires next { self.old.next < 2 ^ 63 }
+        ensures free { OnOk result
+            (event_cause connection world.now to event.now self.old ≡ None) }
+        ensures cause { IfErr result
+            (IsWhyRefused (event_cause connection world.now to event.now self.old)) }
+        ensures after { OnOk result
+            (self.new ≡ after_event connection world.now to event.now self.old) }
     {
         match event {
             Event::Assert(value, handle) => {
-                self.admit_assertion(crossed(alloc, 0, actor, value)?, *handle)
+                let value = self.kept(alloc, connection, value)?;
+                self.admit_assertion(to, value, *handle, world)
             }
             Event::Retract(handle) => self.admit_retraction(*handle, world),
-            Event::Message(value) => self.admit_message(crossed(alloc, 0, actor, value)?),
+            Event::Message(value) => {
+                let value = self.kept(alloc, connection, value)?;
+                self.admit_message(to, value, world)
+            }
             Event::Sync(peer) => {
-                let peer = crossed(alloc, 0, actor, peer)?;
-                self.admit_sync(&peer)
+                let peer = self.kept(alloc, connection, peer)?;
+                self.admit_sync(to, inside(&peer), world)
             }
         }
     }
@@ -290,40 +337,42 @@ impl Admitting {
     fn admit<S: Space + Drop>(
         &mut self,
         alloc: Global,
-        actor: u32,
+        connection: u32,
         event: &TurnEvent,
         world: &World<S>,
-    ) -> Result<Option<Fault>, NoMemory>
-        requires { self.old.next < 2 ^ 63 }
-        ensures cause { IfOk result (λ cause. cause ≡ cause_of actor event.now self.old) }
-        ensures after { IfOk result (λ cause. cause ≡ None
-            → self.new ≡ after_event actor world.now event.now.event self.old) }
+    ) -> Result<(), Refusal>
+        requires small { connection ≤ 2 ^ 31 }
+        requires next { self.old.next < 2 ^ 63 }
+        ensures free { OnOk result (cause_of connection world.now event.now self.old ≡ None) }
+        ensures cause { IfErr result
+            (IsWhyRefused (cause_of connection world.now event.now self.old)) }
+        ensures after { OnOk result (self.new ≡ after connection world.now event.now self.old) }
     {
-        if event.oid != 0 {
-            return Ok(Some(Fault::UnknownOid(event.oid)));
+        match self.ports.cap_of(event.oid) {
+            Some(to) => self.admit_event(alloc, connection, to, &event.event, world),
+            None => Err(Refusal::Cause(Fault::UnknownOid(event.oid))),
         }
-        self.admit_event(alloc, actor, &event.event, world)
     }
 
     /// All events in order, or the cause against the first that is refused.
     pub(crate) fn admit_all<S: Space + Drop>(
         &mut self,
         alloc: Global,
-        actor: u32,
+        connection: u32,
         events: &[TurnEvent],
         world: &World<S>,
-    ) -> Result<Option<Fault>, NoMemory>
+    ) -> Result<(), Refusal>
+        requires small { connection ≤ 2 ^ 31 }
         requires next { self.old.next < 2 ^ 62 }
         requires events { length events.now ≤ 1024 }
-        ensures { IfOk result (λ cause. outcome cause self.new
-            ≡ all_admitted actor world.now events.now self.old) }
+        ensures admitted { OnOk result
+            (all_admitted connection world.now events.now self.old ≡ admitted self.new) }
+        ensures refused { IfErr result
+            (IsRefusedFor (all_admitted connection world.now events.now self.old)) }
     {
         for event in events {
-            let cause = self.admit(alloc, actor, event, world)?;
-            if cause.is_some() {
-                return Ok(cause);
-            }
+            self.admit(alloc, connection, event, world)?;
         }
-        Ok(None)
+        Ok(())
     }
 }

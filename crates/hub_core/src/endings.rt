@@ -1,16 +1,14 @@
 //! How connections end, and who ends at the end of a step.
 ghost use Rattle.std.specs.Prelude.{◌≡◌, ◌≤◌, ◌^◌, IfOk, IfSome};
 ghost use Rattle.std.specs.Map.{keys_of};
-ghost use Rattle.hub_core.specs.Endings.{departed, departed_for, closed, failed, failed_where};
-ghost use Rattle.hub_core.specs.Endings.{spread_out, all_spread_out, overrun_by, overrun_of};
-ghost use Rattle.hub_core.specs.Endings.{all_overrun, finished};
+ghost use Rattle.hub_machine.specs.Endings.{departed, departed_for, closed, failed, failed_where};
+ghost use Rattle.hub_machine.specs.Endings.{spread_out, all_spread_out, overrun_by, overrun_of};
+ghost use Rattle.hub_machine.specs.Endings.{all_overrun, finished};
 
-use crate::faults::{Fault, overrun};
 use crate::hub::{FIRST_CONNECTION, Hub};
-use crate::limits::{DELIVERIES, DELIVERIES_WEIGHT};
-use crate::steps::Reply;
 use ac_world::{Load, Spread};
 use ds_space::Space;
+use hub_machine::{DELIVERIES, DELIVERIES_WEIGHT, Fault, Reply, overrun};
 use pv_value::NoMemory;
 use std::alloc::Global;
 

@@ -2,22 +2,19 @@
 ghost use Rattle.std.specs.Prelude.{◌≡◌, ◌≤◌, ◌<◌, ◌-◌, ◌+◌, ◌^◌, min, true, [], IfOk, IfSome};
 ghost use Rattle.std.specs.Prelude.{option_map, option_copied};
 ghost use Rattle.ac_world.specs.Worlds.{actor_of};
-ghost use Rattle.hub_core.specs.declared.steps.Reply.TheVariants as reply;
-ghost use Rattle.hub_core.specs.State.{opening, ports_of, is_there, foreign};
-ghost use Rattle.hub_core.specs.Endings.{finished};
-ghost use Rattle.hub_core.specs.Machine.{step as step_of, is_worn, refusal, arrive_unless, opened};
-ghost use Rattle.hub_core.specs.Machine.{IsAllowed};
-ghost use Rattle.hub_core.specs.Completeness.{IsComplete};
-ghost use Rattle.hub_core.specs.Replays.{pending, lowest, first_failed, least};
+ghost use Rattle.hub_machine.specs.declared.steps.Reply.TheVariants as reply;
+ghost use Rattle.hub_machine.specs.State.{opening, ports_of, is_there};
+ghost use Rattle.hub_machine.specs.Endings.{finished};
+ghost use Rattle.hub_machine.specs.Machine.{step as step_of, is_worn, refusal, arrive_unless};
+ghost use Rattle.hub_machine.specs.Machine.{opened, IsAllowed};
+ghost use Rattle.hub_machine.specs.Completeness.{IsComplete};
+ghost use Rattle.hub_machine.specs.Replays.{pending, lowest, first_failed, least};
 
-use crate::faults::Fault;
-use crate::limits::{CONNECTIONS, DATASPACES, WORN_CONNECTIONS, WORN_HANDLE};
-use crate::plainness::batch_tells_of_other;
-use crate::ports::Ports;
-use crate::steps::{Reply, Step};
 use ac_world::World;
-use ds_space::Space;
+use ds_space::{Reference, Space};
+use hub_machine::{CONNECTIONS, DATASPACES, Fault, Reply, Step, WORN_CONNECTIONS, WORN_HANDLE};
 use pv_value::NoMemory;
+use rl_ports::Ports;
 use std::alloc::Global;
 use std::collections::BTreeMap;
 use std::marker::Model;
@@ -40,7 +37,8 @@ impl<S: Space + Drop> Model for Hub<S> {
     ghost use Rattle.std.specs.List.{AllByRecursion};
     ghost use Rattle.std.specs.Coded.{codes};
     ghost use Rattle.pv_value.specs.Lemmas.Coded.{plain_code};
-    ghost use Rattle.hub_core.specs.State.{State};
+    ghost use Rattle.hub_machine.specs.State.{State};
+    ghost use Rattle.hub_valid.specs.Validity.{AreValid};
 
     ghost Value = { State };
 
@@ -54,7 +52,8 @@ impl<S: Space + Drop> Model for Hub<S> {
     } };
 
     ghost invariant = { λ h. AllByRecursion (λ e. e.0 ≤ 2 ^ 31) h.connections.entries
-        × AllByRecursion (λ e. e.0 ≤ 2 ^ 31) h.faults.entries };
+        × AllByRecursion (λ e. e.0 ≤ 2 ^ 31) h.faults.entries
+        × AreValid h.world h.connections.entries };
 }
 
 /// The lesser of the numbers that are there.
@@ -132,16 +131,6 @@ impl<S: Space + Drop> Hub<S> {
         self.world.opened()
     }
 
-    /// Whether the actor is a live connection whose first batch tells it of another's object.
-    pub fn foreign(&self, actor: u32) -> bool
-        ensures { result ≡ foreign actor self.now }
-    {
-        match self.world.first(actor) {
-            Some(batch) => actor >= FIRST_CONNECTION && batch_tells_of_other(actor, batch),
-            None => false,
-        }
-    }
-
     /// Whether the numbers for this step are used up.
     fn is_worn(&self, event: &Step) -> bool
         ensures { result ≡ is_worn self.now event.now }
@@ -155,7 +144,8 @@ impl<S: Space + Drop> Hub<S> {
 
     /// A connection comes.
     fn open(self, alloc: Global, space: u8) -> Result<(Hub<S>, u32), NoMemory>
-        requires { self.world.opened < 2 ^ 31 }
+        requires few { self.world.opened < 2 ^ 31 }
+        requires space { space ≤ 8 }
         ensures state { IfOk result (λ done. done.0 ≡ opened space self) }
         ensures number { IfOk result (λ done. done.1 ≡ self.world.opened + 1) }
     {
@@ -166,7 +156,11 @@ impl<S: Space + Drop> Hub<S> {
             stopped,
         } = self;
         let (world, number) = world.arrive()?;
-        connections.insert(number, Ports::new(alloc, u32::from(space)))?;
+        let first = Reference {
+            at: u32::from(space),
+            entity: 0,
+        };
+        connections.insert(number, Ports::new(alloc, first)?)?;
         let hub = Hub {
             world,
             connections,
@@ -220,6 +214,7 @@ impl<S: Space + Drop> Hub<S> {
 
     /// A step that may be done.
     fn machine_step(self, alloc: Global, event: Step) -> Result<(Hub<S>, Reply), NoMemory>
+        requires { IsAllowed self event }
         ensures state { IfOk result (λ done. done.0 ≡ (step_of self event).state) }
         ensures reply { IfOk result (λ done. done.1 ≡ (step_of self event).reply) }
     {

@@ -1,31 +1,51 @@
 //! What connections send: packets, what is none, and their going.
-ghost use Rattle.std.specs.Prelude.{◌≡◌, ◌≤◌, ◌<◌, ◌^◌, true, IfOk, IfSome, is_some, if◌then◌else◌};
+ghost use Rattle.std.specs.Prelude.{◌≡◌, ◌≤◌, ◌<◌, ◌^◌, true, [], IfOk, IfErr, IfSome};
+ghost use Rattle.std.specs.Prelude.{is_some, if◌then◌else◌};
+ghost use Rattle.std.specs.BTreeMap.{IsOrdered};
+ghost use Rattle.std.specs.List.Sorted.{IsStrictlySortedBy};
+ghost use Rattle.std.specs.Map.{keys_of};
+ghost use Rattle.std.specs.Ordering.{nat_cmp};
 ghost use Rattle.ac_table.specs.Tables.{is_live};
 ghost use Rattle.ac_world.specs.Worlds.{actor_of};
-ghost use Rattle.hub_core.specs.State.{ports_of};
-ghost use Rattle.hub_core.specs.Admission.{admission, outcome};
-ghost use Rattle.hub_core.specs.Endings.{nameless};
-ghost use Rattle.hub_core.specs.Machine.{judged, accepted, packet_at, bad_at, close_at};
+ghost use Rattle.hub_machine.specs.State.{ports_of};
+ghost use Rattle.hub_machine.specs.Bareness.{are_bare};
+ghost use Rattle.hub_machine.specs.Admission.{admission, admitted};
+ghost use Rattle.hub_machine.specs.Endings.{nameless, departed_for, finished};
+ghost use Rattle.hub_machine.specs.Machine.{judged, accepted, packet_at, bad_at, close_at};
+ghost use Rattle.hub_machine.specs.declared.steps.Reply.TheVariants as reply;
+ghost use Rattle.hub_valid.specs.Validity.{IsValid, IsValidEntry};
+ghost use Rattle.hub_core.specs.Refusals.{IsRefusedFor, IsCauseAnd};
 
 use crate::admitting::Admitting;
-use crate::faults::{Fault, over};
 use crate::hub::Hub;
-use crate::limits::TURN_EVENTS;
-use crate::ports::Ports;
-use crate::steps::Reply;
+use crate::refusals::{Refusal, refuse_for};
 use ds_space::Space;
+use hub_machine::{Fault, Reply, TURN_EVENTS, over};
 use pv_value::NoMemory;
 use rl_packet::Turn;
+use rl_ports::Ports;
 use std::alloc::Global;
+use std::collections::BTreeMap;
+
+/// The connections' numbers ascend.
+fn keeps_its_order(connections: &BTreeMap<u32, Ports>)
+    ensures { IsOrdered nat_cmp connections.now }
+{
+    let _ = connections.len();
+}
 
 impl<S: Space + Drop> Hub<S> {
     /// A live connection's names, which are taken out of the state.
-    fn take_ports(&mut self, connection: u32) -> Option<Ports>
+    pub(crate) fn take_ports(&mut self, connection: u32) -> Option<Ports>
         ensures ports { result ≡ ports_of connection self.old }
         ensures state { self.new
             ≡ (if is_some result then nameless connection self.old else self.old) }
         ensures small { IfSome result (λ ports. connection ≤ 2 ^ 31) }
+        ensures valid { IfSome result
+            (λ ports. IsValidEntry self.old.world.opened (connection, ports)) }
+        ensures ordered { IsStrictlySortedBy nat_cmp (keys_of self.old.connections) }
     {
+        keeps_its_order(&self.connections);
         if !self.live(connection) {
             return None;
         }
@@ -36,20 +56,21 @@ impl<S: Space + Drop> Hub<S> {
     fn admission(
         &self,
         alloc: Global,
-        actor: u32,
+        connection: u32,
         ports: Ports,
         turn: &Turn,
-    ) -> Result<(Option<Fault>, Admitting), NoMemory>
-        requires { self.now.world.table.next < 2 ^ 62 }
-        ensures { IfOk result (λ x. outcome x.0 x.1
-            ≡ admission actor ports self.now.world turn.now) }
+    ) -> Result<Admitting, Refusal>
+        requires small { connection ≤ 2 ^ 31 }
+        requires next { self.now.world.table.next < 2 ^ 62 }
+        ensures admitted { IfOk result
+            (λ x. admission connection ports self.now.world turn.now ≡ admitted x) }
+        ensures refused { IfErr result
+            (IsRefusedFor (admission connection ports self.now.world turn.now)) }
     {
-        let mut admitting = Admitting::new(alloc, actor, ports, &self.world);
-        if let Some(fault) = over(TURN_EVENTS, 3, turn.len() as u64) {
-            return Ok((Some(fault), admitting));
-        }
-        let cause = admitting.admit_all(alloc, actor, turn.as_slice(), &self.world)?;
-        Ok((cause, admitting))
+        refuse_for(over(TURN_EVENTS, 3, turn.len() as u64))?;
+        let mut admitting = Admitting::new(alloc, connection, ports, &self.world);
+        admitting.admit_all(alloc, connection, turn.as_slice(), &self.world)?;
+        Ok(admitting)
     }
 
     /// What a packet does is done, and its connection names what it leaves.
@@ -61,6 +82,7 @@ impl<S: Space + Drop> Hub<S> {
     ) -> Result<Hub<S>, NoMemory>
         requires live { is_live (actor_of connection) self.world.table ≡ true }
         requires small { connection ≤ 2 ^ 31 }
+        requires valid { IsValid self → IsValid (accepted connection admitting self) }
         ensures { IfOk result (λ h. h ≡ accepted connection admitting self) }
     {
         let Hub {
@@ -80,6 +102,28 @@ impl<S: Space + Drop> Hub<S> {
         })
     }
 
+    /// A connection whose names were taken out of the state ends, where there is a cause.
+    pub(crate) fn refuse(
+        self,
+        alloc: Global,
+        connection: u32,
+        refusal: Refusal,
+    ) -> Result<(Hub<S>, Reply), NoMemory>
+        requires { connection ≤ 2 ^ 31 }
+        ensures state { IfOk result (λ done. IsCauseAnd refusal
+            (λ f. done.0 ≡ finished [] (departed_for connection f self))) }
+        ensures reply { IfOk result
+            (λ done. IsCauseAnd refusal (λ f. done.1 ≡ reply.Refused f)) }
+    {
+        match refusal {
+            Refusal::Cause(fault) => {
+                let hub = self.end_for(alloc, connection, fault)?;
+                hub.ends(alloc, &[], Reply::Refused(fault))
+            }
+            Refusal::NoMemory => Err(NoMemory),
+        }
+    }
+
     /// A packet of a connection whose names were taken out of the state.
     fn judge(
         self,
@@ -90,19 +134,21 @@ impl<S: Space + Drop> Hub<S> {
     ) -> Result<(Hub<S>, Reply), NoMemory>
         requires live { is_live (actor_of connection) self.world.table ≡ true }
         requires small { connection ≤ 2 ^ 31 }
+        requires bare { are_bare turn.now ≡ true }
         requires next { self.world.table.next < 2 ^ 62 }
-        ensures state { IfOk result (λ done. done.0 ≡ (judged connection
-            (admission (actor_of connection) ports self.world turn.now) self).state) }
-        ensures reply { IfOk result (λ done. done.1 ≡ (judged connection
-            (admission (actor_of connection) ports self.world turn.now) self).reply) }
+        requires valid { IsValidEntry self.world.opened (connection, ports) }
+        ensures state { IfOk result (λ done. done.0
+            ≡ (judged connection (admission connection ports self.world turn.now) self).state) }
+        ensures reply { IfOk result (λ done. done.1
+            ≡ (judged connection (admission connection ports self.world turn.now) self).reply) }
     {
-        let (cause, admitting) = self.admission(alloc, 16 + connection, ports, turn)?;
-        if let Some(fault) = cause {
-            let hub = self.end_for(alloc, connection, fault)?;
-            return hub.ends(alloc, &[], Reply::Refused(fault));
+        match self.admission(alloc, connection, ports, turn) {
+            Ok(admitting) => {
+                let hub = self.accept(alloc, connection, admitting)?;
+                hub.ends(alloc, &[], Reply::Taken)
+            }
+            Err(refusal) => self.refuse(alloc, connection, refusal),
         }
-        let hub = self.accept(alloc, connection, admitting)?;
-        hub.ends(alloc, &[], Reply::Taken)
     }
 
     /// A connection's packet.
@@ -112,7 +158,8 @@ impl<S: Space + Drop> Hub<S> {
         connection: u32,
         turn: &Turn,
     ) -> Result<(Hub<S>, Reply), NoMemory>
-        requires { self.world.table.next < 2 ^ 62 }
+        requires bare { are_bare turn.now ≡ true }
+        requires next { self.world.table.next < 2 ^ 62 }
         ensures state { IfOk result (λ done. done.0
             ≡ (packet_at connection (ports_of connection self) turn.now self).state) }
         ensures reply { IfOk result (λ done. done.1

@@ -1,15 +1,22 @@
 //! Turns of actors, and what connections get by them.
-ghost use Rattle.std.specs.Prelude.{◌≡◌, IfOk};
+ghost use Rattle.std.specs.Prelude.{◌≡◌, ◌≤◌, ◌<◌, ◌+◌, ◌^◌, IfOk};
 ghost use Rattle.ac_table.specs.Tables.{lowest as lowest_waiting};
-ghost use Rattle.hub_core.specs.Machine.{tell_fault, fault_for, after_turn, turn_of, work_by};
+ghost use Rattle.ac_world.specs.Worlds.{with_entry};
+ghost use Rattle.hub_machine.specs.State.{ports_of};
+ghost use Rattle.hub_machine.specs.Machine.{tell, tell_fault, fault_for, after_turn, turn_of};
+ghost use Rattle.hub_machine.specs.Machine.{work_by, telling_fault};
+ghost use Rattle.hub_valid.specs.Validity.{IsValid, IsValidBatch, IsValidEntry};
+ghost use Rattle.hub_core.specs.Telling.{IsToldSoundly, told_by};
 
 use crate::hub::{FIRST_CONNECTION, Hub};
-use crate::steps::Reply;
-use crate::telling::turn_to;
+use crate::telling::all_to_send;
+use ac_table::Batch;
 use ac_world::Turned;
 use ds_space::Space;
+use hub_machine::Reply;
 use pv_value::NoMemory;
-use rl_packet::Packet;
+use rl_packet::{Packet, Turn};
+use rl_ports::Ports;
 use std::alloc::Global;
 
 impl<S: Space + Drop> Hub<S> {
@@ -32,6 +39,66 @@ impl<S: Space + Drop> Hub<S> {
         }
     }
 
+    /// A connection names this from now on.
+    fn name(mut self, connection: u32, ports: Ports) -> Result<Hub<S>, NoMemory>
+        requires small { connection ≤ 2 ^ 31 }
+        requires valid { IsValid self → IsValid
+            (record self { connections = with_entry connection ports self.connections }) }
+        ensures { IfOk result (λ h. h
+            ≡ record self { connections = with_entry connection ports self.connections }) }
+    {
+        self.connections.insert(connection, ports)?;
+        Ok(self)
+    }
+
+    /// A connection's batch is sent, and what it tells of is exported; or the connection ends,
+    /// where that is too much.
+    fn tell(
+        mut self,
+        alloc: Global,
+        connection: u32,
+        batch: Batch,
+    ) -> Result<(Hub<S>, Reply), NoMemory>
+        requires next { self.world.table.next ≤ 2 ^ 63 }
+        requires valid { IsValidBatch (16 + self.world.opened) self.world.table.next batch }
+        ensures state { IfOk result
+            (λ done. done.0 ≡ (tell connection (ports_of connection self) batch self).state) }
+        ensures reply { IfOk result
+            (λ done. done.1 ≡ (tell connection (ports_of connection self) batch self).reply) }
+    {
+        match self.take_ports(connection) {
+            Some(ports) => self.tell_by(alloc, connection, ports, batch),
+            None => self.ends(alloc, &[], Reply::Ran),
+        }
+    }
+
+    /// A connection's batch is told by its names, which were taken out of the state.
+    fn tell_by(
+        self,
+        alloc: Global,
+        connection: u32,
+        mut ports: Ports,
+        batch: Batch,
+    ) -> Result<(Hub<S>, Reply), NoMemory>
+        requires small { connection ≤ 2 ^ 31 }
+        requires next { self.world.table.next ≤ 2 ^ 63 }
+        requires batch { IsValidBatch (16 + self.world.opened) self.world.table.next batch }
+        requires entry { IsValidEntry self.world.opened (connection, ports) }
+        ensures state { IfOk result (λ done. done.0 ≡ (told_by
+            (telling_fault connection batch ports) connection ports batch self).state) }
+        ensures reply { IfOk result (λ done. done.1 ≡ (told_by
+            (telling_fault connection batch ports) connection ports batch self).reply) }
+    {
+        match all_to_send(alloc, connection, &mut ports, batch.events) {
+            Ok(sent) => {
+                let hub = self.name(connection, ports)?;
+                let packet = Packet::Turn(Turn::from_vec(sent));
+                hub.ends(alloc, &[], Reply::Sent(packet))
+            }
+            Err(refusal) => self.refuse(alloc, connection, refusal),
+        }
+    }
+
     /// What follows from what the world tells of a turn that is done.
     fn after_turn(
         self,
@@ -39,15 +106,13 @@ impl<S: Space + Drop> Hub<S> {
         actor: u32,
         turned: Turned,
     ) -> Result<(Hub<S>, Reply), NoMemory>
+        requires { IsToldSoundly turned self }
         ensures state { IfOk result (λ done. done.0 ≡ (after_turn actor turned self).state) }
         ensures reply { IfOk result (λ done. done.1 ≡ (after_turn actor turned self).reply) }
     {
         match turned {
             Turned::Ran(spreads) => self.ends(alloc, spreads.as_slice(), Reply::Ran),
-            Turned::Taken(batch) => {
-                let packet = Packet::Turn(turn_to(alloc, actor, batch.events)?);
-                self.ends(alloc, &[], Reply::Sent(packet))
-            }
+            Turned::Taken(batch) => self.tell(alloc, actor.saturating_sub(16), batch),
             Turned::Idle => Ok((self, Reply::Idle)),
             Turned::Gone => self.tell_fault(alloc, actor),
         }
@@ -55,6 +120,7 @@ impl<S: Space + Drop> Hub<S> {
 
     /// An actor's turn.
     pub(crate) fn turn(self, alloc: Global, actor: u32) -> Result<(Hub<S>, Reply), NoMemory>
+        requires { self.world.table.next < 2 ^ 62 }
         ensures state { IfOk result (λ done. done.0 ≡ (turn_of actor self).state) }
         ensures reply { IfOk result (λ done. done.1 ≡ (turn_of actor self).reply) }
     {
@@ -76,6 +142,7 @@ impl<S: Space + Drop> Hub<S> {
 
     /// The turn of the lowest of the system's actors for which a batch waits.
     pub(crate) fn work(self, alloc: Global) -> Result<(Hub<S>, Reply), NoMemory>
+        requires { self.world.table.next < 2 ^ 62 }
         ensures state { IfOk result (λ done. done.0
             ≡ (work_by (lowest_waiting self.world.table) self).state) }
         ensures reply { IfOk result (λ done. done.1

@@ -10,9 +10,9 @@ use Rattle.ac_table.specs.declared.batches.Row.{Row}
 use Rattle.ac_table.specs.declared.batches.Batch.{Batch}
 use Rattle.ac_table.specs.Tables.{Actor, find_actor, is_live}
 use Rattle.ac_world.specs.Worlds.{WorldState, Deliveries, seat_of, held_by, entry_of, is_space, actor_of, arrived}
-use Rattle.hub_core.specs.Ports.{ports_to}
-use Rattle.hub_core.specs.State.{State}
-use Rattle.hub_core.specs.Machine.{opened}
+use Rattle.rl_ports.specs.Ports.{PortsState, ports_to}
+use Rattle.hub_machine.specs.State.{State}
+use Rattle.hub_machine.specs.Machine.{opened}
 use Rattle.hub_laws.specs.Standing.{stands, value_alone, at_object}
 use Rattle.hub_laws.proofs.Entries.{put_found, put_other}
 use Rattle.hub_laws.proofs.Joining.{above_is_new, joined_is_table, joined_new, joined_other, joined_live}
@@ -115,27 +115,27 @@ arrived_sound w k = record {
 other_number : (j k : ℕ) → j ≢ k → actor_of j ≢ actor_of k
 other_number j k ne same = ne (omega (arith, same))
 
-pub opened_hub : (space : ℕ) (s : State) → space ≤ 8 → IsHub [] s → IsHub [] (opened space s)
-opened_hub space s low h =
+pub opened_hub : (space : ℕ) (s : State) → IsHub [] s → IsHub [] (opened space s)
+opened_hub space s h =
     let new : ℕ = s.world.opened + 1 in
+    let ports : PortsState = ports_to (record { at = space; entity = 0 }) in
     record {
       sound = arrived_sound s.world h.sound;
       named = λ j live. elim (one_or_not j new) [
         | inl same ↦ (
-          ports_to space,
-          ap (λ i. entry_of i (opened space s).connections) same ∙ put_found new (ports_to space) s.connections,
-          low,
+          ports,
+          ap (λ i. entry_of i (opened space s).connections) same ∙ put_found new ports s.connections,
         )
         | inr ne ↦
             (let b = h.named j (sym (live_before s.world h.sound (actor_of j) (other_number j new ne)) ∙ live) in
-            (b.0, put_other new j (ports_to space) s.connections ne ∙ b.1, b.2))
+            (b.0, put_other new j ports s.connections ne ∙ b.1))
       ];
       nameless = λ j dead. elim (one_or_not j new) [
         | inl same ↦ absurd (let here : is_live (actor_of j) (arrived s.world).table ≡ true =
             ap (λ i. is_live (actor_of i) (arrived s.world).table) same
             ∙ joined_live (newcomer s.world) s.world.table (is_new s.world h.sound) in cc)
-        | inr ne ↦ put_other new j (ports_to space) s.connections ne
+        | inr ne ↦ put_other new j ports s.connections ne
             ∙ h.nameless j (sym (live_before s.world h.sound (actor_of j) (other_number j new ne)) ∙ dead)
       ];
-      names_ascend = ascend_with new (ports_to space) s.connections h.names_ascend;
+      names_ascend = ascend_with new ports s.connections h.names_ascend;
     }

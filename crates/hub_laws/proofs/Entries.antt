@@ -1,5 +1,5 @@
 -- Lists by number: what is found after an entry was put in or taken out.
-use Rattle.std.proofs.Common.{◌≡◌, ◌≢◌, ℕ, List, [], ◌∷◌, Some, None, refl}
+use Rattle.std.proofs.Common.{◌≡◌, ◌≢◌, ℕ, List, [], ◌∷◌, Bool, true, false, cond, Some, None, refl}
 use Rattle.std.proofs.Common.{arith, Less, subst}
 use Rattle.std.specs.Map.{keys_of}
 use Rattle.std.specs.BTreeMap.{is_at}
@@ -47,3 +47,17 @@ out_gone k (e ∷ es) s =
       λ (same : e.0 ≡ k). none_above k es
           (subst (λ j. AllByRecursion (λ i. nat_cmp j i ≡ Less) (keys_of es)) same (sorted_head nat_cmp _ _ s)),
     )
+
+-- what holds of all entries holds of the one that is found
+pub all_found : {X : Type 0} (P : ℕ × X → Type 0) (k : ℕ) (x : X) (es : List (ℕ × X)) → AllByRecursion P es
+    → entry_of k es ≡ Some x → P (k, x)
+all_found P k x [] all is = absurd cc
+all_found P k x (e ∷ es) all is = by (is_at (nat_cmp k) e.0) refl is (all_found P k x es all.1)
+  where
+    by : (b : Bool) → is_at (nat_cmp k) e.0 ≡ b → cond b (Some e.1) (entry_of k es) ≡ Some x
+        → (entry_of k es ≡ Some x → P (k, x)) → P (k, x)
+    by true here is later =
+        let number : e.0 ≡ k = grind (arith, nat_tests, here) in
+        let value : e.1 ≡ x = cc in
+        subst (λ y. P (k, y)) value (subst (λ j. P (j, e.1)) number all.0)
+    by false other is later = later is

@@ -13,6 +13,7 @@ use Rattle.std.proofs.lemmas.Map.Keys.{IsDistinct-from_sorted}
 use Rattle.pv_value.specs.Plain.{Plain}
 use Rattle.pv_value.specs.Order.{order}
 use Rattle.dp_pattern.specs.Matching.{same}
+use Rattle.ds_space.specs.declared.references.Reference.{Reference}
 use Rattle.ds_space.specs.Wants.{wants}
 use Rattle.ds_space.specs.Lemmas.Lists.{wants_ascend}
 use Rattle.rl_packet.specs.Holding.{holdings_in_order, insert_holding, is_before}
@@ -22,12 +23,12 @@ use Rattle.ac_table.specs.declared.batches.Batch.{Batch}
 use Rattle.ac_table.specs.Tables.{TableState, Actor, IsTable, find_actor, is_live, waiting_in}
 use Rattle.ac_world.specs.Worlds.{WorldState, seat_of, held_by, is_space, actor_of}
 use Rattle.ac_world.specs.declared.held.Held.{Held}
-use Rattle.hub_core.specs.State.{State, opening}
-use Rattle.hub_core.specs.Replays.{replay, IsSettled}
-use Rattle.hub_core.specs.declared.steps.Step.{Step}
+use Rattle.hub_machine.specs.State.{State, opening}
+use Rattle.hub_machine.specs.Replays.{replay, IsSettled}
+use Rattle.hub_machine.specs.declared.steps.Step.{Step}
 use Rattle.hub_laws.specs.Laws.{AreAllowed, Holdings, SettledHoldings}
 use Rattle.hub_laws.specs.Scratch.{Pair, asserted_at, pair_at, told_over, told_directly, dataspaces, scratch_at}
-use Rattle.hub_laws.specs.Scratch.{scratch}
+use Rattle.hub_laws.specs.Scratch.{scratch, exports_of}
 use Rattle.hub_laws.specs.Settled.{holding_of, pair_of}
 use Rattle.hub_laws.specs.Standing.{stands, took_all, events_of, value_alone, at_object}
 use Rattle.hub_laws.proofs.Bags.{map_flat, permutation_flat, filter_alike, filter_filter, by_number}
@@ -79,8 +80,9 @@ stands_map f g h each a (r ∷ rs) = by (r.target == a) refl (stands_map f g h e
     by true here rest = rw here (λ i. each r i ∷ rest i)
     by false other rest = rw other rest
 
-abbrev pub pair_held : ℕ → ℕ × Held → Pair
-pair_held a e = pair_at a e.1.entity e.1.value
+-- n is the number of a connection, which has these exports
+abbrev pub pair_held : List Reference → ℕ → ℕ × Held → Pair
+pair_held exports n e = pair_at exports n e.1.entity e.1.value
 
 -- an owner is a dataspace or a connection
 owner_kind : (o : ℕ) → o ≢ 0 → (9 ≤ o → o < 17 → ⊥) → not (list_any (λ d. o == d) dataspaces) ≡ nat_le 17 o
@@ -106,7 +108,7 @@ is_direct r = not (list_any (λ d. r.owner == d) dataspaces)
 
 -- ---- a sound world in which nothing waits
 
-module _ (w : WorldState) (s : IsSound [] w) (quiet : waiting_in w.table.actors ≡ 0) where
+module _ (exports : List Reference) (w : WorldState) (s : IsSound [] w) (quiet : waiting_in w.table.actors ≡ 0) where
   abbrev rows : List Row
   rows = w.table.rows
 
@@ -121,29 +123,34 @@ module _ (w : WorldState) (s : IsSound [] w) (quiet : waiting_in w.table.actors 
       ∙ stands_map value_alone (λ e. e.1) (λ r. r.value) (λ r. refl) d rows
 
   -- and another actor has got what stands there
-  held_stands : (a : ℕ) → is_space a ≡ false → is_live a w.table ≡ true
-      → map (pair_held a) (held_by a w) ≡ map (pair_of_row a) (filter (λ r. r.target == a) rows)
-  held_stands a other live =
-      let x = found_live (find_actor a w.table.actors) live in
-      ap (map (pair_held a)) (got_stands at_object (16 + w.opened) a w.table (held_by a w) x.0.inbox s.table
-      (inbox_empty a w.table.actors x.0 quiet x.1)
-      (subst (IsServed [] a x.0.inbox w) other (s.served a x.0 x.1)))
-      ∙ stands_map at_object (pair_held a) (pair_of_row a) (λ r. refl) a rows
+  held_stands : (n : ℕ) → is_space (actor_of n) ≡ false → is_live (actor_of n) w.table ≡ true
+      → map (pair_held exports n) (held_by (actor_of n) w)
+      ≡ map (pair_of_row exports n) (filter (λ r. r.target == actor_of n) rows)
+  held_stands n other live =
+      let x = found_live (find_actor (actor_of n) w.table.actors) live in
+      ap (map (pair_held exports n))
+      (got_stands at_object (16 + w.opened) (actor_of n) w.table (held_by (actor_of n) w) x.0.inbox s.table
+      (inbox_empty (actor_of n) w.table.actors x.0 quiet x.1)
+      (subst (IsServed [] (actor_of n) x.0.inbox w) other (s.served (actor_of n) x.0 x.1)))
+      ∙ stands_map at_object (pair_held exports n) (pair_of_row exports n) (λ r. refl) (actor_of n) rows
 
-  -- the rows of a dataspace at an actor are what it tells it
-  space_tells : (a d : ℕ) → is_space d ≡ true → is_live d w.table ≡ true
-      → IsPermutation (map (pair_of_row a) (filter (λ r. (r.target == a) && (r.owner == d)) rows))
-      (told_over a (asserted_at d rows))
-  space_tells a d space live =
+  -- the rows of a dataspace at a connection are what it tells it
+  space_tells : (n d : ℕ) → is_space d ≡ true → is_live d w.table ≡ true
+      → IsPermutation (map (pair_of_row exports n) (filter (λ r. (r.target == actor_of n) && (r.owner == d)) rows))
+      (told_over exports n (asserted_at d rows))
+  space_tells n d space live =
       let met = s.met d space in
       let wanted : keys_of (seat_of d w).met ≡ wants (asserted_at d rows) =
       met.keys ∙ ap wants (got_asserted d space live) in
       let apart : IsDistinct same (keys_of (seat_of d w).met) =
       subst (IsDistinct same) (sym wanted) (IsDistinct-from_sorted order _ (wants_ascend (asserted_at d rows))) in
       IsPermutation-trans _ _ _
-      (own_are_meant a d (seat_of d w).met rows s.table.rows_ascend apart (rows_of_met d (seat_of d w) rows met))
-      (subst (λ ks. IsPermutation (map (pair_by a) (filter (goes_to a) ks)) (told_over a (asserted_at d rows)))
-      (sym wanted) (wants_are_told a (asserted_at d rows)))
+      (own_are_meant exports n d (seat_of d w).met rows s.table.rows_ascend apart
+      (rows_of_met d (seat_of d w) rows met))
+      (subst
+      (λ ks. IsPermutation (map (pair_by exports n) (filter (goes_to (actor_of n)) ks))
+      (told_over exports n (asserted_at d rows)))
+      (sym wanted) (wants_are_told exports n (asserted_at d rows)))
 
   -- the others are a connection's
   owned_directly : AllByRecursion (λ r. is_direct r ≡ nat_le 17 r.owner) rows
@@ -154,46 +161,48 @@ module _ (w : WorldState) (s : IsSound [] w) (quiet : waiting_in w.table.actors 
       let dead = s.no_watchers r.owner low high in
       absurd cc))
 
-  -- the pairs of a dataspace's rows at an actor, and those that it tells it
+  -- the pairs of a dataspace's rows at a connection, and those that it tells it
   abbrev pairs_of : ℕ → ℕ → List Pair
-  pairs_of a d = map (pair_of_row a) (filter (λ r. r.owner == d) (filter (λ r. r.target == a) rows))
+  pairs_of n d = map (pair_of_row exports n) (filter (λ r. r.owner == d) (filter (λ r. r.target == actor_of n) rows))
 
   abbrev pairs_by : ℕ → ℕ → List Pair
-  pairs_by a d = told_over a (asserted_at d rows)
+  pairs_by n d = told_over exports n (asserted_at d rows)
 
-  told_each : (a : ℕ) → IsPermutation (flat_map (pairs_of a) dataspaces) (flat_map (pairs_by a) dataspaces)
-  told_each a =
-      permutation_flat (pairs_of a) (pairs_by a) dataspaces
-      (each_space (λ d. IsPermutation (pairs_of a d) (pairs_by a d)) one)
+  told_each : (n : ℕ) → IsPermutation (flat_map (pairs_of n) dataspaces) (flat_map (pairs_by n) dataspaces)
+  told_each n =
+      permutation_flat (pairs_of n) (pairs_by n) dataspaces
+      (each_space (λ d. IsPermutation (pairs_of n d) (pairs_by n d)) one)
     where
-      one : (d : ℕ) → is_space d ≡ true → d < 9 → IsPermutation (pairs_of a d) (pairs_by a d)
+      one : (d : ℕ) → is_space d ≡ true → d < 9 → IsPermutation (pairs_of n d) (pairs_by n d)
       one d space low =
-          subst (λ l. IsPermutation (map (pair_of_row a) l) (pairs_by a d))
-          (sym (filter_filter (λ r. r.owner == d) (λ r. r.target == a) rows))
-          (space_tells a d space (s.always d low))
+          subst (λ l. IsPermutation (map (pair_of_row exports n) l) (pairs_by n d))
+          (sym (filter_filter (λ r. r.owner == d) (λ r. r.target == actor_of n) rows))
+          (space_tells n d space (s.always d low))
 
-  direct : (a : ℕ)
-      → map (pair_of_row a) (filter is_direct (filter (λ r. r.target == a) rows)) ≡ told_directly a rows
-  direct a =
-      ap (map (pair_of_row a))
-      (filter_filter is_direct (λ r. r.target == a) rows
-      ∙ filter_alike _ _ rows (all_weaker _ _ (λ r is. ap (λ b. (r.target == a) && b) is) rows owned_directly))
+  direct : (n : ℕ)
+      → map (pair_of_row exports n) (filter is_direct (filter (λ r. r.target == actor_of n) rows))
+      ≡ told_directly exports n rows
+  direct n =
+      ap (map (pair_of_row exports n))
+      (filter_filter is_direct (λ r. r.target == actor_of n) rows
+      ∙ filter_alike _ _ rows (all_weaker _ _ (λ r is. ap (λ b. (r.target == actor_of n) && b) is) rows owned_directly))
 
-  pub held_scratch : (a : ℕ) → is_space a ≡ false → is_live a w.table ≡ true
-      → IsPermutation (map (pair_held a) (held_by a w)) (scratch_at a rows)
-  held_scratch a other live =
-      let here : List Row = filter (λ r. r.target == a) rows in
+  pub held_scratch : (n : ℕ) → is_space (actor_of n) ≡ false → is_live (actor_of n) w.table ≡ true
+      → IsPermutation (map (pair_held exports n) (held_by (actor_of n) w)) (scratch_at exports n rows)
+  held_scratch n other live =
+      let here : List Row = filter (λ r. r.target == actor_of n) rows in
       let parts : List Row = flat_map (λ d. filter (λ r. r.owner == d) here) dataspaces in
       let last : List Row = filter is_direct here in
-      let joined : map (pair_of_row a) (parts ++ last)
-      ≡ flat_map (pairs_of a) dataspaces ++ told_directly a rows =
-      map-append (pair_of_row a) parts last
-      ∙ (λ i. map_flat (pair_of_row a) (λ d. filter (λ r. r.owner == d) here) dataspaces i ++ direct a i) in
-      subst (λ l. IsPermutation l (scratch_at a rows)) (sym (held_stands a other live))
+      let joined : map (pair_of_row exports n) (parts ++ last)
+      ≡ flat_map (pairs_of n) dataspaces ++ told_directly exports n rows =
+      map-append (pair_of_row exports n) parts last
+      ∙ (λ i. map_flat (pair_of_row exports n) (λ d. filter (λ r. r.owner == d) here) dataspaces i ++ direct n i) in
+      subst (λ l. IsPermutation l (scratch_at exports n rows)) (sym (held_stands n other live))
       (IsPermutation-trans _ _ _
-      (IsPermutation-map (pair_of_row a) here (parts ++ last) (by_number (λ r. r.owner) dataspaces here spaces_apart))
-      (subst (λ l. IsPermutation l (scratch_at a rows)) (sym joined)
-      (IsPermutation-append_left (told_directly a rows) _ _ (told_each a))))
+      (IsPermutation-map (pair_of_row exports n) here (parts ++ last)
+      (by_number (λ r. r.owner) dataspaces here spaces_apart))
+      (subst (λ l. IsPermutation l (scratch_at exports n rows)) (sym joined)
+      (IsPermutation-append_left (told_directly exports n rows) _ _ (told_each n))))
 
 -- ---- a hub
 
@@ -202,9 +211,9 @@ no_space : (k : ℕ) → is_space (actor_of k) ≡ false
 no_space k = grind (arith, nat_tests)
 
 pub scratch_stands : (s : State) → IsHub [] s → IsSettled s → (k : ℕ) → is_live (actor_of k) s.world.table ≡ true
-    → IsPermutation (map (pair_held (actor_of k)) (held_by (actor_of k) s.world)) (scratch k s)
+    → IsPermutation (map (pair_held (exports_of k s) k) (held_by (actor_of k) s.world)) (scratch k s)
 scratch_stands s hub settled k live =
-    held_scratch s.world hub.sound (omega (arith, settled)) (actor_of k) (no_space k) live
+    held_scratch (exports_of k s) s.world hub.sound (omega (arith, settled)) k (no_space k) live
 
 -- ---- in order
 
@@ -225,9 +234,10 @@ in_order_permutes (x ∷ xs) =
     IsPermutation-trans (x ∷ xs) (x ∷ holdings_in_order xs) (insert_holding x (holdings_in_order xs))
     (IsPermutation-cons x xs (holdings_in_order xs) (in_order_permutes xs)) (inserted x (holdings_in_order xs))
 
-pairs_of_holdings : (a : ℕ) (es : List (ℕ × Held)) → map pair_of (map (holding_of a) es) ≡ map (pair_held a) es
-pairs_of_holdings a [] = refl
-pairs_of_holdings a (e ∷ es) = ap (λ l. pair_held a e ∷ l) (pairs_of_holdings a es)
+pairs_of_holdings : (exports : List Reference) (n : ℕ) (es : List (ℕ × Held))
+    → map pair_of (map (holding_of exports n) es) ≡ map (pair_held exports n) es
+pairs_of_holdings exports n [] = refl
+pairs_of_holdings exports n (e ∷ es) = ap (λ l. pair_held exports n e ∷ l) (pairs_of_holdings exports n es)
 
 -- ---- a run
 
@@ -236,10 +246,11 @@ pub settled_from : Holdings → ((steps : List Step) → AreAllowed opening step
 settled_from holdings hubs k steps allowed settled live =
     let a = actor_of k in
     let s = replay steps in
-    let got : List Holding = map (holding_of a) (held_by a s.world) in
-    subst (λ hs. IsPermutation (map pair_of hs) (scratch k s)) (sym (holdings k steps allowed live))
+    let exports : List Reference = exports_of k s in
+    let got : List Holding = map (holding_of exports k) (held_by a s.world) in
+    subst (λ hs. IsPermutation (map pair_of hs) (scratch k s)) (sym (holdings k steps allowed live).0)
     (IsPermutation-trans (map pair_of (holdings_in_order got)) (map pair_of got) (scratch k s)
     (IsPermutation-map pair_of (holdings_in_order got) got
     (IsPermutation-sym got (holdings_in_order got) (in_order_permutes got)))
-    (subst (λ l. IsPermutation l (scratch k s)) (sym (pairs_of_holdings a (held_by a s.world)))
+    (subst (λ l. IsPermutation l (scratch k s)) (sym (pairs_of_holdings exports k (held_by a s.world)))
     (scratch_stands s (hubs steps allowed) settled k live)))

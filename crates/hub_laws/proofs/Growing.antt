@@ -1,10 +1,9 @@
 -- What comes to an actor that stays: batches whose assertions ascend, from the old next handle on.
-use Rattle.std.proofs.Common.{◌≡◌, ◌≢◌, ℕ, ◌+◌, ◌-◌, ◌≤◌, ◌<◌, ◌==◌, ◌&&◌, leb, List, [], ◌∷◌, ◌++◌, Bool, true, false}
+use Rattle.std.proofs.Common.{◌≡◌, ◌≢◌, ℕ, ◌+◌, ◌≤◌, ◌<◌, ◌==◌, List, [], ◌∷◌, ◌++◌, Bool, true, false}
 use Rattle.std.proofs.Common.{cond, Option, Some, None, inl, inr, refl, sym, ap, ◌∙◌, subst, arith, append-nil}
 use Rattle.std.specs.Prelude.{unwrap_or}
 use Rattle.std.specs.List.{AllByRecursion}
 use Rattle.std.specs.List.Sorted.{IsStrictlySortedBy}
-use Rattle.std.specs.Map.{keys_of}
 use Rattle.std.specs.Ordering.{nat_cmp}
 use Rattle.pv_value.specs.Plain.{boolean}
 use Rattle.ds_space.specs.declared.references.Reference.{Reference}
@@ -16,17 +15,12 @@ use Rattle.ac_table.specs.declared.batches.Batch.{Batch}
 use Rattle.ac_table.specs.Tables.{TableState, Actor, IsTable, find_actor, is_live, ended, rows_of, first_batch}
 use Rattle.ac_world.specs.declared.acts.Act.{Act}
 use Rattle.ac_world.specs.declared.acts.Act.TheVariants as act
-use Rattle.ac_world.specs.declared.spreads.Spread.{Spread as SpreadOf}
 use Rattle.ac_world.specs.declared.turns.Turned.TheVariants.{Gone}
 use Rattle.ac_world.specs.Outboxes.{Outbox, Plan, plan_over, told, told_to, posted, retractions, acted, all_acted}
 use Rattle.ac_world.specs.Turns.{After as TurnOf, space_turn, plain_turn, connection_turn, turn_with, turn_first, turn}
 use Rattle.ac_world.specs.Turns.{deliver, answer_to, answered, all_answered}
 use Rattle.ac_world.specs.Worlds.{WorldState, held_by, without_entry, is_space, is_system, actor_of, all_delivered}
 use Rattle.ac_world.specs.Worlds.{arrived, sent, gone, ended_of}
-use Rattle.hub_core.specs.declared.faults.Fault.{Fault}
-use Rattle.hub_core.specs.declared.faults.Fault.TheVariants.{Spread}
-use Rattle.hub_core.specs.State.{State, is_there}
-use Rattle.hub_core.specs.Endings.{failed, failed_where, spread_out, all_spread_out, overrun_of, all_overrun, finished}
 use Rattle.hub_laws.proofs.Committing.{done_in}
 use Rattle.hub_laws.proofs.EndingActors.{retractions_ascend, ended_none, ended_other}
 use Rattle.hub_laws.proofs.Entries.{put_other, out_other}
@@ -154,35 +148,6 @@ ended_grows a b w = by (is_live a w.table)
     by : (c : Bool) → Grows b w (cond c (gone a w) w)
     by true = gone_grows a b w
     by false = grows_not b w
-
--- ---- a step ends
-
-where_grows : (b k : ℕ) (o : Option Fault) (s : State) → Grows b s.world (failed_where k o s).world
-where_grows b k None s = grows_not b s.world
-where_grows b k (Some f) s = ended_grows (actor_of k) b s.world
-
-spread_grows : (b : ℕ) (x : SpreadOf) (s : State) → Grows b s.world (spread_out x s).world
-spread_grows b x s = by (leb 17 x.actor && is_there (x.actor - 16) s)
-  where
-    by : (c : Bool) → Grows b s.world (cond c (failed (x.actor - 16) (Spread x.weight) s) s).world
-    by true = ended_grows (actor_of (x.actor - 16)) b s.world
-    by false = grows_not b s.world
-
-all_spread_grows : (b : ℕ) (xs : List SpreadOf) (s : State) → Grows b s.world (all_spread_out xs s).world
-all_spread_grows b [] s = grows_not b s.world
-all_spread_grows b (x ∷ xs) s =
-    grows_on b s.world (spread_out x s).world _ (spread_grows b x s) (all_spread_grows b xs (spread_out x s))
-
-all_overrun_grows : (b : ℕ) (ks : List ℕ) (s : State) → Grows b s.world (all_overrun ks s).world
-all_overrun_grows b [] s = grows_not b s.world
-all_overrun_grows b (k ∷ ks) s =
-    let t : State = failed_where k (overrun_of k s) s in
-    grows_on b s.world t.world _ (where_grows b k (overrun_of k s) s) (all_overrun_grows b ks t)
-
-pub finished_grows : (b : ℕ) (xs : List SpreadOf) (s : State) → Grows b s.world (finished xs s).world
-finished_grows b xs s =
-    let t : State = all_spread_out xs s in
-    grows_on b s.world t.world _ (all_spread_grows b xs s) (all_overrun_grows b (keys_of t.connections) t)
 
 -- ---- another connection comes
 

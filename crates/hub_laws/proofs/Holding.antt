@@ -9,6 +9,7 @@ use Rattle.std.proofs.lemmas.Bool.Decides.{nat_tests}
 use Rattle.std.proofs.lemmas.List.{map-append}
 use Rattle.std.proofs.lemmas.List.Elements.{filter-append}
 use Rattle.std.proofs.lemmas.Map.Keys.{sorted_head, sorted_tail}
+use Rattle.ds_space.specs.declared.references.Reference.{Reference}
 use Rattle.ac_table.specs.declared.batches.Event.{Event}
 use Rattle.ac_table.specs.declared.batches.Event.TheVariants.{Assert, Retract, Message, Sync}
 use Rattle.ac_world.specs.Worlds.{with_entry, without_entry}
@@ -16,7 +17,7 @@ use Rattle.ac_world.specs.declared.held.Held.{Held}
 use Rattle.rl_packet.specs.Holding.{retracted_by, all_kept}
 use Rattle.rl_packet.specs.declared.holding.Holding.{Holding}
 use Rattle.rl_packet.specs.declared.packets.TurnEvent.{TurnEvent}
-use Rattle.hub_core.specs.Machine.{sent_event}
+use Rattle.hub_machine.specs.Machine.{sent_event}
 use Rattle.hub_laws.specs.Settled.{holding_of}
 use Rattle.hub_laws.specs.Standing.{took_all, at_object}
 use Rattle.hub_laws.proofs.Kept.{made_in}
@@ -60,34 +61,37 @@ below_next (k ∷ ks) h rest s =
     (grind (arith, nat_tests, before), below_next ks h rest (sorted_tail nat_cmp _ _ s))
 
 -- what was got before, where it lasts, and then what the events leave
-kept_took : (a : ℕ) (es : List Event) (got : List (ℕ × Held)) → IsStrictlySortedBy nat_cmp (keys_of got ++ made_in es)
-    → map (holding_of a) (took_all at_object es got)
-    ≡ map (holding_of a) (lasting (map (sent_event a) es) got) ++ all_kept (map (sent_event a) es)
-kept_took a [] got s = sym (append-nil _ ∙ ap (map (holding_of a)) (lasting-none got))
-kept_took a (Assert h entity v ∷ es) got s =
-    kept_took a es (with_entry h (at_object entity v) got) (log_took at_object (Assert h entity v) got (made_in es) s)
-    ∙ ap (λ gs. map (holding_of a) (lasting (map (sent_event a) es) gs) ++ all_kept (map (sent_event a) es))
+kept_took : (exports : List Reference) (k : ℕ) (es : List Event) (got : List (ℕ × Held))
+    → IsStrictlySortedBy nat_cmp (keys_of got ++ made_in es)
+    → map (holding_of exports k) (took_all at_object es got)
+    ≡ map (holding_of exports k) (lasting (map (sent_event exports k) es) got)
+    ++ all_kept (map (sent_event exports k) es)
+kept_took exports k [] got s = sym (append-nil _ ∙ ap (map (holding_of exports k)) (lasting-none got))
+kept_took exports k (Assert h entity v ∷ es) got s =
+    let later : List TurnEvent = map (sent_event exports k) es in
+    kept_took exports k es (with_entry h (at_object entity v) got)
+    (log_took at_object (Assert h entity v) got (made_in es) s)
+    ∙ ap (λ gs. map (holding_of exports k) (lasting later gs) ++ all_kept later)
     (with_entry-above h (at_object entity v) got (below_next (keys_of got) h (made_in es) s))
-    ∙ ap (λ gs. map (holding_of a) gs ++ all_kept (map (sent_event a) es))
-    (filter-append (λ e. not (list_any (retracted_by e.0) (map (sent_event a) es))) got ((h, at_object entity v) ∷ []))
-    ∙ last (list_any (retracted_by h) (map (sent_event a) es)) (lasting (map (sent_event a) es) got)
-    (all_kept (map (sent_event a) es))
+    ∙ ap (λ gs. map (holding_of exports k) gs ++ all_kept later)
+    (filter-append (λ e. not (list_any (retracted_by e.0) later)) got ((h, at_object entity v) ∷ []))
+    ∙ last (list_any (retracted_by h) later) (lasting later got) (all_kept later)
   where
     last : (b : Bool) (gs : List (ℕ × Held)) (ks : List Holding)
-        → map (holding_of a) (gs ++ cond (not b) ((h, at_object entity v) ∷ []) []) ++ ks
-        ≡ map (holding_of a) gs ++ cond b ks (holding_of a (h, at_object entity v) ∷ ks)
-    last true gs ks = ap (λ es. map (holding_of a) es ++ ks) (append-nil gs)
+        → map (holding_of exports k) (gs ++ cond (not b) ((h, at_object entity v) ∷ []) []) ++ ks
+        ≡ map (holding_of exports k) gs ++ cond b ks (holding_of exports k (h, at_object entity v) ∷ ks)
+    last true gs ks = ap (λ es. map (holding_of exports k) es ++ ks) (append-nil gs)
     last false gs ks =
-        ap (λ hs. hs ++ ks) (map-append (holding_of a) gs ((h, at_object entity v) ∷ []))
-        ∙ append_assoc (map (holding_of a) gs) (holding_of a (h, at_object entity v) ∷ []) ks
-kept_took a (Retract h entity ∷ es) got s =
-    kept_took a es (without_entry h got) (log_took at_object (Retract h entity) got (made_in es) s)
-    ∙ ap (λ gs. map (holding_of a) gs ++ all_kept (map (sent_event a) es))
-    (sym (lasting-without h (map (sent_event a) es) got (ascend_before (keys_of got) (made_in es) s)))
-kept_took a (Message entity v ∷ es) got s = kept_took a es got s
-kept_took a (Sync entity peer ∷ es) got s = kept_took a es got s
+        ap (λ hs. hs ++ ks) (map-append (holding_of exports k) gs ((h, at_object entity v) ∷ []))
+        ∙ append_assoc (map (holding_of exports k) gs) (holding_of exports k (h, at_object entity v) ∷ []) ks
+kept_took exports k (Retract h entity ∷ es) got s =
+    kept_took exports k es (without_entry h got) (log_took at_object (Retract h entity) got (made_in es) s)
+    ∙ ap (λ gs. map (holding_of exports k) gs ++ all_kept (map (sent_event exports k) es))
+    (sym (lasting-without h (map (sent_event exports k) es) got (ascend_before (keys_of got) (made_in es) s)))
+kept_took exports k (Message entity v ∷ es) got s = kept_took exports k es got s
+kept_took exports k (Sync entity peer ∷ es) got s = kept_took exports k es got s
 
 -- where each handle is made once, ascending, what is held by the events is what was taken of them
-pub kept_is_taken : (a : ℕ) (es : List Event) → IsStrictlySortedBy nat_cmp (made_in es)
-    → all_kept (map (sent_event a) es) ≡ map (holding_of a) (took_all at_object es [])
-kept_is_taken a es s = sym (kept_took a es [] s)
+pub kept_is_taken : (exports : List Reference) (k : ℕ) (es : List Event) → IsStrictlySortedBy nat_cmp (made_in es)
+    → all_kept (map (sent_event exports k) es) ≡ map (holding_of exports k) (took_all at_object es [])
+kept_is_taken exports k es s = sym (kept_took exports k es [] s)

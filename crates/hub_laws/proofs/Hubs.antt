@@ -9,16 +9,18 @@ use Rattle.std.proofs.lemmas.Bool.Decides.{nat_tests}
 use Rattle.ac_table.specs.declared.batches.Row.{Row}
 use Rattle.ac_table.specs.Tables.{TableState, Actor, IsTable, find_actor, find_row, is_live}
 use Rattle.ac_world.specs.declared.spreads.Spread.{Spread as SpreadOf}
-use Rattle.ac_world.specs.Worlds.{WorldState, entry_of, without_entry, is_space, actor_of, gone}
+use Rattle.ac_world.specs.Worlds.{WorldState, entry_of, with_entry, without_entry, is_space, actor_of, gone}
 use Rattle.ac_world.specs.Worlds.{ended_of}
-use Rattle.hub_core.specs.declared.faults.Fault.{Fault}
-use Rattle.hub_core.specs.declared.faults.Fault.TheVariants.{Spread}
-use Rattle.hub_core.specs.State.{State, is_there}
-use Rattle.hub_core.specs.Endings.{closed, failed, failed_where, spread_out, all_spread_out, overrun_of, all_overrun}
-use Rattle.hub_core.specs.Endings.{finished}
-use Rattle.hub_laws.proofs.Entries.{out_other, out_gone, out_ascends}
+use Rattle.rl_ports.specs.Ports.{PortsState}
+use Rattle.hub_machine.specs.declared.faults.Fault.{Fault}
+use Rattle.hub_machine.specs.declared.faults.Fault.TheVariants.{Spread}
+use Rattle.hub_machine.specs.State.{State, is_there}
+use Rattle.hub_machine.specs.Endings.{closed, failed, failed_where, spread_out, all_spread_out, overrun_of, all_overrun}
+use Rattle.hub_machine.specs.Endings.{finished}
+use Rattle.hub_laws.proofs.Entries.{put_found, put_other, out_other, out_gone, out_ascends}
 use Rattle.hub_laws.proofs.Kept.{is_in, IsExcused, IsNear, IsServed, IsSound, IsHub, actors_in}
 use Rattle.hub_laws.proofs.Leaving.{Endings, one_or_not, gone_not_live, gone_others_live, gone_live_before, gone_sound}
+use Rattle.hub_laws.proofs.Lists.{ascend_with}
 
 -- ---- a connection ends
 
@@ -50,7 +52,7 @@ left_live P ends k s live h = record {
   named = λ j is.
       let b = gone_live_before P (actor_of k) (actor_of j) s.world h.sound.table is in
       let n = h.named j b.0 in
-      (n.0, out_other k j s.connections (other_actor j k b.1) ∙ n.1, n.2);
+      (n.0, out_other k j s.connections (other_actor j k b.1) ∙ n.1);
   nameless = λ j is. elim (one_or_not j k) [
     | inl same ↦ ap (λ i. entry_of i (without_entry k s.connections)) same ∙ out_gone k s.connections h.names_ascend
     | inr ne ↦ out_other k j s.connections ne
@@ -68,7 +70,7 @@ left_dead ends k s dead h = record {
       let n = h.named j is in
       let ne : j ≢ k = λ same. absurd (let f : is_live (actor_of j) s.world.table ≡ false =
       ap (λ i. is_live (actor_of i) s.world.table) same ∙ dead in cc) in
-      (n.0, out_other k j s.connections ne ∙ n.1, n.2);
+      (n.0, out_other k j s.connections ne ∙ n.1);
   nameless = λ j is. elim (one_or_not j k) [
     | inl same ↦ ap (λ i. entry_of i (without_entry k s.connections)) same ∙ out_gone k s.connections h.names_ascend
     | inr ne ↦ out_other k j s.connections ne ∙ h.nameless j is
@@ -84,6 +86,22 @@ closed_hub P ends k s h = by (is_live (actor_of k) s.world.table) refl
         (left_live P ends k s live h)
     by false dead = subst (λ c. IsHub ends (without k (cond c (gone (actor_of k) s.world) s.world) s)) (sym dead)
         (left_dead ends k s dead h)
+
+-- a live connection names other things
+pub with_names : (ends : List ℕ) (k : ℕ) (p : PortsState) (s : State) → is_live (actor_of k) s.world.table ≡ true
+    → IsHub ends s → IsHub ends (record s { connections = with_entry k p s.connections })
+with_names ends k p s live h = record {
+  sound = h.sound;
+  named = λ j is. elim (one_or_not j k) [
+    | inl same ↦ (p, ap (λ i. entry_of i (with_entry k p s.connections)) same ∙ put_found k p s.connections)
+    | inr ne ↦ (let n = h.named j is in (n.0, put_other k j p s.connections ne ∙ n.1))
+  ];
+  nameless = λ j dead.
+      let ne : j ≢ k = λ same. absurd (let f : is_live (actor_of j) s.world.table ≡ true =
+      ap (λ i. is_live (actor_of i) s.world.table) same ∙ live in cc) in
+      put_other k j p s.connections ne ∙ h.nameless j dead;
+  names_ascend = ascend_with k p s.connections h.names_ascend;
+}
 
 -- what is to be told, and whether the server is to stop, change nothing
 pub with_faults : (ends : List ℕ) (s : State) (fs : List (ℕ × Fault)) → IsHub ends s → IsHub ends

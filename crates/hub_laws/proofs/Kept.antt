@@ -18,8 +18,8 @@ use Rattle.ac_world.specs.declared.spreads.Spread.{Spread}
 use Rattle.ac_world.specs.Outboxes.{Plan, told_to}
 use Rattle.ac_world.specs.Turns.{Turning, observer_in}
 use Rattle.ac_world.specs.Worlds.{WorldState, seat_of, held_by, entry_of, is_space, actor_of}
-use Rattle.hub_core.specs.State.{State}
-use Rattle.hub_core.specs.Ports.{PortsState}
+use Rattle.hub_machine.specs.State.{State}
+use Rattle.rl_ports.specs.Ports.{PortsState}
 use Rattle.hub_laws.specs.Standing.{stands, took_all, events_of, value_alone, at_object}
 use Rattle.hub_laws.specs.Wanting.{IsMet}
 
@@ -155,10 +155,10 @@ pub record IsSound (ends : List ℕ) (w : WorldState) : Type 0 where
   -- nothing was delivered to who isn't live
   pub unheld : (a : ℕ) → is_live a w.table ≡ false → entry_of a w.held ≡ None
 
--- and the hub: it knows the names of exactly the live connections, whose objects 0 are dataspaces or the gatekeeper
+-- and the hub: it knows the names of exactly the live connections
 pub record IsHub (ends : List ℕ) (s : State) : Type 0 where
   pub sound : IsSound ends s.world
-  pub named : (k : ℕ) → is_live (actor_of k) s.world.table ≡ true → (p : PortsState) ×
-      (entry_of k s.connections ≡ Some p) × (p.first ≤ 8)
+  pub named : (k : ℕ) → is_live (actor_of k) s.world.table ≡ true
+      → (p : PortsState) × (entry_of k s.connections ≡ Some p)
   pub nameless : (k : ℕ) → is_live (actor_of k) s.world.table ≡ false → entry_of k s.connections ≡ None
   pub names_ascend : KeysAscend s.connections

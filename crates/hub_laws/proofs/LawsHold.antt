@@ -5,7 +5,7 @@ use Rattle.pv_value.specs.Plain.{Plain}
 use Rattle.ac_table.specs.declared.batches.Batch.{Batch}
 use Rattle.ac_table.specs.Tables.{TableState, Actor, IsTable}
 use Rattle.ac_world.specs.Worlds.{WorldState, seat_of, held_by, is_space, actor_of}
-use Rattle.hub_core.specs.Replays.{replay}
+use Rattle.hub_machine.specs.Replays.{replay}
 use Rattle.hub_laws.specs.Standing.{stands, took_all, events_of, value_alone, at_object}
 use Rattle.hub_laws.specs.Delivery.{IsDelivered, IsDeliveredTo, IsGotBy}
 use Rattle.hub_laws.specs.Laws.{Delivery, SettledDelivery, Wants, Endings}

@@ -21,6 +21,7 @@ pub mod Lists
 pub mod Logs
 pub mod Meeting
 pub mod Moving
+pub mod Numbered
 pub mod Opening
 pub mod OtherTurns
 pub mod OwnRows
@@ -31,6 +32,7 @@ pub mod Promised
 pub mod Saying
 pub mod Sending
 pub mod Serving
+pub mod Staying
 pub mod Steps
 pub mod Told
 pub mod Turning

@@ -4,9 +4,9 @@ use Rattle.std.proofs.Common.{refl, sym, ap, ◌∙◌, subst, arith, inl, inr, 
 use Rattle.std.proofs.lemmas.Bool.Decides.{nat_tests}
 use Rattle.ac_table.specs.Tables.{Actor, IsTable, find_actor, is_live, joined}
 use Rattle.ac_world.specs.Worlds.{first_actors, beginning, is_space}
-use Rattle.hub_core.specs.State.{opening}
-use Rattle.hub_core.specs.Replays.{replay}
-use Rattle.hub_core.specs.declared.steps.Step.{Step}
+use Rattle.hub_machine.specs.State.{opening}
+use Rattle.hub_machine.specs.Replays.{replay}
+use Rattle.hub_machine.specs.declared.steps.Step.{Step}
 use Rattle.hub_laws.specs.Laws.{AreAllowed}
 use Rattle.hub_laws.proofs.Joining.{joined_is_table, joined_new, joined_other, joined_live, joined_live_other}
 use Rattle.hub_laws.proofs.Kept.{IsServed, IsSound, IsHub}
@@ -14,6 +14,7 @@ use Rattle.hub_laws.proofs.Leaving.{one_or_not}
 use Rattle.hub_laws.proofs.Lists.{ascend_none}
 use Rattle.hub_laws.proofs.Owned.{no_wants_met}
 use Rattle.hub_laws.proofs.Steps.{run_hub}
+use Rattle.hub_valid.specs.Lemmas.Hubs.{stays_valid}
 
 -- ---- the first actors
 
@@ -104,4 +105,4 @@ opening_hub = record {
 }
 
 pub replay_hub : (steps : List Step) → AreAllowed opening steps → IsHub [] (replay steps)
-replay_hub steps may = run_hub opening steps may opening_hub
+replay_hub steps may = run_hub opening steps may stays_valid.0 opening_hub

@@ -1,4 +1,4 @@
--- The rows of a dataspace at an actor are, as a bag, one for each key that it wants there.
+-- The rows of a dataspace at a connection are, as a bag, one for each key that it wants there.
 use Rattle.std.proofs.Common.{◌≡◌, ℕ, List, [], ◌∷◌, map, Bool, true, false, cond, ◌&&◌, ◌||◌, ◌==◌, filter, eqb-true}
 use Rattle.std.proofs.Common.{Option, Some, None, refl, ap, sym, ◌∙◌, subst, arith, map-id, IsPermutation}
 use Rattle.std.specs.Cmp.{eq_by_cmp_equiv, nat_cmp_total}
@@ -11,10 +11,12 @@ use Rattle.std.proofs.lemmas.Map.Keys.{IsDistinct-head, IsDistinct-tail, IsDisti
 use Rattle.std.proofs.lemmas.Map.Made.{IsDistinct-keys_filter}
 use Rattle.pv_value.specs.Plain.{Plain, boolean}
 use Rattle.dp_pattern.specs.Matching.{same}
+use Rattle.ds_space.specs.declared.references.Reference.{Reference}
 use Rattle.ds_space.specs.Lemmas.Keys.{same_is, same_self, same_turns}
 use Rattle.ac_table.specs.declared.batches.Row.{Row}
 use Rattle.ac_table.specs.Tables.{find_row, handles}
 use Rattle.ac_world.specs.Turns.{handle_for}
+use Rattle.ac_world.specs.Worlds.{actor_of}
 use Rattle.hub_laws.specs.Scratch.{Pair, pair_at}
 use Rattle.hub_laws.proofs.Distinct.{distinct_none, same_members}
 use Rattle.hub_laws.proofs.Finding.{Ascend, found_handle, all_from_found, ascend_filter}
@@ -156,62 +158,64 @@ values_apart met (e ∷ es) apart d found =
     others [] keys at = tt
     others (f ∷ fs) keys at = (other f keys.0 at.0 _ refl, others fs keys.1 at.1)
 
--- ---- the rows of dataspace d at actor a
+-- ---- the rows of dataspace d at connection n, which has these exports
 
-abbrev pub pair_of_row : ℕ → Row → Pair
-pair_of_row a r = pair_at a r.entity r.value
+abbrev pub pair_of_row : List Reference → ℕ → Row → Pair
+pair_of_row exports n r = pair_at exports n r.entity r.value
 
-abbrev pair_found : ℕ → Option Row → Pair
-pair_found a None = record { oid = 0; value = boolean false }
-pair_found a (Some r) = pair_of_row a r
+abbrev pair_found : List Reference → ℕ → Option Row → Pair
+pair_found exports n None = record { oid = 0; value = boolean false }
+pair_found exports n (Some r) = pair_of_row exports n r
 
-module _ (a d : ℕ) (met : List (Plain × ℕ)) (rows : List Row) (rise : Ascend rows)
+module _ (exports : List Reference) (n d : ℕ) (met : List (Plain × ℕ)) (rows : List Row) (rise : Ascend rows)
     (keys : IsDistinct same (keys_of met)) (has : HasRows d met rows) where
   abbrev is_own : Row → Bool
-  is_own r = (r.target == a) && (r.owner == d)
+  is_own r = (r.target == actor_of n) && (r.owner == d)
 
   abbrev own : List Row
   own = filter is_own rows
 
   abbrev meant : List (Plain × ℕ)
-  meant = filter (λ e. goes_to a e.0) met
+  meant = filter (λ e. goes_to (actor_of n) e.0) met
 
   abbrev pair_under : ℕ → Pair
-  pair_under h = pair_found a (find_row h rows)
+  pair_under h = pair_found exports n (find_row h rows)
 
   abbrev IsOwn : Row → Type 0
-  IsOwn r = (find_row r.handle rows ≡ Some r) × (r.target ≡ a) × (r.owner ≡ d)
+  IsOwn r = (find_row r.handle rows ≡ Some r) × (r.target ≡ actor_of n) × (r.owner ≡ d)
 
   all_own : AllByRecursion IsOwn own
   all_own =
       all_filter (λ r. find_row r.handle rows ≡ Some r) IsOwn is_own
-      (λ r passes found. let both = both_hold (r.target == a) (r.owner == d) passes in
-      (found, eqb-true r.target a both.0, eqb-true r.owner d both.1)) rows
-      (all_from_found _ rows rise (λ h r is. ap (λ n. find_row n rows) (found_handle h rows r is) ∙ is))
+      (λ r passes found. let both = both_hold (r.target == actor_of n) (r.owner == d) passes in
+      (found, eqb-true r.target (actor_of n) both.0, eqb-true r.owner d both.1)) rows
+      (all_from_found _ rows rise (λ h r is. ap (λ h. find_row h rows) (found_handle h rows r is) ∙ is))
 
   abbrev IsMeant : Plain × ℕ → Type 0
-  IsMeant e = (handle_for e.0 met ≡ Some e.1) × (goes_to a e.0 ≡ true)
+  IsMeant e = (handle_for e.0 met ≡ Some e.1) × (goes_to (actor_of n) e.0 ≡ true)
 
   all_meant : AllByRecursion IsMeant meant
-  all_meant = all_filter _ IsMeant (λ e. goes_to a e.0) (λ e passes found. (found, passes)) met (each_found met keys)
+  all_meant =
+      all_filter _ IsMeant (λ e. goes_to (actor_of n) e.0) (λ e passes found. (found, passes)) met
+      (each_found met keys)
 
-  own_pairs : map pair_under (handles own) ≡ map (pair_of_row a) own
+  own_pairs : map pair_under (handles own) ≡ map (pair_of_row exports n) own
   own_pairs =
-      maps_alike pair_under (λ r. r.handle) (pair_of_row a) (λ r. r) own
-      (all_weaker _ _ (λ r is. ap (pair_found a) is.0) own all_own)
-      ∙ ap (map (pair_of_row a)) (map-id own)
+      maps_alike pair_under (λ r. r.handle) (pair_of_row exports n) (λ r. r) own
+      (all_weaker _ _ (λ r is. ap (pair_found exports n) is.0) own all_own)
+      ∙ ap (map (pair_of_row exports n)) (map-id own)
 
   -- the row under a key's handle is told as the key's pair
-  one_pair : (e : Plain × ℕ) → IsMeant e → pair_under e.1 ≡ pair_by a e.0
+  one_pair : (e : Plain × ℕ) → IsMeant e → pair_under e.1 ≡ pair_by exports n e.0
   one_pair e is =
       let m = has.stand e.0 e.1 is.0 in
-      ap (pair_found a) m.stands ∙ (λ i. pair_at a (m.fits.entity i) (m.fits.value i))
-      ∙ ap (pair_aimed a e.0) (sym m.fits.aimed)
+      ap (pair_found exports n) m.stands ∙ (λ i. pair_at exports n (m.fits.entity i) (m.fits.value i))
+      ∙ ap (pair_aimed exports n e.0) (sym m.fits.aimed)
 
-  meant_pairs : map pair_under (values_of meant) ≡ map (pair_by a) (filter (goes_to a) (keys_of met))
+  meant_pairs : map pair_under (values_of meant) ≡ map (pair_by exports n) (filter (goes_to (actor_of n)) (keys_of met))
   meant_pairs =
-      maps_alike pair_under (λ e. e.1) (pair_by a) (λ e. e.0) meant (all_weaker _ _ one_pair meant all_meant)
-      ∙ ap (map (pair_by a)) (keys_filter (goes_to a) met)
+      maps_alike pair_under (λ e. e.1) (pair_by exports n) (λ e. e.0) meant (all_weaker _ _ one_pair meant all_meant)
+      ∙ ap (map (pair_by exports n)) (keys_filter (goes_to (actor_of n)) met)
 
   equal_numbers : (g h : ℕ) → g ≡ h → (g == h) ≡ true
   equal_numbers g h is = grind (arith, nat_tests)
@@ -222,23 +226,23 @@ module _ (a d : ℕ) (met : List (Plain × ℕ)) (rows : List Row) (rise : Ascen
       let m = has.stand k q at in
       let rows_are : Some m.row ≡ Some r = sym m.stands ∙ found in
       let one : m.row ≡ r = cc in
-      let there : m.fits.aim.at.at ≡ a = sym m.fits.target ∙ ap (λ (z : Row). z.target) one ∙ is.1 in
-      lookup_passing q (goes_to a) k met at
-      (ap (is_at_actor a) m.fits.aimed ∙ equal_numbers m.fits.aim.at.at a there)
+      let there : m.fits.aim.at.at ≡ actor_of n = sym m.fits.target ∙ ap (λ (z : Row). z.target) one ∙ is.1 in
+      lookup_passing q (goes_to (actor_of n)) k met at
+      (ap (is_at_actor (actor_of n)) m.fits.aimed ∙ equal_numbers m.fits.aim.at.at (actor_of n) there)
 
   row_own : (q : ℕ) (e : Plain × ℕ) → IsMeant e → q ≡ e.1 → list_any (same_handle q) (handles own) ≡ true
   row_own q e is one =
       let m = has.stand e.0 e.1 is.0 in
-      find_passing q is_own rows m.row (ap (λ n. find_row n rows) one ∙ m.stands)
-      ((λ i. (m.fits.target i == a) && (m.fits.owner i == d))
-      ∙ (λ i. (sym (ap (is_at_actor a) m.fits.aimed) ∙ is.1) i && equal_numbers d d refl i))
+      find_passing q is_own rows m.row (ap (λ h. find_row h rows) one ∙ m.stands)
+      ((λ i. (m.fits.target i == actor_of n) && (m.fits.owner i == d))
+      ∙ (λ i. (sym (ap (is_at_actor (actor_of n)) m.fits.aimed) ∙ is.1) i && equal_numbers d d refl i))
 
   there : (q : ℕ) → list_any (same_handle q) (handles own) ≡ true → list_any (same_handle q) (values_of meant) ≡ true
   there q is =
       let one =
       picked IsOwn (λ r. same_handle q r.handle) own all_own (sym (any_map (same_handle q) (λ r. r.handle) own) ∙ is) in
       let found : find_row q rows ≡ Some one.0 =
-      ap (λ n. find_row n rows) (same_handle_is q one.0.handle one.2) ∙ one.1.0 in
+      ap (λ h. find_row h rows) (same_handle_is q one.0.handle one.2) ∙ one.1.0 in
       let key = has.no_other q one.0 found one.1.2 in
       key_meant q one.0 key.0 one.1 found key.1
 
@@ -248,13 +252,14 @@ module _ (a d : ℕ) (met : List (Plain × ℕ)) (rows : List Row) (rise : Ascen
       picked IsMeant (λ e. same_handle q e.1) meant all_meant (sym (any_map (same_handle q) (λ e. e.1) meant) ∙ is) in
       row_own q one.0 one.1 (same_handle_is q one.0.1 one.2)
 
-  pub own_are_meant : IsPermutation (map (pair_of_row a) own) (map (pair_by a) (filter (goes_to a) (keys_of met)))
+  pub own_are_meant : IsPermutation (map (pair_of_row exports n) own)
+      (map (pair_by exports n) (filter (goes_to (actor_of n)) (keys_of met)))
   own_are_meant =
-      subst (λ l. IsPermutation l (map (pair_by a) (filter (goes_to a) (keys_of met)))) own_pairs
+      subst (λ l. IsPermutation l (map (pair_by exports n) (filter (goes_to (actor_of n)) (keys_of met)))) own_pairs
       (subst (IsPermutation (map pair_under (handles own))) meant_pairs
       (IsPermutation-map pair_under (handles own) (values_of meant)
       (same_members same_handle (eq_by_cmp_equiv nat_cmp_total) same_handle_is (handles own) (values_of meant)
       (IsDistinct-from_sorted nat_cmp (handles own) (ascend_filter is_own rows rise))
-      (values_apart met meant has.apart (IsDistinct-keys_filter same (λ e. goes_to a e.0) met keys)
+      (values_apart met meant has.apart (IsDistinct-keys_filter same (λ e. goes_to (actor_of n) e.0) met keys)
       (all_weaker _ _ (λ e is. is.0) meant all_meant))
       (λ q. same_test _ _ (there q) (back q)))))

@@ -3,206 +3,173 @@ use Rattle.std.proofs.Common.{◌≡◌, ◌≢◌, ℕ, ◌+◌, ◌-◌, ◌<�
 use Rattle.std.proofs.Common.{Option, Some, None, is_some, inl, inr, refl, sym, ap, ◌∙◌, subst, arith, append-nil}
 use Rattle.std.proofs.Common.{append_assoc}
 use Rattle.std.specs.Prelude.{unwrap_or}
-use Rattle.std.specs.List.{flat_map}
+use Rattle.std.specs.List.{flat_map, AllByRecursion}
 use Rattle.std.proofs.lemmas.Bool.Decides.{nat_tests}
 use Rattle.std.proofs.lemmas.Grind.{flat_map-append}
 use Rattle.std.proofs.lemmas.List.{map-append}
+use Rattle.pv_value.specs.Plain.{embedded}
+use Rattle.ds_space.specs.declared.references.Reference.{Reference}
 use Rattle.ac_table.specs.declared.batches.Event.{Event}
+use Rattle.ac_table.specs.declared.batches.Event.TheVariants.{Assert, Retract, Message, Sync}
 use Rattle.ac_table.specs.declared.batches.Batch.{Batch}
 use Rattle.ac_table.specs.Tables.{Actor, find_actor, is_live, lowest, first_batch}
-use Rattle.ac_world.specs.declared.turns.Turned.{Turned}
 use Rattle.ac_world.specs.declared.turns.Turned.TheVariants as turned
-use Rattle.ac_world.specs.Turns.{After as TurnOf, deliver, turn_with, turn_first, turn}
-use Rattle.ac_world.specs.Worlds.{WorldState, held_by, entry_of, without_entry, is_space, is_system, actor_of}
-use Rattle.ac_world.specs.Worlds.{all_delivered, arrived, ended_of}
+use Rattle.ac_world.specs.Turns.{After as TurnOf, deliver, turn_with, turn_first}
+use Rattle.ac_world.specs.Worlds.{WorldState, held_by, entry_of, is_space, is_system, actor_of, all_delivered, arrived}
 use Rattle.rl_packet.specs.Holding.{events_in, all_kept, holdings_in_order, held}
-use Rattle.rl_packet.specs.declared.packets.Packet.TheVariants as packet
+use Rattle.rl_packet.specs.declared.packets.Event.TheVariants as wire
 use Rattle.rl_packet.specs.declared.packets.TurnEvent.{TurnEvent}
-use Rattle.hub_core.specs.Admission.{Admitted, refused, admitted, admission}
-use Rattle.hub_core.specs.Endings.{nameless, departed_for, closed, failed, finished}
-use Rattle.hub_core.specs.Faults.{error_of}
-use Rattle.hub_core.specs.declared.faults.Fault.{Fault}
-use Rattle.hub_core.specs.declared.faults.Fault.TheVariants as fault
-use Rattle.hub_core.specs.Machine.{After, unchanged, sent_event, opened, refusal, arrive_unless, accepted, judged}
-use Rattle.hub_core.specs.Machine.{packet_at, bad_at, close_at, fault_for, tell_fault, after_turn, turn_of, rest}
-use Rattle.hub_core.specs.Machine.{work_by, is_worn, done, step}
-use Rattle.hub_core.specs.Ports.{PortsState}
-use Rattle.hub_core.specs.Replays.{run_from, replay, packet_in, sent_by, sent_from, sent_to}
-use Rattle.hub_core.specs.State.{State, opening, ports_of}
-use Rattle.hub_core.specs.declared.steps.Step.{Step}
-use Rattle.hub_core.specs.declared.steps.Step.TheVariants.{Arrive, Packet, Bad, Close, Turn, Work, Stop}
-use Rattle.hub_core.specs.declared.steps.Reply.{Reply}
-use Rattle.hub_core.specs.declared.steps.Reply.TheVariants.{Worn, Halted, Gone, Idle, Sent, Ran}
+use Rattle.rl_ports.specs.Ports.{PortsState, ports_to}
+use Rattle.rl_wire.specs.Crossing.{all_exported}
+use Rattle.rl_wire.specs.Lemmas.Exporting.{IsExported, exported_later, are_exported}
+use Rattle.rl_wire.specs.Lemmas.Later.{all_of_front, all_of_rest, crossed_out_later}
+use Rattle.hub_machine.specs.Endings.{failed, finished}
+use Rattle.hub_machine.specs.Faults.{error_of}
+use Rattle.hub_machine.specs.declared.faults.Fault.{Fault}
+use Rattle.hub_machine.specs.declared.faults.Fault.TheVariants as fault
+use Rattle.hub_machine.specs.Machine.{After, unchanged, told_value, foreign_told, foreign_to, sent_event, packet_to}
+use Rattle.hub_machine.specs.Machine.{exports_after, exporting, telling_fault, told_unless, tell, opened, refusal}
+use Rattle.hub_machine.specs.Machine.{arrive_unless, fault_for, tell_fault, after_turn, turn_of, is_worn, done, step}
+use Rattle.hub_machine.specs.Replays.{run_from, replay, packet_in, sent_by, sent_from, sent_to}
+use Rattle.hub_machine.specs.State.{State, opening, ports_of}
+use Rattle.hub_machine.specs.declared.steps.Step.{Step}
+use Rattle.hub_machine.specs.declared.steps.Step.TheVariants.{Arrive, Packet, Bad, Close, Turn, Work, Stop}
+use Rattle.hub_machine.specs.declared.steps.Reply.{Reply}
+use Rattle.hub_machine.specs.declared.steps.Reply.TheVariants.{Worn, Gone, Idle, Sent, Refused}
 use Rattle.hub_laws.specs.Laws.{AreAllowed, Holdings}
-use Rattle.hub_laws.specs.Settled.{holding_of}
+use Rattle.hub_laws.specs.Scratch.{exports_in, exports_of}
+use Rattle.hub_laws.specs.Settled.{holding_of, HasNumbers, AreWhatItGot}
+use Rattle.hub_laws.proofs.Numbered.{numbered}
 use Rattle.hub_laws.specs.Standing.{took_all, events_of, at_object}
 use Rattle.hub_laws.proofs.Entries.{put_found}
-use Rattle.hub_laws.proofs.Growing.{Grows, grows_not, grows_on, finished_grows, ended_grows, arrived_grows, sent_grows}
-use Rattle.hub_laws.proofs.Growing.{other_turn_grows}
+use Rattle.hub_laws.proofs.Growing.{arrived_grows}
 use Rattle.hub_laws.proofs.Holding.{kept_is_taken}
 use Rattle.hub_laws.proofs.Hubs.{is_far}
 use Rattle.hub_laws.proofs.Joining.{above_is_new, joined_new}
 use Rattle.hub_laws.proofs.Kept.{made_in, IsLog, IsSound, IsHub}
 use Rattle.hub_laws.proofs.Leaving.{one_or_not}
-use Rattle.hub_laws.proofs.Lists.{took_all_append, ascend_none}
+use Rattle.hub_laws.proofs.Lists.{took_all_append, ascend_none, all_append, all_weaker}
 use Rattle.hub_laws.proofs.Logs.{connection_took}
 use Rattle.hub_laws.proofs.Moving.{made_in-append}
-use Rattle.hub_laws.proofs.Posting.{found-popped}
+use Rattle.hub_laws.proofs.Posting.{found-popped, live-popped}
+use Rattle.hub_laws.proofs.Staying.{exports_kept, Stays, stays_not, stays_on, world_stays, other_stays, ended_not_found}
+use Rattle.hub_laws.proofs.Staying.{failing_stays, finished_stays, bad_stays, close_stays, packet_stays, fault_stays}
+use Rattle.hub_laws.proofs.Staying.{other_turn_stays, work_stays}
 use Rattle.hub_laws.proofs.Turns.{without_first, ascend_before}
 
--- the events es that the actor a was sent are those that it took since it came, and their handles, and then those of
--- its inbox, ascend
-pub record IsTold (a : ℕ) (es : List TurnEvent) (w : WorldState) (inbox : List Batch) : Type 0 where
+-- ---- what a connection is told, by its exports
+
+-- the objects of others that events tell connection k of
+abbrev pub foreign_in_all : ℕ → List Event → List Reference
+foreign_in_all k es = flat_map (λ e. foreign_told k (told_value e)) es
+
+abbrev pub AreExported : List Reference → List Reference → Type 0
+AreExported exports rs = AllByRecursion (IsExported exports) rs
+
+-- an event of which all is exported is told the same by later exports
+event_later : (exports more : List Reference) (k : ℕ) (e : Event)
+    → AreExported exports (foreign_told k (told_value e))
+    → sent_event (all_exported exports more) k e ≡ sent_event exports k e
+event_later exports more k (Assert h entity v) there =
+    ap (λ x. record { oid = entity; event = wire.Assert x h }) (crossed_out_later exports more k v there)
+event_later exports more k (Retract h entity) there = refl
+event_later exports more k (Message entity v) there =
+    ap (λ x. record { oid = entity; event = wire.Message x }) (crossed_out_later exports more k v there)
+event_later exports more k (Sync entity peer) there =
+    ap (λ x. record { oid = entity; event = wire.Sync x }) (crossed_out_later exports more k (embedded peer) there)
+
+events_later : (exports more : List Reference) (k : ℕ) (es : List Event) → AreExported exports (foreign_in_all k es)
+    → map (sent_event (all_exported exports more) k) es ≡ map (sent_event exports k) es
+events_later exports more k [] there = refl
+events_later exports more k (e ∷ es) there =
+    let now = foreign_told k (told_value e) in
+    (λ i. event_later exports more k e (all_of_front _ now (foreign_in_all k es) there) i
+    ∷ events_later exports more k es (all_of_rest _ now (foreign_in_all k es) there) i)
+
+-- The events es that connection k, which has these exports, was sent are those that its actor took since it came. All
+-- that they tell of is exported, and their handles, and then those of its inbox, ascend.
+pub record IsTold (k : ℕ) (exports : List Reference) (es : List TurnEvent) (w : WorldState) (inbox : List Batch)
+    : Type 0 where
   pub taken : List Event
-  pub sent : es ≡ map (sent_event a) taken
-  pub held : held_by a w ≡ took_all at_object taken []
+  pub sent : es ≡ map (sent_event exports k) taken
+  pub exported : AreExported exports (foreign_in_all k taken)
+  pub held : held_by (actor_of k) w ≡ took_all at_object taken []
   pub log : IsLog w.table.next (made_in taken) inbox
 
 -- what connection k was sent: nothing before it came, and of one that has gone nothing is said
-pub record AreSent (k : ℕ) (es : List TurnEvent) (w : WorldState) : Type 0 where
-  pub none : w.opened < k → es ≡ []
-  pub live : (x : Actor) → find_actor (actor_of k) w.table.actors ≡ Some x → IsTold (actor_of k) es w x.inbox
+pub record AreSent (k : ℕ) (es : List TurnEvent) (s : State) : Type 0 where
+  pub none : s.world.opened < k → es ≡ []
+  pub live : (x : Actor) → find_actor (actor_of k) s.world.table.actors ≡ Some x
+      → IsTold k (exports_kept k s) es s.world x.inbox
 
-sent_alike : (k : ℕ) (es : List TurnEvent) (w u : WorldState) → Grows (actor_of k) w u → AreSent k es w → AreSent k es u
-sent_alike k es w u g s = record {
-  none = λ before. s.none (omega (arith, g.opened, before));
+sent_alike : (k : ℕ) (es : List TurnEvent) (s t : State) → Stays k s t → AreSent k es s → AreSent k es t
+sent_alike k es s t stays sent = record {
+  none = λ before. sent.none (omega (arith, stays.grows.opened, before));
   live = λ x is.
-      let i = g.still x is in
-      let t = s.live i.before i.found in
-      record { taken = t.taken; sent = t.sent; held = i.held ∙ t.held; log = i.log (made_in t.taken) t.log };
+      let i = stays.grows.still x is in
+      let was = sent.live i.before i.found in
+      subst (λ exports. IsTold k exports es t.world x.inbox) (sym (stays.exports x is))
+      (record {
+        taken = was.taken;
+        sent = was.sent;
+        exported = was.exported;
+        held = i.held ∙ was.held;
+        log = i.log (made_in was.taken) was.log;
+      });
 }
 
 -- and nothing more is sent
-sent_nothing : (k : ℕ) (es ds : List TurnEvent) (w u : WorldState) → ds ≡ [] → Grows (actor_of k) w u → AreSent k es w
-    → AreSent k (es ++ ds) u
-sent_nothing k es ds w u none g s =
-    subst (λ cs. AreSent k cs u) (sym (ap (λ cs. es ++ cs) none ∙ append-nil es)) (sent_alike k es w u g s)
+sent_nothing : (k : ℕ) (es ds : List TurnEvent) (s t : State) → ds ≡ [] → Stays k s t → AreSent k es s
+    → AreSent k (es ++ ds) t
+sent_nothing k es ds s t none stays sent =
+    subst (λ cs. AreSent k cs t) (sym (ap (λ cs. es ++ cs) none ∙ append-nil es)) (sent_alike k es s t stays sent)
 
 -- ---- a connection comes
 
-told_first : (w : WorldState) (x : Actor) → is_live (actor_of (w.opened + 1)) w.table ≡ false → IsSound [] w
+told_first : (exports : List Reference) (w : WorldState) (x : Actor)
+    → is_live (actor_of (w.opened + 1)) w.table ≡ false → IsSound [] w
     → find_actor (actor_of (w.opened + 1)) (arrived w).table.actors ≡ Some x
-    → IsTold (actor_of (w.opened + 1)) [] (arrived w) x.inbox
-told_first w x dead k is =
+    → IsTold (w.opened + 1) exports [] (arrived w) x.inbox
+told_first exports w x dead sound is =
     let a = actor_of (w.opened + 1) in
     let new : Some (record { number = a; inbox = [] }) ≡ Some x = sym (joined_new a w.table dead) ∙ is in
     let same : record { number = a; inbox = [] } ≡ x = cc in
     record {
       taken = [];
       sent = refl;
-      held = ap (λ o. unwrap_or o []) (k.unheld a dead);
+      exported = tt;
+      held = ap (λ o. unwrap_or o []) (sound.unheld a dead);
       log = subst (λ (y : Actor). IsLog w.table.next [] y.inbox) same (ascend_none, tt);
     }
 
-sent_arrived : (k : ℕ) (es : List TurnEvent) (w : WorldState) → IsSound [] w → AreSent k es w
-    → AreSent k es (arrived w)
-sent_arrived k es w sound s = elim (one_or_not (actor_of k) (actor_of (w.opened + 1))) [
-  | inr apart ↦ sent_alike k es w (arrived w) (arrived_grows (actor_of k) w apart) s
+opened_stays : (k space : ℕ) (s : State) → actor_of k ≢ actor_of (s.world.opened + 1) → Stays k s (opened space s)
+opened_stays k space s apart =
+    let ports : PortsState = ports_to (record { at = space; entity = 0 }) in
+    let t : State = record s { world = arrived s.world } in
+    stays_on k s t (opened space s) (world_stays k s (arrived s.world) (arrived_grows (actor_of k) s.world apart))
+    (other_stays k (s.world.opened + 1) ports t (λ same. apart (ap actor_of same)))
+
+sent_arrived : (k space : ℕ) (es : List TurnEvent) (s : State) → IsSound [] s.world → AreSent k es s
+    → AreSent k es (opened space s)
+sent_arrived k space es s sound sent = elim (one_or_not (actor_of k) (actor_of (s.world.opened + 1))) [
+  | inr apart ↦ sent_alike k es s (opened space s) (opened_stays k space s apart) sent
   | inl same ↦
-      (let number : k ≡ w.opened + 1 = omega (arith, same) in
-      let dead : is_live (actor_of (w.opened + 1)) w.table ≡ false =
-      above_is_new (actor_of (w.opened + 1)) w.table (λ b live. omega (arith, sound.numbers b live)) in
-      let none : es ≡ [] = s.none (omega (arith, number)) in
+      (let new : ℕ = s.world.opened + 1 in
+      let number : k ≡ new = omega (arith, same) in
+      let dead : is_live (actor_of new) s.world.table ≡ false =
+      above_is_new (actor_of new) s.world.table (λ b live. omega (arith, sound.numbers b live)) in
+      let none : es ≡ [] = sent.none (omega (arith, number)) in
       record {
         none = λ before. absurd (omega (arith, before, number));
         live = λ x is.
-            rw (none, same)
-            (told_first w x dead sound
-            (ap (λ a. find_actor a (arrived w).table.actors) (sym same) ∙ is));
+            subst (λ j. IsTold j (exports_kept j (opened space s)) es (arrived s.world) x.inbox) (sym number)
+            (subst (λ ds. IsTold new (exports_kept new (opened space s)) ds (arrived s.world) x.inbox) (sym none)
+            (told_first (exports_kept new (opened space s)) s.world x dead sound
+            (ap (λ a. find_actor a (arrived s.world).table.actors) (sym same) ∙ is)));
       })
 ]
 
--- ---- a connection takes its batch
-
-sent_taken : (k : ℕ) (es : List TurnEvent) (w : WorldState) (b : Batch) → IsSound [] w
-    → is_live (actor_of k) w.table ≡ true → first_batch (actor_of k) w.table ≡ Some b → AreSent k es w
-    → AreSent k (es ++ map (sent_event (actor_of k)) b.events)
-    (deliver (actor_of k) b.events (without_first (actor_of k) w))
-sent_taken k es w b sound lives first s = record {
-  none = λ before. absurd (omega (arith, before, sound.numbers (actor_of k) lives));
-  live = λ x is.
-      let y = found-popped (actor_of k) w.table b x first is in
-      told_more x.inbox (subst (λ bs. IsTold (actor_of k) es w bs) y.2 (s.live y.0 y.1));
-}
-  where
-    a : ℕ
-    a = actor_of k
-
-    told_more : (inbox : List Batch) → IsTold a es w (b ∷ inbox)
-        → IsTold a (es ++ map (sent_event a) b.events) (deliver a b.events (without_first a w)) inbox
-    told_more inbox t =
-        let more : made_in (t.taken ++ b.events) ++ made_in (events_of inbox)
-        ≡ made_in t.taken ++ made_in (events_of (b ∷ inbox)) =
-        sym (made_in-append (t.taken ++ b.events) (events_of inbox))
-        ∙ ap made_in (append_assoc t.taken b.events (events_of inbox))
-        ∙ made_in-append t.taken (b.events ++ events_of inbox) in
-        record {
-          taken = t.taken ++ b.events;
-          sent = ap (λ ds. ds ++ map (sent_event a) b.events) t.sent ∙ sym (map-append (sent_event a) t.taken b.events);
-          held = ap (λ o. unwrap_or o []) (put_found a (all_delivered b.events (held_by a w)) w.held)
-              ∙ connection_took b.events (held_by a w) ∙ ap (took_all at_object b.events) t.held
-              ∙ sym (took_all_append _ at_object t.taken b.events []);
-          log = rw more t.log;
-        }
-
--- ---- a turn
-
--- what connection k is told by it
-abbrev pub told_in : ℕ → ℕ → Turned → List TurnEvent
-told_in k a (turned.Ran xs) = []
-told_in k a (turned.Taken b) = cond (a == actor_of k) (map (sent_event a) b.events) []
-told_in k a turned.Idle = []
-told_in k a turned.Gone = []
-
-told_other : (k a : ℕ) (t : Turned) → actor_of k ≢ a → told_in k a t ≡ []
-told_other k a (turned.Ran xs) apart = refl
-told_other k a (turned.Taken b) apart =
-    let other : (a == actor_of k) ≡ false = grind (arith, nat_tests, apart) in rw other refl
-told_other k a turned.Idle apart = refl
-told_other k a turned.Gone apart = refl
-
-abbrev AreSentIn : ℕ → ℕ → List TurnEvent → TurnOf → Type 0
-AreSentIn k a es t = AreSent k (es ++ told_in k a t.turned) t.world
-
--- a connection's own turn
-module _ (k : ℕ) (es : List TurnEvent) (w : WorldState) (sound : IsSound [] w) (s : AreSent k es w) where
-  same_sent : AreSent k (es ++ []) w
-  same_sent = sent_nothing k es [] w w refl (grows_not (actor_of k) w) s
-
-  own_batch : (b : Batch) → first_batch (actor_of k) w.table ≡ Some b → is_live (actor_of k) w.table ≡ true
-      → AreSentIn k (actor_of k) es (turn_with (actor_of k) b (without_first (actor_of k) w))
-  own_batch b first lives =
-      let far : 17 ≤ actor_of k = is_far [] w k sound lives in
-      let space : is_space (actor_of k) ≡ false = grind (arith, nat_tests, far) in
-      let system : is_system (actor_of k) ≡ false = grind (arith, nat_tests, far) in
-      let own : (actor_of k == actor_of k) ≡ true = grind (arith, nat_tests) in
-      rw (space, system, own) (sent_taken k es w b sound lives first s)
-
-  own_first : (o : Option Batch) → first_batch (actor_of k) w.table ≡ o → is_live (actor_of k) w.table ≡ true
-      → AreSentIn k (actor_of k) es (turn_first (actor_of k) o w)
-  own_first None first lives = same_sent
-  own_first (Some b) first lives = own_batch b first lives
-
-  own_turn : AreSentIn k (actor_of k) es (turn (actor_of k) w)
-  own_turn = by (is_live (actor_of k) w.table) refl
-    where
-      gone : TurnOf
-      gone = record { world = w; turned = turned.Gone }
-
-      by : (c : Bool) → is_live (actor_of k) w.table ≡ c
-          → AreSentIn k (actor_of k) es (cond c (turn_first (actor_of k) (first_batch (actor_of k) w.table) w) gone)
-      by true lives = own_first (first_batch (actor_of k) w.table) refl lives
-      by false dead = same_sent
-
-  turn_sent : (a : ℕ) → AreSentIn k a es (turn a w)
-  turn_sent a = elim (one_or_not (actor_of k) a) [
-    | inl same ↦ subst (λ c. AreSentIn k c es (turn c w)) same own_turn
-    | inr apart ↦
-        sent_nothing k es (told_in k a (turn a w).turned) w (turn a w).world (told_other k a (turn a w).turned apart)
-        (other_turn_grows a (actor_of k) w sound apart) s
-  ]
-
--- ---- the reply to a turn
+-- ---- the replies that send no event
 
 -- an error tells of no event
 error_events : (f : Fault) → events_in (error_of f) ≡ []
@@ -231,132 +198,175 @@ fault_tells : (k a : ℕ) (o : Option Fault) (s : State) → events_by k (Turn a
 fault_tells k a None s = none_by k a Gone refl
 fault_tells k a (Some f) s = none_by k a (Sent (error_of f)) (ap (λ es. es ++ []) (error_events f))
 
-reply_tells : (k a : ℕ) (t : Turned) (s : State) → events_by k (Turn a) (after_turn a t s).reply ≡ told_in k a t
-reply_tells k a (turned.Ran xs) s = none_by k a Ran refl
-reply_tells k a (turned.Taken b) s = by (a == actor_of k)
-  where
-    by : (c : Bool) → flat_map events_in (cond c (packet.Turn (map (sent_event a) b.events) ∷ []) [])
-        ≡ cond c (map (sent_event a) b.events) []
-    by true = append-nil (map (sent_event a) b.events)
-    by false = refl
-reply_tells k a turned.Idle s = none_by k a Idle refl
-reply_tells k a turned.Gone s = fault_tells k a (fault_for a s) s
+other_tells : (k a : ℕ) (r : Reply) → actor_of k ≢ a → events_by k (Turn a) r ≡ []
+other_tells k a r apart = let other : (a == actor_of k) ≡ false = grind (arith, nat_tests, apart) in rw other refl
 
-fault_grows : (b a : ℕ) (o : Option Fault) (s : State) → Grows b s.world (tell_fault a o s).state.world
-fault_grows b a None s = grows_not b s.world
-fault_grows b a (Some f) s = finished_grows b [] (record s { faults = without_entry (a - 16) s.faults })
-
--- what follows from a turn
-after_grows : (b a : ℕ) (t : Turned) (s : State) → Grows b s.world (after_turn a t s).state.world
-after_grows b a (turned.Ran xs) s = finished_grows b xs s
-after_grows b a (turned.Taken c) s = finished_grows b [] s
-after_grows b a turned.Idle s = grows_not b s.world
-after_grows b a turned.Gone s = fault_grows b a (fault_for a s) s
-
--- ---- a step
+own_tells : (k : ℕ) (exports : List Reference) (b : Batch)
+    → events_by k (Turn (actor_of k)) (packet_to exports k b) ≡ map (sent_event exports k) b.events
+own_tells k exports b =
+    let own : (actor_of k == actor_of k) ≡ true = grind (arith, nat_tests) in
+    rw own (append-nil (map (sent_event exports k) b.events))
 
 abbrev pub AreSentBy : ℕ → Step → List TurnEvent → After → Type 0
-AreSentBy k e es t = AreSent k (es ++ events_by k e t.reply) t.state.world
+AreSentBy k e es t = AreSent k (es ++ events_by k e t.reply) t.state
 
-turn_by : (k a : ℕ) (es : List TurnEvent) (s : State) → IsSound [] s.world → AreSent k es s.world
-    → AreSentBy k (Turn a) es (turn_of a s)
-turn_by k a es s sound sent =
-    let t : TurnOf = turn a s.world in
-    let u : State = record s { world = t.world } in
-    subst (λ ds. AreSent k (es ++ ds) (turn_of a s).state.world) (sym (reply_tells k a t.turned u))
-    (sent_alike k (es ++ told_in k a t.turned) t.world _ (after_grows (actor_of k) a t.turned u)
-    (turn_sent k es s.world sound sent a))
+-- ---- a connection takes its batch, and is told of it
 
--- the system's actors
-system_grows : (k a : ℕ) (s : State) → IsSound [] s.world → is_system a ≡ true
-    → Grows (actor_of k) s.world (turn a s.world).world
-system_grows k a s sound low = elim (one_or_not (actor_of k) a) [
-  | inl same ↦
-      dead (is_live a s.world.table) (sound.no_watchers a (omega (arith, same)) (grind (arith, nat_tests, low)))
-  | inr apart ↦ other_turn_grows a (actor_of k) s.world sound apart
-]
+module _ (k : ℕ) (es : List TurnEvent) (s : State) (hub : IsHub [] s) (sent : AreSent k es s)
+    (lives : is_live (actor_of k) s.world.table ≡ true) where
+  abbrev own : ℕ
+  own = actor_of k
+
+  -- it has come
+  has_come : k ≤ s.world.opened
+  has_come = let low = hub.sound.numbers own lives in omega (arith, low)
+
+  module _ (b : Batch) (first : first_batch own s.world.table ≡ Some b) where
+    abbrev taking : State
+    taking = record s { world = deliver own b.events (without_first own s.world) }
+
+    -- with what it tells of exported
+    abbrev ports : PortsState
+    ports = (hub.named k lives).0
+
+    abbrev now : List Reference
+    now = exports_after k b ports
+
+    told_more : (inbox : List Batch) → IsTold k ports.exports es s.world (b ∷ inbox)
+        → IsTold k now (es ++ map (sent_event now k) b.events) taking.world inbox
+    told_more inbox t =
+        let more : made_in (t.taken ++ b.events) ++ made_in (events_of inbox)
+        ≡ made_in t.taken ++ made_in (events_of (b ∷ inbox)) =
+        sym (made_in-append (t.taken ++ b.events) (events_of inbox))
+        ∙ ap made_in (append_assoc t.taken b.events (events_of inbox))
+        ∙ made_in-append t.taken (b.events ++ events_of inbox) in
+        let before : AreExported now (foreign_in_all k t.taken) =
+        all_weaker (IsExported ports.exports) (IsExported now)
+        (λ r there. exported_later r ports.exports (foreign_to k b) there) (foreign_in_all k t.taken) t.exported in
+        record {
+          taken = t.taken ++ b.events;
+          sent = ap (λ ds. ds ++ map (sent_event now k) b.events)
+              (t.sent ∙ sym (events_later ports.exports (foreign_to k b) k t.taken t.exported))
+              ∙ sym (map-append (sent_event now k) t.taken b.events);
+          exported = subst (AreExported now)
+              (sym (flat_map-append (λ e. foreign_told k (told_value e)) t.taken b.events))
+              (all_append (IsExported now) (foreign_in_all k t.taken) (foreign_to k b) before
+              (are_exported ports.exports (foreign_to k b)));
+          held = ap (λ o. unwrap_or o [])
+              (put_found own (all_delivered b.events (held_by own s.world)) s.world.held)
+              ∙ connection_took b.events (held_by own s.world) ∙ ap (took_all at_object b.events) t.held
+              ∙ sym (took_all_append _ at_object t.taken b.events []);
+          log = rw more t.log;
+        }
+
+    exporting_sent : AreSent k (es ++ map (sent_event now k) b.events) (exporting k b ports taking)
+    exporting_sent = record {
+      none = λ before. absurd (omega (arith, before, has_come));
+      live = λ x is.
+          let y = found-popped own s.world.table b x first is in
+          let was : IsTold k ports.exports es s.world (b ∷ x.inbox) =
+          subst (λ exports. IsTold k exports es s.world (b ∷ x.inbox)) (ap exports_in (hub.named k lives).1)
+          (subst (λ bs. IsTold k (exports_kept k s) es s.world bs) y.2 (sent.live y.0 y.1)) in
+          subst (λ exports. IsTold k exports (es ++ map (sent_event now k) b.events) taking.world x.inbox)
+          (sym (ap exports_in (put_found k _ s.connections))) (told_more x.inbox was);
+    }
+
+    -- it fails, and isn't found any more
+    failing_sent : (f : Fault) → AreSent k es (finished [] (failed k f taking))
+    failing_sent f =
+        let stays = finished_stays k [] (failed k f taking) in
+        record {
+          none = λ before.
+              absurd (let more = (failing_stays k k f taking).grows.opened in omega (arith, before, has_come, more));
+          live = λ x is.
+              let i = stays.grows.still x is in absurd (ended_not_found own taking.world i.before i.found);
+        }
+
+    unless_sent : (o : Option Fault) → AreSentBy k (Turn own) es (told_unless o k ports b taking)
+    unless_sent None =
+        subst (λ ds. AreSent k (es ++ ds) (finished [] (exporting k b ports taking))) (sym (own_tells k now b))
+        (sent_alike k (es ++ map (sent_event now k) b.events) (exporting k b ports taking) _
+        (finished_stays k [] (exporting k b ports taking)) exporting_sent)
+    unless_sent (Some f) =
+        subst (λ ds. AreSent k ds (finished [] (failed k f taking)))
+        (sym (ap (λ ds. es ++ ds) (none_by k own (Refused f) refl) ∙ append-nil es)) (failing_sent f)
+
+    named : ports_of k taking ≡ Some ports
+    named =
+        ap (λ c. cond c (entry_of k s.connections) None) (live-popped own own s.world.table ∙ lives)
+        ∙ (hub.named k lives).1
+
+    taking_sent : AreSentBy k (Turn own) es (tell (own - 16) (ports_of (own - 16) taking) b taking)
+    taking_sent =
+        subst (λ j. AreSentBy k (Turn own) es (tell j (ports_of j taking) b taking)) (omega arith)
+        (subst (λ o. AreSentBy k (Turn own) es (tell k o b taking)) (sym named)
+        (unless_sent (telling_fault k b ports)))
+
+  abbrev AreSentAfter : TurnOf → Type 0
+  AreSentAfter t = AreSentBy k (Turn own) es (after_turn own t.turned (record s { world = t.world }))
+
+  batch_sent : (b : Batch) → first_batch own s.world.table ≡ Some b
+      → AreSentAfter (turn_with own b (without_first own s.world))
+  batch_sent b first =
+      let far : 17 ≤ own = is_far [] s.world k hub.sound lives in
+      let space : is_space own ≡ false = grind (arith, nat_tests, far) in
+      let system : is_system own ≡ false = grind (arith, nat_tests, far) in
+      rw (space, system) (taking_sent b first)
+
+  first_sent : (o : Option Batch) → first_batch own s.world.table ≡ o → AreSentAfter (turn_first own o s.world)
+  first_sent None first = sent_nothing k es _ s s (none_by k own Idle refl) (stays_not k s) sent
+  first_sent (Some b) first = batch_sent b first
+
+-- ---- a turn
+
+own_turn_sent : (k : ℕ) (es : List TurnEvent) (s : State) → IsHub [] s → AreSent k es s
+    → AreSentBy k (Turn (actor_of k)) es (turn_of (actor_of k) s)
+own_turn_sent k es s hub sent = by (is_live (actor_of k) s.world.table) refl
   where
     gone : TurnOf
     gone = record { world = s.world; turned = turned.Gone }
 
-    dead : (c : Bool) → c ≡ false
-        → Grows (actor_of k) s.world (cond c (turn_first a (first_batch a s.world.table) s.world) gone).world
-    dead true is = absurd cc
-    dead false is = grows_not (actor_of k) s.world
+    after_this : TurnOf → After
+    after_this t = after_turn (actor_of k) t.turned (record s { world = t.world })
 
-rest_grows : (b : ℕ) (s : State) → Grows b s.world (rest s).state.world
-rest_grows b s = by s.stopped
-  where
-    by : (c : Bool) → Grows b s.world (cond c (unchanged s Halted) (unchanged s Idle)).state.world
-    by true = grows_not b s.world
-    by false = grows_not b s.world
+    by : (c : Bool) → is_live (actor_of k) s.world.table ≡ c → AreSentBy k (Turn (actor_of k)) es
+        (after_this (cond c (turn_first (actor_of k) (first_batch (actor_of k) s.world.table) s.world) gone))
+    by true lives = first_sent k es s hub sent lives (first_batch (actor_of k) s.world.table) refl
+    by false dead =
+        let o : Option Fault = fault_for (actor_of k) s in
+        sent_nothing k es _ s _ (fault_tells k (actor_of k) o s) (fault_stays k (actor_of k) o s) sent
 
-work_grows : (k : ℕ) (o : Option ℕ) (s : State) → IsSound [] s.world
-    → Grows (actor_of k) s.world (work_by o s).state.world
-work_grows k None s sound = rest_grows (actor_of k) s
-work_grows k (Some a) s sound = by (is_system a) refl
-  where
-    by : (c : Bool) → is_system a ≡ c → Grows (actor_of k) s.world (cond c (turn_of a s) (rest s)).state.world
-    by true low =
-        let t : TurnOf = turn a s.world in
-        grows_on (actor_of k) s.world t.world _ (system_grows k a s sound low)
-        (after_grows (actor_of k) a t.turned (record s { world = t.world }))
-    by false high = rest_grows (actor_of k) s
+turn_sent : (k a : ℕ) (es : List TurnEvent) (s : State) → IsHub [] s → AreSent k es s
+    → AreSentBy k (Turn a) es (turn_of a s)
+turn_sent k a es s hub sent = elim (one_or_not (actor_of k) a) [
+  | inl same ↦ subst (λ c. AreSentBy k (Turn c) es (turn_of c s)) same (own_turn_sent k es s hub sent)
+  | inr apart ↦
+      sent_nothing k es _ s _ (other_tells k a (turn_of a s).reply apart) (other_turn_stays k a s hub.sound apart) sent
+]
 
-ended_step : (b k : ℕ) (s u : State) → u.world ≡ ended_of (actor_of k) s.world
-    → Grows b s.world (finished [] u).world
-ended_step b k s u is =
-    grows_on b s.world u.world _ (rw is (ended_grows (actor_of k) b s.world)) (finished_grows b [] u)
-
-judged_grows : (b k : ℕ) (d : Admitted) (s : State) → IsSound [] s.world → is_live (actor_of k) s.world.table ≡ true
-    → Grows b s.world (judged k d (nameless k s)).state.world
-judged_grows b k (refused f) s sound live = ended_step b k s (departed_for k f (nameless k s)) refl
-judged_grows b k (admitted x) s sound live =
-    let u : State = accepted k x (nameless k s) in
-    grows_on b s.world u.world _ (sent_grows (actor_of k) b x.acts s.world sound.table live) (finished_grows b [] u)
-
-packet_grows : (b k : ℕ) (o : Option PortsState) (ts : List TurnEvent) (s : State) → ports_of k s ≡ o
-    → IsSound [] s.world → Grows b s.world (packet_at k o ts s).state.world
-packet_grows b k None ts s is sound = grows_not b s.world
-packet_grows b k (Some ports) ts s is sound =
-    judged_grows b k (admission (actor_of k) ports s.world ts) s sound
-    (there (is_live (actor_of k) s.world.table) refl is)
-  where
-    there : (c : Bool) → is_live (actor_of k) s.world.table ≡ c → cond c (entry_of k s.connections) None ≡ Some ports
-        → is_live (actor_of k) s.world.table ≡ true
-    there true live named = live
-    there false dead named = absurd cc
-
-bad_grows : (b k : ℕ) (o : Option PortsState) (f : Fault) (s : State) → Grows b s.world (bad_at k o f s).state.world
-bad_grows b k None f s = grows_not b s.world
-bad_grows b k (Some ports) f s = ended_step b k s (failed k f s) refl
-
-close_grows : (b k : ℕ) (o : Option PortsState) (s : State) → Grows b s.world (close_at k o s).state.world
-close_grows b k None s = grows_not b s.world
-close_grows b k (Some ports) s = ended_step b k s (closed k s) refl
+-- ---- a step
 
 arrive_sent : (k : ℕ) (o : Option Reply) (space : ℕ) (es : List TurnEvent) (s : State) → IsSound [] s.world
-    → AreSent k es s.world → AreSent k es (arrive_unless o space s).state.world
+    → AreSent k es s → AreSent k es (arrive_unless o space s).state
 arrive_sent k None space es s sound sent =
-    sent_alike k es (arrived s.world) _ (finished_grows (actor_of k) [] (opened space s))
-    (sent_arrived k es s.world sound sent)
+    sent_alike k es (opened space s) _ (finished_stays k [] (opened space s)) (sent_arrived k space es s sound sent)
 arrive_sent k (Some r) space es s sound sent = sent
 
-done_sent : (k : ℕ) (e : Step) (es : List TurnEvent) (s : State) → IsSound [] s.world → AreSent k es s.world
+done_sent : (k : ℕ) (e : Step) (es : List TurnEvent) (s : State) → IsHub [] s → AreSent k es s
     → AreSentBy k e es (done s e)
-done_sent k (Arrive space) es s sound sent =
-    sent_nothing k es [] _ _ refl (grows_not (actor_of k) _) (arrive_sent k (refusal space s) space es s sound sent)
-done_sent k (Packet j ts) es s sound sent =
-    sent_nothing k es [] s.world _ refl (packet_grows (actor_of k) j (ports_of j s) ts s refl sound) sent
-done_sent k (Bad j f) es s sound sent =
-    sent_nothing k es [] s.world _ refl (bad_grows (actor_of k) j (ports_of j s) f s) sent
-done_sent k (Close j) es s sound sent =
-    sent_nothing k es [] s.world _ refl (close_grows (actor_of k) j (ports_of j s) s) sent
-done_sent k (Turn a) es s sound sent = turn_by k a es s sound sent
-done_sent k Work es s sound sent =
-    sent_nothing k es [] s.world _ refl (work_grows k (lowest s.world.table) s sound) sent
-done_sent k Stop es s sound sent =
-    sent_nothing k es [] s.world _ refl (finished_grows (actor_of k) [] (record s { stopped = true })) sent
+done_sent k (Arrive space) es s hub sent =
+    sent_nothing k es [] _ _ refl (stays_not k _) (arrive_sent k (refusal space s) space es s hub.sound sent)
+done_sent k (Packet j ts) es s hub sent =
+    sent_nothing k es [] s _ refl (packet_stays k j (ports_of j s) ts s hub.sound.table refl) sent
+done_sent k (Bad j f) es s hub sent = sent_nothing k es [] s _ refl (bad_stays k j (ports_of j s) f s) sent
+done_sent k (Close j) es s hub sent = sent_nothing k es [] s _ refl (close_stays k j (ports_of j s) s) sent
+done_sent k (Turn a) es s hub sent = turn_sent k a es s hub sent
+done_sent k Work es s hub sent = sent_nothing k es [] s _ refl (work_stays k (lowest s.world.table) s hub.sound) sent
+done_sent k Stop es s hub sent =
+    let t : State = record s { stopped = true } in
+    sent_nothing k es [] s _ refl
+    (stays_on k s t _ (record { grows = (stays_not k s).grows; exports = λ x found. refl }) (finished_stays k [] t))
+    sent
 
 -- where the numbers are used up nothing is sent
 worn_tells : (k : ℕ) (e : Step) → events_by k e Worn ≡ []
@@ -368,14 +378,13 @@ worn_tells k (Turn a) = none_by k a Worn refl
 worn_tells k Work = refl
 worn_tells k Stop = refl
 
-step_sent : (k : ℕ) (e : Step) (es : List TurnEvent) (s : State) → IsSound [] s.world → AreSent k es s.world
+step_sent : (k : ℕ) (e : Step) (es : List TurnEvent) (s : State) → IsHub [] s → AreSent k es s
     → AreSentBy k e es (step s e)
-step_sent k e es s sound sent = by (is_worn s e)
+step_sent k e es s hub sent = by (is_worn s e)
   where
     by : (c : Bool) → AreSentBy k e es (cond c (unchanged s Worn) (done s e))
-    by true =
-        sent_nothing k es (events_by k e Worn) s.world s.world (worn_tells k e) (grows_not (actor_of k) s.world) sent
-    by false = done_sent k e es s sound sent
+    by true = sent_nothing k es (events_by k e Worn) s s (worn_tells k e) (stays_not k s) sent
+    by false = done_sent k e es s hub sent
 
 -- ---- whole runs
 
@@ -387,22 +396,21 @@ abbrev pub HubAfter : Type 0
 HubAfter = HubsFrom opening
 
 run_sent : (k : ℕ) (steps : List Step) (es : List TurnEvent) (s : State) → HubsFrom s → AreAllowed s steps
-    → AreSent k es s.world → AreSent k (es ++ flat_map events_in (sent_from s k steps)) (run_from s steps).world
-run_sent k [] es s hubs allowed sent = sent_nothing k es [] s.world s.world refl (grows_not (actor_of k) s.world) sent
+    → AreSent k es s → AreSent k (es ++ flat_map events_in (sent_from s k steps)) (run_from s steps)
+run_sent k [] es s hubs allowed sent = sent_nothing k es [] s s refl (stays_not k s) sent
 run_sent k (e ∷ steps) es s hubs allowed sent =
     let now : List TurnEvent = events_by k e (step s e).reply in
     let t : State = (step s e).state in
-    let sound : IsSound [] s.world = (hubs [] tt).sound in
     let hubs_later : HubsFrom t = λ ds later. hubs (e ∷ ds) (allowed.0, later) in
     let all : (es ++ now) ++ flat_map events_in (sent_from t k steps)
     ≡ es ++ flat_map events_in (sent_from s k (e ∷ steps)) =
     append_assoc es now (flat_map events_in (sent_from t k steps))
     ∙ ap (λ ds. es ++ ds) (sym (flat_map-append events_in (sent_by k e (step s e).reply) (sent_from t k steps))) in
-    subst (λ ds. AreSent k ds (run_from t steps).world) all
-    (run_sent k steps (es ++ now) t hubs_later allowed.1 (step_sent k e es s sound sent))
+    subst (λ ds. AreSent k ds (run_from t steps)) all
+    (run_sent k steps (es ++ now) t hubs_later allowed.1 (step_sent k e es s (hubs [] tt) sent))
 
 -- no connection is live when all begins
-sent_first : (k : ℕ) → IsSound [] opening.world → AreSent k [] opening.world
+sent_first : (k : ℕ) → IsSound [] opening.world → AreSent k [] opening
 sent_first k sound = record {
   none = λ before. refl;
   live = λ x found.
@@ -412,19 +420,31 @@ sent_first k sound = record {
 }
 
 pub holdings_hold : HubAfter → Holdings
-holdings_hold hubs k steps allowed lives = by (find_actor a (replay steps).world.table.actors) refl lives
+holdings_hold hubs k steps allowed lives = by (find_actor (actor_of k) s.world.table.actors) refl lives
   where
-    a : ℕ
-    a = actor_of k
+    s : State
+    s = replay steps
 
-    all : AreSent k (flat_map events_in (sent_to k steps)) (replay steps).world
+    all : AreSent k (flat_map events_in (sent_to k steps)) s
     all = run_sent k steps [] opening hubs allowed (sent_first k (hubs [] tt).sound)
 
-    by : (o : Option Actor) → find_actor a (replay steps).world.table.actors ≡ o → is_some o ≡ true
-        → held (sent_to k steps) ≡ holdings_in_order (map (holding_of a) (held_by a (replay steps).world))
+    -- a live connection's exports are those kept for it
+    kept_now : exports_kept k s ≡ exports_of k s
+    kept_now = ap (λ c. exports_in (cond c (entry_of k s.connections) None)) (sym lives)
+
+    by : (o : Option Actor) → find_actor (actor_of k) s.world.table.actors ≡ o → is_some o ≡ true
+        → AreWhatItGot (exports_of k s) k (held_by (actor_of k) s.world) (held (sent_to k steps))
     by None found live = absurd cc
     by (Some x) found live =
         let t = all.live x found in
         let ascend = ascend_before (made_in t.taken) (made_in (events_of x.inbox)) t.log.0 in
-        ap holdings_in_order
-        (ap all_kept t.sent ∙ kept_is_taken a t.taken ascend ∙ ap (map (holding_of a)) (sym t.held))
+        let got = held_by (actor_of k) s.world in
+        let known : AllByRecursion (HasNumbers (exports_kept k s) k) (took_all at_object t.taken []) =
+        numbered (exports_kept k s) k t.taken [] tt t.exported in (
+          ap holdings_in_order
+              (ap all_kept t.sent ∙ kept_is_taken (exports_kept k s) k t.taken ascend
+              ∙ ap (map (holding_of (exports_kept k s) k)) (sym t.held)
+              ∙ ap (λ exports. map (holding_of exports k) got) kept_now),
+          subst (λ exports. AllByRecursion (HasNumbers exports k) got) kept_now
+              (subst (AllByRecursion (HasNumbers (exports_kept k s) k)) (sym t.held) known),
+        )

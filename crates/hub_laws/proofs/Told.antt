@@ -1,4 +1,4 @@
--- What a dataspace tells an actor from scratch is, as a bag, what is wanted there: one pair for each key.
+-- What a dataspace tells a connection from scratch is, as a bag, what is wanted there: one pair for each key.
 use Rattle.std.proofs.Common.{◌≡◌, ℕ, List, [], ◌∷◌, map, Bool, true, false, cond, not, ◌&&◌, ◌||◌, ◌==◌, filter}
 use Rattle.std.proofs.Common.{flat_map, Option, Some, None, option_and_then, refl, ap, sym, ◌∙◌, subst, IsPermutation}
 use Rattle.std.specs.Cmp.{eq_by_cmp_equiv}
@@ -17,6 +17,7 @@ use Rattle.ds_space.specs.Wants.{observer_of, captured, key_of, is_key, gives, w
 use Rattle.ds_space.specs.Lemmas.Keys.{same_is, same_self, or_false, any_same, any_flat, any_none}
 use Rattle.ds_space.specs.Lemmas.Lists.{wants_ascend, among_wants}
 use Rattle.ac_world.specs.Turns.{Aim, observer_in, aim_at, aim_of}
+use Rattle.ac_world.specs.Worlds.{actor_of}
 use Rattle.hub_laws.specs.Scratch.{Pair, distinct, as_sequence, captures_by, pair_at, told_by, told_over}
 use Rattle.hub_laws.proofs.Bags.{map_flat, flat_alike}
 use Rattle.hub_laws.proofs.Distinct.{distinct_none, distinct_filter, distinct_map, distinct_flat, same_members}
@@ -31,13 +32,14 @@ is_at_actor a (Some aim) = aim.at.at == a
 abbrev pub goes_to : ℕ → Plain → Bool
 goes_to a k = is_at_actor a (aim_of k)
 
-abbrev pub pair_aimed : ℕ → Plain → Option Aim → Pair
-pair_aimed a k None = record { oid = 0; value = k }
-pair_aimed a k (Some aim) = pair_at a aim.at.entity aim.value
+-- n is the number of a connection, which has these exports
+abbrev pub pair_aimed : List Reference → ℕ → Plain → Option Aim → Pair
+pair_aimed exports n k None = record { oid = 0; value = k }
+pair_aimed exports n k (Some aim) = pair_at exports n aim.at.entity aim.value
 
--- what actor a holds by the key
-abbrev pub pair_by : ℕ → Plain → Pair
-pair_by a k = pair_aimed a k (aim_of k)
+-- what the connection holds by the key
+abbrev pub pair_by : List Reference → ℕ → Plain → Pair
+pair_by exports n k = pair_aimed exports n k (aim_of k)
 
 -- ---- each value once
 
@@ -90,25 +92,25 @@ abbrev all_told : ℕ → List Plain → List Plain
 all_told a vs = flat_map (told_of a vs) (distinct vs)
 
 -- each is told as its pair
-pairs_told : (a : ℕ) (vs : List Plain) (o : Plain)
-    → map (pair_by a) (told_of a vs o) ≡ told_by a vs (observer_in o) (observer_of o)
-pairs_told a vs o = by (observer_in o) (observer_of o) refl
+pairs_told : (exports : List Reference) (n : ℕ) (vs : List Plain) (o : Plain)
+    → map (pair_by exports n) (told_of (actor_of n) vs o) ≡ told_by exports n vs (observer_in o) (observer_of o)
+pairs_told exports n vs o = by (observer_in o) (observer_of o) refl
   where
     each : (r : Reference) (cs : List Plain) → observer_in o ≡ Some r
-        → map (pair_by a) (map (key_with o) cs) ≡ map (pair_at a r.entity) cs
+        → map (pair_by exports n) (map (key_with o) cs) ≡ map (pair_at exports n r.entity) cs
     each r [] is = refl
-    each r (c ∷ cs) is = λ i. pair_aimed a (key_with o c) (aim_at (is i) c) ∷ each r cs is i
+    each r (c ∷ cs) is = λ i. pair_aimed exports n (key_with o c) (aim_at (is i) c) ∷ each r cs is i
 
     if_here : (r : Reference) (cs : List Plain) (b : Bool) → observer_in o ≡ Some r
-        → map (pair_by a) (cond b (map (key_with o) cs) []) ≡ cond b (map (pair_at a r.entity) cs) []
+        → map (pair_by exports n) (cond b (map (key_with o) cs) []) ≡ cond b (map (pair_at exports n r.entity) cs) []
     if_here r cs true is = each r cs is
     if_here r cs false is = refl
 
     by : (r : Option Reference) (p : Option Pattern) → observer_in o ≡ r
-        → map (pair_by a) (keys_told a vs o r p) ≡ told_by a vs r p
+        → map (pair_by exports n) (keys_told (actor_of n) vs o r p) ≡ told_by exports n vs r p
     by None p is = refl
     by (Some r) None is = refl
-    by (Some r) (Some p) is = if_here r (distinct (captures_by p vs)) (r.at == a) is
+    by (Some r) (Some p) is = if_here r (distinct (captures_by p vs)) (r.at == actor_of n) is
 
 -- none is told twice
 told_apart : (a : ℕ) (vs : List Plain) → IsDistinct same (all_told a vs)
@@ -252,18 +254,21 @@ told_wanted a vs k =
     ∙ any_same _ _ vs (λ o. told_where a vs o k)
     ∙ any_and (goes_to a k) (λ o. list_any (gives k o) vs) vs)
 
-pub wants_are_told : (a : ℕ) (vs : List Plain)
-    → IsPermutation (map (pair_by a) (filter (goes_to a) (wants vs))) (told_over a vs)
-wants_are_told a vs =
-    subst (IsPermutation (map (pair_by a) (filter (goes_to a) (wants vs))))
-    (map_flat (pair_by a) (told_of a vs) (distinct vs)
+pub wants_are_told : (exports : List Reference) (n : ℕ) (vs : List Plain)
+    → IsPermutation (map (pair_by exports n) (filter (goes_to (actor_of n)) (wants vs))) (told_over exports n vs)
+wants_are_told exports n vs =
+    subst (IsPermutation (map (pair_by exports n) (filter (goes_to (actor_of n)) (wants vs))))
+    (map_flat (pair_by exports n) (told_of (actor_of n) vs) (distinct vs)
     ∙ flat_alike _ _ (distinct vs) (each (distinct vs)))
-    (IsPermutation-map (pair_by a) (filter (goes_to a) (wants vs)) (all_told a vs)
-    (same_members same (eq_by_cmp_equiv order_total) same_is (filter (goes_to a) (wants vs)) (all_told a vs)
-    (distinct_filter same (goes_to a) (wants vs) (IsDistinct-from_sorted order (wants vs) (wants_ascend vs)))
-    (told_apart a vs) (told_wanted a vs)))
+    (IsPermutation-map (pair_by exports n) (filter (goes_to (actor_of n)) (wants vs)) (all_told (actor_of n) vs)
+    (same_members same (eq_by_cmp_equiv order_total) same_is (filter (goes_to (actor_of n)) (wants vs))
+    (all_told (actor_of n) vs)
+    (distinct_filter same (goes_to (actor_of n)) (wants vs) (IsDistinct-from_sorted order (wants vs) (wants_ascend vs)))
+    (told_apart (actor_of n) vs) (told_wanted (actor_of n) vs)))
   where
     each : (os : List Plain)
-        → AllByRecursion (λ o. map (pair_by a) (told_of a vs o) ≡ told_by a vs (observer_in o) (observer_of o)) os
+        → AllByRecursion
+        (λ o. map (pair_by exports n) (told_of (actor_of n) vs o)
+        ≡ told_by exports n vs (observer_in o) (observer_of o)) os
     each [] = tt
-    each (o ∷ os) = (pairs_told a vs o, each os)
+    each (o ∷ os) = (pairs_told exports n vs o, each os)

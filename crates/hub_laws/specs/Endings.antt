@@ -3,7 +3,7 @@ use Rattle.std.specs.Prelude.{◌≡◌, ℕ, false, None, IsTrue}
 use Rattle.std.specs.List.{AllByRecursion}
 use Rattle.ac_table.specs.Tables.{is_live}
 use Rattle.ac_world.specs.Worlds.{actor_of, entry_of}
-use Rattle.hub_core.specs.State.{State}
+use Rattle.hub_machine.specs.State.{State}
 
 pub record HaveEnded (s : State) : Type 0 where
   pub owners : AllByRecursion (λ r. IsTrue (is_live r.owner s.world.table)) s.world.table.rows

@@ -1,9 +1,9 @@
 -- What holds after every list of steps whose callers saw to their conditions.
 use Rattle.std.specs.Prelude.{ℕ, List, [], ◌∷◌}
-use Rattle.hub_core.specs.State.{State, opening}
-use Rattle.hub_core.specs.Machine.{step, IsAllowed}
-use Rattle.hub_core.specs.Replays.{replay, IsSettled}
-use Rattle.hub_core.specs.declared.steps.Step.{Step}
+use Rattle.hub_machine.specs.State.{State, opening}
+use Rattle.hub_machine.specs.Machine.{step, IsAllowed}
+use Rattle.hub_machine.specs.Replays.{replay, IsSettled}
+use Rattle.hub_machine.specs.declared.steps.Step.{Step}
 use Rattle.hub_laws.specs.Delivery.{IsDelivered, IsGot}
 use Rattle.hub_laws.specs.Wanting.{AreMet}
 use Rattle.hub_laws.specs.Endings.{HaveEnded}

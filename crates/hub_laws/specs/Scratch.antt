@@ -1,5 +1,5 @@
--- What a live connection holds once nothing is pending, from the rows alone. Syndicate Protocol, "dataspaces": each
--- observer is told of each distinct list of captures of its observation, once.
+-- What a live connection holds once nothing is pending, from the rows and its exports alone. Syndicate Protocol,
+-- "dataspaces": each observer is told of each distinct list of captures of its observation, once.
 use Rattle.std.specs.Prelude.{ℕ, List, [], ◌∷◌, ◌++◌, map, not, ◌==◌, ◌&&◌, nat_le, Option, Some, None, filter}
 use Rattle.std.specs.Prelude.{if◌then◌else◌}
 use Rattle.std.specs.List.{flat_map}
@@ -11,8 +11,9 @@ use Rattle.ds_space.specs.Wants.{observer_of}
 use Rattle.ac_table.specs.declared.batches.Row.{Row}
 use Rattle.ac_world.specs.Turns.{observer_in}
 use Rattle.ac_world.specs.Worlds.{actor_of}
-use Rattle.hub_core.specs.Crossing.{crossed_out}
-use Rattle.hub_core.specs.State.{State}
+use Rattle.rl_ports.specs.Ports.{PortsState}
+use Rattle.rl_wire.specs.Crossing.{crossed_out}
+use Rattle.hub_machine.specs.State.{State, ports_of}
 
 -- an object of the connection's, and what is asserted there, as the connection knows it
 pub record Pair : Type 0 where
@@ -36,30 +37,42 @@ as_sequence (Some cs) = sequence (plains cs) ∷ []
 abbrev pub captures_by : Pattern → List Plain → List Plain
 captures_by p vs = flat_map (λ v. as_sequence (matched p v)) vs
 
-abbrev pub pair_at : ℕ → ℕ → Plain → Pair
-pair_at a entity v = record { oid = entity; value = crossed_out a v }
+-- a value at an object of connection k, which has these exports
+abbrev pub pair_at : List Reference → ℕ → ℕ → Plain → Pair
+pair_at exports k entity v = record { oid = entity; value = crossed_out exports k v }
 
--- an observer that is an object of actor a holds each distinct list of captures
-abbrev pub told_by : ℕ → List Plain → Option Reference → Option Pattern → List Pair
-told_by a vs (Some r) (Some p) = if r.at == a then map (pair_at a r.entity) (distinct (captures_by p vs)) else []
-told_by a vs (Some r) None = []
-told_by a vs None o = []
+-- an observer that is an object of connection k holds each distinct list of captures
+abbrev pub told_by : List Reference → ℕ → List Plain → Option Reference → Option Pattern → List Pair
+told_by exports k vs (Some r) (Some p) =
+    if r.at == actor_of k then map (pair_at exports k r.entity) (distinct (captures_by p vs)) else []
+told_by exports k vs (Some r) None = []
+told_by exports k vs None o = []
 
 -- for each distinct observation among the values at a dataspace
-abbrev pub told_over : ℕ → List Plain → List Pair
-told_over a vs = flat_map (λ o. told_by a vs (observer_in o) (observer_of o)) (distinct vs)
+abbrev pub told_over : List Reference → ℕ → List Plain → List Pair
+told_over exports k vs = flat_map (λ o. told_by exports k vs (observer_in o) (observer_of o)) (distinct vs)
 
 -- and what connections assert at it directly
-abbrev pub told_directly : ℕ → List Row → List Pair
-told_directly a rows =
-    map (λ r. pair_at a r.entity r.value) (filter (λ r. (r.target == a) && nat_le 17 r.owner) rows)
+abbrev pub told_directly : List Reference → ℕ → List Row → List Pair
+told_directly exports k rows =
+    map (λ r. pair_at exports k r.entity r.value)
+    (filter (λ r. (r.target == actor_of k) && nat_le 17 r.owner) rows)
 
 abbrev pub dataspaces : List ℕ
 dataspaces = 1 ∷ 2 ∷ 3 ∷ 4 ∷ 5 ∷ 6 ∷ 7 ∷ 8 ∷ []
 
-abbrev pub scratch_at : ℕ → List Row → List Pair
-scratch_at a rows = flat_map (λ d. told_over a (asserted_at d rows)) dataspaces ++ told_directly a rows
+abbrev pub scratch_at : List Reference → ℕ → List Row → List Pair
+scratch_at exports k rows =
+    flat_map (λ d. told_over exports k (asserted_at d rows)) dataspaces ++ told_directly exports k rows
 
--- connection k, from scratch
+abbrev pub exports_in : Option PortsState → List Reference
+exports_in None = []
+exports_in (Some ports) = ports.exports
+
+-- the exports of a live connection
+abbrev pub exports_of : ℕ → State → List Reference
+exports_of k s = exports_in (ports_of k s)
+
+-- connection k, from scratch: from the rows and its exports alone
 abbrev pub scratch : ℕ → State → List Pair
-scratch k s = scratch_at (actor_of k) s.world.table.rows
+scratch k s = scratch_at (exports_of k s) k s.world.table.rows

@@ -1,26 +1,38 @@
 -- What connections hold by the packets that they were sent.
-use Rattle.std.specs.Prelude.{◌≡◌, ℕ, List, map, true}
+use Rattle.std.specs.Prelude.{◌≡◌, ℕ, List, map, true, is_some}
+use Rattle.std.specs.List.{AllByRecursion}
 use Rattle.std.specs.List.Sorted.{IsPermutation}
 use Rattle.rl_packet.specs.Holding.{held, holdings_in_order}
 use Rattle.rl_packet.specs.declared.holding.Holding.{Holding}
 use Rattle.ac_table.specs.Tables.{is_live}
-use Rattle.ac_world.specs.Worlds.{held_by, actor_of}
+use Rattle.ac_world.specs.Worlds.{Deliveries, held_by, actor_of}
 use Rattle.ac_world.specs.declared.held.Held.{Held}
-use Rattle.hub_core.specs.Crossing.{crossed_out}
-use Rattle.hub_core.specs.Replays.{replay, sent_to, IsSettled}
-use Rattle.hub_core.specs.declared.steps.Step.{Step}
-use Rattle.hub_laws.specs.Scratch.{Pair, scratch}
+use Rattle.ds_space.specs.declared.references.Reference.{Reference}
+use Rattle.rl_ports.specs.Ports.{place_of}
+use Rattle.rl_wire.specs.Crossing.{crossed_out, foreign_in}
+use Rattle.hub_machine.specs.Replays.{replay, sent_to, IsSettled}
+use Rattle.hub_machine.specs.declared.steps.Step.{Step}
+use Rattle.hub_laws.specs.Scratch.{Pair, scratch, exports_of}
 
--- a delivery as the connection that is actor a knows it
-abbrev pub holding_of : ℕ → ℕ × Held → Holding
-holding_of a e = record { oid = e.1.entity; handle = e.0; value = crossed_out a e.1.value }
+-- a delivery as connection k knows it, which has these exports
+abbrev pub holding_of : List Reference → ℕ → ℕ × Held → Holding
+holding_of exports k e = record { oid = e.1.entity; handle = e.0; value = crossed_out exports k e.1.value }
 
--- a live connection holds exactly what it has got
+-- the objects of others in a delivery are exported: each has a number of its own
+abbrev pub HasNumbers : List Reference → ℕ → ℕ × Held → Type 0
+HasNumbers exports k e = AllByRecursion (λ r. is_some (place_of r exports) ≡ true) (foreign_in k e.1.value)
+
+-- holdings are what was got, as the connection knows it by these exports, each object by a number of its own
+abbrev pub AreWhatItGot : List Reference → ℕ → Deliveries → List Holding → Type 0
+AreWhatItGot exports k got holdings =
+    (holdings ≡ holdings_in_order (map (holding_of exports k) got)) × AllByRecursion (HasNumbers exports k) got
+
+-- a live connection holds exactly what it has got, by its exports of now
 abbrev pub HoldsWhatItGot : ℕ → List Step → Type 0
 HoldsWhatItGot k steps =
     is_live (actor_of k) (replay steps).world.table ≡ true
-    → held (sent_to k steps) ≡ holdings_in_order
-    (map (holding_of (actor_of k)) (held_by (actor_of k) (replay steps).world))
+    → AreWhatItGot (exports_of k (replay steps)) k (held_by (actor_of k) (replay steps).world)
+    (held (sent_to k steps))
 
 abbrev pub pair_of : Holding → Pair
 pair_of h = record { oid = h.oid; value = h.value }

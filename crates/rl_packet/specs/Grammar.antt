@@ -1,53 +1,15 @@
 -- Which values are packets. Syndicate Protocol, "packets": a turn is a sequence of events `[oid event]`, an event
 -- `<A assertion handle>`, `<R handle>`, `<M body>` or `<S #:peer>`; an error is `<error message detail>`, the message
 -- a string; `#f` means nothing; any other record is an extension. Oids and handles are from 0 to 2 ^ 63 - 1.
-use Rattle.std.specs.Prelude.{◌≡◌, zero, suc, pos, ◌^◌, ◌<◌, Bool, true, false, ◌&&◌, List, is_some}
+use Rattle.std.specs.Prelude.{◌≡◌, Bool, true, false, List}
 use Rattle.std.specs.List.{AllByRecursion}
-use Rattle.pv_value.specs.Plain.{Plain, integer, string, record_of, sequence, set_of, dictionary, embedded}
-use Rattle.pv_value.specs.Plain.{Plains, no_more, then_more, PlainPairs, no_pairs, then_pair}
-use Rattle.dp_pattern.specs.Words.{number_in}
-use Rattle.rl_packet.specs.Packets.{Event, Assert, Retract, Message, Sync, TurnEvent, event_value, aimed_value}
+use Rattle.pv_value.specs.Plain.{Plain, string, record_of}
+pub use Rattle.rl_packet.specs.Wired.{is_wire_reference, is_wired, all_wired, all_pairs_wired, is_peer}
+pub use Rattle.rl_packet.specs.Wired.{IsEvent, IsTurnEvent}
+use Rattle.rl_packet.specs.Packets.{Event, TurnEvent, event_value, aimed_value}
 use Rattle.rl_packet.specs.Packets.{Packet, Turn, Error, Nop, Extension, turn_value, packet_value}
 use Rattle.rl_packet.specs.declared.reading.PacketFault.{PacketFault}
 use Rattle.rl_packet.specs.declared.reading.PacketFault.TheVariants.{BadPacket, NoMemory}
-
--- what an embedded value holds on the wire: `[0 oid]`, or `[1 oid caveat ..]`
-abbrev pub is_wire_reference : Plain → Bool
-is_wire_reference (sequence (then_more (integer (pos zero)) (then_more oid no_more))) = is_some (number_in oid)
-is_wire_reference (sequence (then_more (integer (pos (suc zero))) (then_more oid caveats))) = is_some (number_in oid)
-is_wire_reference v = false
-
--- whether every embedded value in it that isn't inside another one is a wire reference
-abbrev mutual
-  pub is_wired : Plain → Bool
-  is_wired (embedded x) = is_wire_reference x
-  is_wired (record_of l fs) = is_wired l && all_wired fs
-  is_wired (sequence xs) = all_wired xs
-  is_wired (set_of xs) = all_wired xs
-  is_wired (dictionary ps) = all_pairs_wired ps
-  is_wired v = true
-
-  pub all_wired : Plains → Bool
-  all_wired no_more = true
-  all_wired (then_more x xs) = is_wired x && all_wired xs
-
-  pub all_pairs_wired : PlainPairs → Bool
-  all_pairs_wired no_pairs = true
-  all_pairs_wired (then_pair k v ps) = (is_wired k && is_wired v) && all_pairs_wired ps
-
--- `#:peer`, a wire reference
-abbrev pub is_peer : Plain → Bool
-is_peer (embedded x) = is_wire_reference x
-is_peer v = false
-
-abbrev pub IsEvent : Event → Type 0
-IsEvent (Assert v h) = (is_wired v ≡ true) × (h < 2 ^ 63)
-IsEvent (Retract h) = h < 2 ^ 63
-IsEvent (Message v) = is_wired v ≡ true
-IsEvent (Sync peer) = is_peer peer ≡ true
-
-abbrev pub IsTurnEvent : TurnEvent → Type 0
-IsTurnEvent e = (e.oid < 2 ^ 63) × IsEvent e.event
 
 abbrev pub is_string : Plain → Bool
 is_string (string s) = true

@@ -2,3 +2,4 @@ pub mod Grammar
 pub mod Holding
 pub mod Kept
 pub mod Packets
+pub mod Wired

@@ -2,6 +2,8 @@
 ghost use Rattle.std.specs.Prelude.{◌≡◌, [], ◌∷◌, ◌++◌, length, map, IfOk, OnOk, OnErr};
 ghost use Rattle.rl_packet.specs.Packets.{event_value, aimed_value, turn_value, packet_value};
 ghost use Rattle.std.specs.Prelude.{◌==◌};
+ghost use Rattle.std.specs.List.{AllByRecursion};
+ghost use Rattle.rl_packet.specs.Wired.{IsTurnEvent};
 
 use dp_pattern::{labelled, number};
 use pv_value::{Items, NoMemory, Value};
@@ -28,7 +30,9 @@ pub struct TurnEvent {
     pub event: Event,
 }
 
-/// A list of events that happen together.
+/// A list of events that happen together, each of which may stand in a packet: its oid and its
+/// handle are below 2^63, and each embedded value in it that isn't inside another is a wire
+/// reference.
 #[derive(Drop)]
 pub struct Turn {
     events: Vec<TurnEvent>,
@@ -45,6 +49,11 @@ impl Model for Turn {
     ghost coded = { Prim.hlevel (codes, plain_code) };
 
     ghost view = { λ t. t.events.items };
+
+    ghost use Rattle.std.specs.List.{AllByRecursion};
+    ghost use Rattle.rl_packet.specs.Wired.{IsTurnEvent};
+
+    ghost invariant = { λ t. AllByRecursion IsTurnEvent t.events.items };
 }
 
 /// What stands alone on the wire.
@@ -98,20 +107,23 @@ impl Turn {
     }
 
     pub fn from_vec(events: Vec<TurnEvent>) -> Turn
+        requires { AllByRecursion IsTurnEvent events.items }
         ensures { result ≡ events.items }
     {
         Turn { events }
     }
 
     pub fn into_vec(self) -> Vec<TurnEvent>
-        ensures { result.items ≡ self }
+        ensures events { result.items ≡ self }
+        ensures sound { AllByRecursion IsTurnEvent self }
     {
         let Turn { events } = self;
         events
     }
 
     pub fn as_slice(&self) -> &[TurnEvent]
-        ensures { result.now ≡ self.now }
+        ensures events { result.now ≡ self.now }
+        ensures sound { AllByRecursion IsTurnEvent self.now }
     {
         &self.events
     }

@@ -1,10 +1,13 @@
 //! The packet that a value is.
-ghost use Rattle.std.specs.Prelude.{◌≡◌, IfOk, IfErr, MatchOption, map, codes, true};
+ghost use Rattle.std.specs.Prelude.{◌≡◌, IfOk, IfErr, IfSome, IfNone, MatchOption, map, codes};
+ghost use Rattle.std.specs.Prelude.{true, false};
+ghost use Rattle.std.specs.List.{AllByRecursion};
 ghost use Rattle.pv_value.specs.Plain.{Plain, sequence, plains, pairs};
 ghost use Rattle.pv_value.specs.View.{key_and_value};
 ghost use Rattle.dp_pattern.specs.Words.{labelled};
-ghost use Rattle.rl_packet.specs.Grammar.{is_wire_reference, is_wired, all_wired, all_pairs_wired};
-ghost use Rattle.rl_packet.specs.Grammar.{is_peer, is_string, is_record, NoneIs, IsPacketOf};
+ghost use Rattle.rl_packet.specs.Wired.{is_wire_reference, is_wired, all_wired, all_pairs_wired};
+ghost use Rattle.rl_packet.specs.Wired.{is_peer, IsEvent, IsTurnEvent};
+ghost use Rattle.rl_packet.specs.Grammar.{is_string, is_record, NoneIs, IsPacketOf};
 ghost use Rattle.rl_packet.specs.Grammar.{IsTurnOf, IsTurnEventOf, IsEventOf, IsErrorOf};
 ghost use Rattle.rl_packet.specs.declared.reading.PacketFault.TheVariants as fault;
 
@@ -122,6 +125,52 @@ fn is_string(value: &Value) -> bool
     match &value.node {
         Node::Str(_) => true,
         _ => false,
+    }
+}
+
+/// Whether an event may stand in a packet.
+fn is_event(event: &Event) -> bool
+    ensures is { result ≡ true → IsEvent event.now }
+    ensures is_none { result ≡ false → IsEvent event.now → ⊥ }
+{
+    match event {
+        Event::Assert(value, handle) => is_wired(value) && *handle < 1 << 63,
+        Event::Retract(handle) => *handle < 1 << 63,
+        Event::Message(body) => is_wired(body),
+        Event::Sync(peer) => is_peer(peer),
+    }
+}
+
+fn is_turn_event(event: &TurnEvent) -> bool
+    ensures is { result ≡ true → IsTurnEvent event.now }
+    ensures is_none { result ≡ false → IsTurnEvent event.now → ⊥ }
+{
+    event.oid < 1 << 63 && is_event(&event.event)
+}
+
+fn are_turn_events(events: &[TurnEvent]) -> bool
+    ensures are { result ≡ true → AllByRecursion IsTurnEvent events.now }
+    ensures are_not { result ≡ false → AllByRecursion IsTurnEvent events.now → ⊥ }
+{
+    for event in events {
+        if !is_turn_event(event) {
+            return false;
+        }
+    }
+    true
+}
+
+impl Turn {
+    /// The turn of these events, where each may stand in a packet.
+    pub fn of_events(events: Vec<TurnEvent>) -> Option<Turn>
+        ensures turn { IfSome result (λ turn. turn ≡ events.items) }
+        ensures none { IfNone result (AllByRecursion IsTurnEvent events.items → ⊥) }
+    {
+        if are_turn_events(&events) {
+            Some(Turn::from_vec(events))
+        } else {
+            None
+        }
     }
 }
 

@@ -1,7 +1,7 @@
 -- Bytes of a connection come: its stream is taken out with them in it, and its packets are read; or they are dropped.
 use Rattle.std.proofs.Common.{◌≡◌, ℕ, Bool, true, false, List, sym, ap, ◌∙◌, unwrap_or, if◌then◌else◌}
 use Rattle.ac_world.specs.Worlds.{entry_of, without_entry}
-use Rattle.hub_core.specs.State.{is_there}
+use Rattle.hub_machine.specs.State.{is_there}
 use Rattle.sc_script.specs.Runs.{Running, RunState, StreamState, Decider, goes, no_stream, stream_of}
 use Rattle.sc_script.specs.Runs.{with_bytes, packets_read, without_stream, bytes_come, sent_of, IsAt}
 

@@ -1,6 +1,6 @@
 -- Courses: how the rest of one goes on with each part that is done, and how it ends or stops.
 use Rattle.std.proofs.Common.{◌≡◌, ℕ, zero, suc, refl, sym, ap, ◌∙◌, subst, Option, Some, None}
-use Rattle.hub_core.specs.Replays.{lowest}
+use Rattle.hub_machine.specs.Replays.{lowest}
 use Rattle.sc_script.specs.declared.faults.ScriptFault.{ScriptFault}
 use Rattle.sc_script.specs.declared.faults.ScriptFault.TheVariants as fault
 use Rattle.sc_script.specs.Runs.{Running, RunState, Course, goes, stops, goes_on, state_of, turned}
@@ -42,16 +42,16 @@ lowest_at r s a is at = ap lowest (sym at.state) ∙ is
 pub lowest_of : {s t : RunState} → s ≡ t → lowest t.state ≡ lowest s.state
 lowest_of is = ap (λ s. lowest s.state) (sym is)
 
-pub turn_first : (n m k a : ℕ) (s : RunState) → m ≡ suc k → lowest s.state ≡ Some a → (r : Running) → IsAt r s
-    → drained n m r ≡ goes_on (drained n k) (turned n a r)
-turn_first n m k a s more is r at =
-    ap (λ i. drained n i r) more
-    ∙ ap (λ o. goes_on (drained n k) (turned_where n o r)) (lowest_at r s (Some a) is at)
+pub turn_first : (m k a : ℕ) (s : RunState) → m ≡ suc k → lowest s.state ≡ Some a → (r : Running) → IsAt r s
+    → drained m r ≡ goes_on (drained k) (turned a r)
+turn_first m k a s more is r at =
+    ap (λ i. drained i r) more
+    ∙ ap (λ o. goes_on (drained k) (turned_where o r)) (lowest_at r s (Some a) is at)
 
-none_left : (n m : ℕ) (r : Running) → lowest (state_of r) ≡ None → drained n m r ≡ goes r
-none_left n zero r h = refl
-none_left n (suc m) r h = ap (λ o. goes_on (drained n m) (turned_where n o r)) h ∙ none_left n m r h
+none_left : (m : ℕ) (r : Running) → lowest (state_of r) ≡ None → drained m r ≡ goes r
+none_left zero r h = refl
+none_left (suc m) r h = ap (λ o. goes_on (drained m) (turned_where o r)) h ∙ none_left m r h
 
-pub drain_ends : (n m : ℕ) (s : RunState) → lowest s.state ≡ None → (r : Running) → IsAt r s
-    → drained n m r ≡ goes r
-drain_ends n m s is r at = none_left n m r (lowest_at r s None is at)
+pub drain_ends : (m : ℕ) (s : RunState) → lowest s.state ≡ None → (r : Running) → IsAt r s
+    → drained m r ≡ goes r
+drain_ends m s is r at = none_left m r (lowest_at r s None is at)

@@ -1,6 +1,6 @@
 -- The course of an event, where its test holds: that of the bytes, of the step or of the turn that it is.
 use Rattle.std.proofs.Common.{◌≡◌, ℕ, Bool, true, List, sym, ap, ◌∙◌, if◌then◌else◌}
-use Rattle.hub_core.specs.declared.steps.Step.TheVariants as step
+use Rattle.hub_machine.specs.declared.steps.Step.TheVariants as step
 use Rattle.sc_script.specs.Events.{ScriptEvent, Bytes, Close, Turn}
 use Rattle.sc_script.specs.Runs.{Running, Course, stops, bad, Decider, stepped, turned, bytes_come, was_opened}
 use Rattle.sc_script.specs.Runs.{may_turn, after_event}
@@ -21,5 +21,5 @@ module _ (N : Decider) (n : ℕ) (r : Running) where
   course_of_close k f is may = where_so _ _ may ∙ course_of_event (Close k) f is
 
   pub course_of_turn : (a : ℕ) (f : ScriptEvent) → f ≡ Turn a → may_turn a r ≡ true
-      → turned n a r ≡ after_event N n f r
+      → turned a r ≡ after_event N n f r
   course_of_turn a f is may = where_so _ _ may ∙ course_of_event (Turn a) f is

@@ -22,5 +22,4 @@ pub mod Replays
 pub mod Sending
 pub mod Stepping
 pub mod StoredBytes
-pub mod Tellings
 pub mod ValuesInTurn

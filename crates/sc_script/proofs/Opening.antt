@@ -3,9 +3,9 @@ use Rattle.std.proofs.Common.{◌≡◌, ◌≢◌, ℕ, zero, suc, pos, Bool, t
 use Rattle.std.proofs.Common.{ap, ◌∙◌, subst, arith, Option, Some, None, option_map, if◌then◌else◌}
 use Rattle.pv_value.specs.Plain.{Plain, integer, string, byte_string, symbol, record_of, Plains, no_more, then_more}
 use Rattle.dp_pattern.specs.Words.{is_word}
-use Rattle.sc_script.specs.Events.{ScriptEvent, Open, Bytes, Close, Turn, Drain, LongDrain, Schema, Unbuilt, name_in}
-use Rattle.sc_script.specs.Events.{open_event, close_event, turn_event, drain_event, schema_event, event_of_one}
-use Rattle.sc_script.specs.Events.{bytes_event, event_of_two, unbuilt_where, is_binding, is_watch, event_of_four}
+use Rattle.sc_script.specs.Events.{ScriptEvent, Open, Bytes, Close, Turn, Drain, LongDrain, name_in}
+use Rattle.sc_script.specs.Events.{open_event, drain_event, schema_event, event_of_one}
+use Rattle.sc_script.specs.Events.{event_of_two, unbuilt_where, is_binding, is_watch, event_of_four}
 use Rattle.sc_script.specs.Events.{event_of_record, event_of}
 use Rattle.sc_script.specs.Runs.{NamesASpace}
 

@@ -1,12 +1,11 @@
 -- A connection's packets: how a course goes on behind each that is read.
-use Rattle.std.proofs.Common.{◌≡◌, ℕ, zero, suc, ◌+◌, ◌<◌, List, length, drop, refl, sym, ap, ◌∙◌, subst, arith}
-use Rattle.std.proofs.Common.{Option, Some, None, Bool, true, false, cond, length-drop}
+use Rattle.std.proofs.Common.{◌≡◌, ℕ, refl, sym, ap, ◌∙◌, subst}
+use Rattle.std.proofs.Common.{Option, Some, None, true, false, cond}
 use Rattle.std.proofs.Common.{Result, Ok, Err, IfErr}
 use Rattle.std.specs.Result.{IsErrAnd}
-use Rattle.hub_core.specs.State.{is_there}
-use Rattle.rl_packet.specs.declared.packets.TurnEvent.{TurnEvent}
-use Rattle.sc_script.specs.Runs.{Running, StreamState, Cause, Course, goes, stops, goes_on, state_of, with_stream}
-use Rattle.sc_script.specs.Runs.{read_off, Decider, Decides, all_read, read_where, turn_sent, ReadsOn, RunState, IsAt}
+use Rattle.hub_machine.specs.State.{is_there}
+use Rattle.sc_script.specs.Runs.{Running, StreamState, Cause, Course, goes, stops, goes_on, with_stream}
+use Rattle.sc_script.specs.Runs.{read_where, ReadsOn, RunState, IsAt}
 use Rattle.sc_script.specs.Runs.{HasRun, StopsFor}
 
 -- what `?` passes on of a fault

@@ -5,11 +5,11 @@ use Rattle.std.proofs.lemmas.Grind.{flat_map-append}
 use Rattle.pv_binary.specs.Written.{written}
 use Rattle.rl_packet.specs.Packets.{packet_value}
 use Rattle.rl_packet.specs.declared.packets.Packet.{Packet}
-use Rattle.hub_core.specs.State.{State, opening}
-use Rattle.hub_core.specs.Machine.{step, IsAllowed}
-use Rattle.hub_core.specs.Replays.{run_from, replay, sent_by, packet_in}
-use Rattle.hub_core.specs.Lemmas.ReplayLaws.{replay-more, sent_to-more}
-use Rattle.hub_core.specs.declared.steps.Step.{Step}
+use Rattle.hub_machine.specs.State.{State, opening}
+use Rattle.hub_machine.specs.Machine.{step, IsAllowed}
+use Rattle.hub_machine.specs.Replays.{run_from, replay, sent_by, packet_in}
+use Rattle.hub_machine.specs.Lemmas.ReplayLaws.{replay-more, sent_to-more}
+use Rattle.hub_machine.specs.declared.steps.Step.{Step}
 use Rattle.hub_laws.specs.Laws.{AreAllowed}
 use Rattle.sc_script.specs.Runs.{Running, RunState, sent_of, IsAt, all_sent_from, spelled, sent_size}
 use Rattle.sc_script.specs.Runs.{with_step}

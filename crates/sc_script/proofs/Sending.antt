@@ -7,11 +7,11 @@ use Rattle.std.specs.Map.{lookup}
 use Rattle.std.specs.Ordering.{nat_cmp}
 use Rattle.ac_world.specs.Worlds.{actor_of}
 use Rattle.rl_packet.specs.declared.packets.Packet.{Packet}
-use Rattle.hub_core.specs.Replays.{packet_in, sent_by}
-use Rattle.hub_core.specs.declared.steps.Reply.{Reply}
-use Rattle.hub_core.specs.declared.steps.Reply.TheVariants.{Sent}
-use Rattle.hub_core.specs.declared.steps.Step.{Step}
-use Rattle.hub_core.specs.declared.steps.Step.TheVariants.{Arrive, Packet as Came, Bad, Close, Turn, Work, Stop}
+use Rattle.hub_machine.specs.Replays.{packet_in, sent_by}
+use Rattle.hub_machine.specs.declared.steps.Reply.{Reply}
+use Rattle.hub_machine.specs.declared.steps.Reply.TheVariants.{Sent}
+use Rattle.hub_machine.specs.declared.steps.Step.{Step}
+use Rattle.hub_machine.specs.declared.steps.Step.TheVariants.{Arrive, Packet as Came, Bad, Close, Turn, Work, Stop}
 use Rattle.sc_script.specs.Runs.{OutsState, sent_of, with_sent, kept, turning}
 
 pub lookup-insert_entry : {X : Type 0} (q k : ℕ) (v : X) (es : List (ℕ × X))

@@ -5,12 +5,12 @@ use Rattle.std.proofs.lemmas.Bool.Decides.{nat_tests}
 use Rattle.pv_binary.specs.Written.{written}
 use Rattle.rl_packet.specs.Packets.{packet_value}
 use Rattle.rl_packet.specs.declared.packets.Packet.{Packet}
-use Rattle.hub_core.specs.Machine.{step, IsAllowed}
-use Rattle.hub_core.specs.Replays.{packet_in, sent_by}
-use Rattle.hub_core.specs.declared.steps.Step.{Step}
-use Rattle.hub_core.specs.declared.steps.Reply.{Reply}
-use Rattle.hub_core.specs.declared.steps.Reply.TheVariants.{Worn, Barred, Halted, Full, Opened, Gone, Refused, Idle}
-use Rattle.hub_core.specs.declared.steps.Reply.TheVariants.{Sent, Ran, Taken}
+use Rattle.hub_machine.specs.Machine.{step, IsAllowed}
+use Rattle.hub_machine.specs.Replays.{packet_in, sent_by}
+use Rattle.hub_machine.specs.declared.steps.Step.{Step}
+use Rattle.hub_machine.specs.declared.steps.Reply.{Reply}
+use Rattle.hub_machine.specs.declared.steps.Reply.TheVariants.{Worn, Barred, Halted, Full, Opened, Gone, Refused, Idle}
+use Rattle.hub_machine.specs.declared.steps.Reply.TheVariants.{Sent, Ran, Taken}
 use Rattle.sc_script.specs.declared.faults.ScriptFault.{ScriptFault}
 use Rattle.sc_script.specs.declared.faults.ScriptFault.TheVariants as fault
 use Rattle.sc_script.specs.Runs.{Running, RunState, Course, goes, stops, limit, by_reply, stepped, with_step}

@@ -1,7 +1,8 @@
+pub mod Embedded
 pub mod Events
 pub mod Inputs
+pub mod Leavings
 pub mod Lemmas
-pub mod Reports
 pub mod Runs
 pub mod Scripts
 pub mod TextInputs

@@ -13,15 +13,15 @@ use Rattle.rl_packet.specs.declared.packets.TurnEvent.{TurnEvent}
 use Rattle.rl_stream.specs.declared.nexts.Next.{Next}
 use Rattle.rl_stream.specs.declared.nexts.Next.TheVariants as next
 use Rattle.rl_stream.specs.Nexts.{IsNext}
-use Rattle.hub_core.specs.declared.faults.Fault.TheVariants as fault
-use Rattle.hub_core.specs.Plainness.{is_plain}
-use Rattle.hub_core.specs.State.{State, opening, foreign, is_there}
-use Rattle.hub_core.specs.Machine.{step as step_of}
-use Rattle.hub_core.specs.Replays.{replay, sent_to, lowest, packet_in}
-use Rattle.hub_core.specs.declared.steps.Step.{Step}
-use Rattle.hub_core.specs.declared.steps.Step.TheVariants as step
-use Rattle.hub_core.specs.declared.steps.Reply.{Reply}
-use Rattle.hub_core.specs.declared.steps.Reply.TheVariants as reply
+use Rattle.hub_machine.specs.declared.faults.Fault.TheVariants as fault
+use Rattle.hub_machine.specs.Bareness.{are_bare}
+use Rattle.hub_machine.specs.State.{State, opening, is_there}
+use Rattle.hub_machine.specs.Machine.{step as step_of}
+use Rattle.hub_machine.specs.Replays.{replay, sent_to, lowest, packet_in}
+use Rattle.hub_machine.specs.declared.steps.Step.{Step}
+use Rattle.hub_machine.specs.declared.steps.Step.TheVariants as step
+use Rattle.hub_machine.specs.declared.steps.Reply.{Reply}
+use Rattle.hub_machine.specs.declared.steps.Reply.TheVariants as reply
 use Rattle.hub_laws.specs.Laws.{AreAllowed}
 use Rattle.sc_script.specs.declared.faults.ScriptFault.{ScriptFault}
 use Rattle.sc_script.specs.declared.faults.ScriptFault.TheVariants as script
@@ -92,18 +92,18 @@ by_reply answer r = goes r
 abbrev pub stepped : Step → Running → Course
 stepped e r = by_reply (step_of (state_of r) e).reply (with_step e r)
 
--- in event n a turn of an actor; one that would tell a connection of another's object isn't built
-abbrev pub turned : ℕ → ℕ → Running → Course
-turned n a r = if foreign a (state_of r) then stops (not_built n) else stepped (step.Turn a) r
+-- a turn of an actor
+abbrev pub turned : ℕ → Running → Course
+turned a r = stepped (step.Turn a) r
 
-abbrev pub turned_where : ℕ → Option ℕ → Running → Course
-turned_where n None r = goes r
-turned_where n (Some a) r = turned n a r
+abbrev pub turned_where : Option ℕ → Running → Course
+turned_where None r = goes r
+turned_where (Some a) r = turned a r
 
 -- so many turns of the lowest actor with work
-abbrev pub drained : ℕ → ℕ → Running → Course
-drained n zero r = goes r
-drained n (suc m) r = goes_on (drained n m) (turned_where n (lowest (state_of r)) r)
+abbrev pub drained : ℕ → Running → Course
+drained zero r = goes r
+drained (suc m) r = goes_on (drained m) (turned_where (lowest (state_of r)) r)
 
 -- ---- bytes
 
@@ -131,9 +131,9 @@ Decides N = (rest : List ℕ) (place : ℕ) → AreBytes rest → IsNext rest pl
 abbrev pub HasDecider : Type 0
 HasDecider = (N : Decider) × Decides N
 
--- in event n a turn of connection k; one that isn't plain isn't built
+-- in event n a turn of connection k; one that names caveats isn't built
 abbrev pub turn_sent : ℕ → ℕ → List TurnEvent → Running → Course
-turn_sent n k es r = if is_plain es then stepped (step.Packet k es) r else stops (not_built n)
+turn_sent n k es r = if are_bare es then stepped (step.Packet k es) r else stops (not_built n)
 
 -- more is read where the connection is still there; st is its stream
 abbrev pub read_where : ℕ → StreamState → (Running → Course) → Running → Course
@@ -195,8 +195,8 @@ abbrev pub after_event : Decider → ℕ → ScriptEvent → Running → Course
 after_event N n (Open s) r = stepped (step.Arrive s) r
 after_event N n (Bytes k b) r = if was_opened k r then bytes_come N n k b r else stops (bad n)
 after_event N n (Close k) r = if was_opened k r then stepped (step.Close k) r else stops (bad n)
-after_event N n (Turn a) r = if may_turn a r then turned n a r else stops (bad n)
-after_event N n (Drain m) r = drained n m r
+after_event N n (Turn a) r = if may_turn a r then turned a r else stops (bad n)
+after_event N n (Drain m) r = drained m r
 after_event N n LongDrain r = stops (limit 3)
 after_event N n Schema r = if n == 0 then stops (not_built 0) else stops (bad n)
 after_event N n Unbuilt r = stops (not_built n)

@@ -4,7 +4,7 @@ use Rattle.std.specs.Prelude.{◌≡◌, ℕ, ◌<◌, ◌≤◌, ◌⊎◌, Boo
 use Rattle.std.specs.Prelude.{Option, Some, None}
 use Rattle.std.specs.Str.{IsUtf8}
 use Rattle.pv_value.specs.Plain.{Plain}
-use Rattle.hub_core.specs.State.{opening}
+use Rattle.hub_machine.specs.State.{opening}
 use Rattle.hub_laws.specs.Laws.{AreAllowed}
 use Rattle.sc_script.specs.declared.faults.ScriptFault.{ScriptFault}
 use Rattle.sc_script.specs.declared.scripts.Form.{Form}
@@ -13,7 +13,8 @@ use Rattle.sc_script.specs.Inputs.{AreRead}
 use Rattle.sc_script.specs.TextInputs.{AreTextRead}
 use Rattle.sc_script.specs.Runs.{Decider, Decides, Cause, limit, Course, goes, stops, course_of, Running, RunState}
 use Rattle.sc_script.specs.Runs.{IsAt, cause_in}
-use Rattle.sc_script.specs.Reports.{RanState, ran_of}
+use Rattle.sc_report.specs.Reports.{RanState}
+use Rattle.sc_script.specs.Leavings.{ran_of}
 
 -- no value is read of what isn't UTF-8
 abbrev pub IsNoText : List ℕ → List Plain → Bool → Type 0

@@ -1,7 +1,7 @@
 //! What a run leaves.
 ghost use Rattle.std.specs.Prelude.{◌≡◌, ℕ, IfOk, IfErr};
 ghost use Rattle.sc_script.specs.Runs.{Running, IsAt, spelled as spelled_bytes};
-ghost use Rattle.sc_script.specs.Reports.{connection_after, connections_after, ran_of};
+ghost use Rattle.sc_script.specs.Leavings.{connection_after, connections_after, ran_of};
 ghost use Rattle.sc_script.specs.Scripts.{LeavesAs, StopsAt};
 
 use crate::faults::ScriptFault;
@@ -10,51 +10,9 @@ use crate::scripts::{Form, run_of};
 use ds_space::Space;
 use pv_binary::write_into;
 use pv_value::{Blob, NoMemory};
-use rl_packet::{Holding, Packet, held, packet_value};
+use rl_packet::{Packet, held, packet_value};
+use sc_report::{Connection, Ran};
 use std::alloc::Global;
-use std::marker::Model;
-
-/// What a run leaves of a connection.
-#[derive(Drop)]
-pub struct Connection {
-    /// Whether it is there.
-    pub live: bool,
-    /// The written spellings of the packets that it was sent, one behind another.
-    pub out: Blob,
-    /// What its peer holds by them, by object and then handle.
-    pub held: Vec<Holding>,
-}
-
-impl Model for Connection {
-    ghost use Rattle.std.specs.Coded.{codes};
-    ghost use Rattle.pv_value.specs.Lemmas.Coded.{plain_code};
-    ghost use Rattle.sc_script.specs.Reports.{ConnectionState};
-
-    ghost Value = { ConnectionState };
-
-    ghost coded = { Prim.hlevel (codes, plain_code) };
-
-    ghost view = { λ c. record { live = c.live; out = c.out; held = c.held.items } };
-}
-
-/// What a run leaves: how many batches and errors wait, and the connections from number 1 on.
-#[derive(Drop)]
-pub struct Ran {
-    pub pending: u64,
-    pub connections: Vec<Connection>,
-}
-
-impl Model for Ran {
-    ghost use Rattle.std.specs.Coded.{codes};
-    ghost use Rattle.pv_value.specs.Lemmas.Coded.{plain_code};
-    ghost use Rattle.sc_script.specs.Reports.{RanState};
-
-    ghost Value = { RanState };
-
-    ghost coded = { Prim.hlevel (codes, plain_code) };
-
-    ghost view = { λ r. record { pending = r.pending; connections = r.connections.items } };
-}
 
 /// The written spellings of packets, one behind another.
 fn spelled(alloc: Global, packets: &[Packet]) -> Result<Blob, NoMemory>

@@ -1,6 +1,6 @@
 //! Runs of scripts, over any body of a dataspace.
 ghost use Rattle.std.specs.Prelude.{◌≡◌, ◌≢◌, ◌+◌, ◌<◌, ◌≤◌, ℕ, IfOk, IfErr, IfSome};
-ghost use Rattle.hub_core.specs.Machine.{IsAllowed};
+ghost use Rattle.hub_machine.specs.Machine.{IsAllowed};
 ghost use Rattle.sc_script.specs.declared.faults.ScriptFault.TheVariants as fault;
 ghost use Rattle.sc_script.specs.Events.{event_of};
 ghost use Rattle.sc_script.specs.Runs.{Running, Decider, Decides, Course, goes, beginning, stepped};
@@ -16,7 +16,7 @@ use crate::faults::ScriptFault;
 use crate::outs::Outs;
 use crate::streams::{Stream, Streams};
 use ds_space::Space;
-use hub_core::{Fault, Hub, Reply, Step, plain};
+use hub_core::{Fault, Hub, Reply, Step, bare};
 use pv_binary::write_into;
 use pv_value::{NoMemory, Value};
 use rl_packet::{Packet, Turn, packet_value};
@@ -155,28 +155,25 @@ impl<S: Space + Drop> Run<S> {
         }
     }
 
-    /// A turn of an actor, in event `place`.
-    fn turn(self, alloc: Global, place: u64, actor: u32) -> Result<Run<S>, ScriptFault>
-        ensures run { IfOk result (RunsAs self (λ N. turned place actor)) }
-        ensures stop { IfErr result (StopsAs self (λ N. turned place actor)) }
+    /// A turn of an actor.
+    fn turn(self, alloc: Global, actor: u32) -> Result<Run<S>, ScriptFault>
+        ensures run { IfOk result (RunsAs self (λ N. turned actor)) }
+        ensures stop { IfErr result (StopsAs self (λ N. turned actor)) }
     {
-        if self.hub.foreign(actor) {
-            return Err(ScriptFault::NotBuilt(place));
-        }
         self.step(alloc, Step::Turn(actor))
     }
 
-    /// Up to so many turns of the lowest actor that has work, in event `place`.
-    fn drain(self, alloc: Global, place: u64, turns: u64) -> Result<Run<S>, ScriptFault>
-        ensures run { IfOk result (RunsAs self (λ N. drained place turns)) }
-        ensures stop { IfErr result (StopsAs self (λ N. drained place turns)) }
+    /// Up to so many turns of the lowest actor that has work.
+    fn drain(self, alloc: Global, turns: u64) -> Result<Run<S>, ScriptFault>
+        ensures run { IfOk result (RunsAs self (λ N. drained turns)) }
+        ensures stop { IfErr result (StopsAs self (λ N. drained turns)) }
     {
         let mut run = self;
         for _ in 0..turns {
             let Some(actor) = run.hub.lowest() else {
                 return Ok(run);
             };
-            run = run.turn(alloc, place, actor)?;
+            run = run.turn(alloc, actor)?;
         }
         Ok(run)
     }
@@ -211,7 +208,7 @@ impl<S: Space + Drop> Run<S> {
         ensures run { IfOk result (RunsAs self (λ N. turn_sent place connection turn)) }
         ensures stop { IfErr result (StopsAs self (λ N. turn_sent place connection turn)) }
     {
-        if !plain(&turn) {
+        if !bare(&turn) {
             return Err(ScriptFault::NotBuilt(place));
         }
         self.step(alloc, Step::Packet(connection, turn))
@@ -364,8 +361,8 @@ impl<S: Space + Drop> Run<S> {
             ScriptEvent::Close(connection) if self.was_opened(connection) => {
                 self.step(alloc, Step::Close(connection))
             }
-            ScriptEvent::Turn(actor) if self.may_turn(actor) => self.turn(alloc, place, actor),
-            ScriptEvent::Drain(turns) => self.drain(alloc, place, turns),
+            ScriptEvent::Turn(actor) if self.may_turn(actor) => self.turn(alloc, actor),
+            ScriptEvent::Drain(turns) => self.drain(alloc, turns),
             ScriptEvent::LongDrain => Err(ScriptFault::Limit(3)),
             ScriptEvent::Schema if place == 0 => Err(ScriptFault::NotBuilt(0)),
             ScriptEvent::Unbuilt => Err(ScriptFault::NotBuilt(place)),

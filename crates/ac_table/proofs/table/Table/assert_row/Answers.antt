@@ -1,5 +1,6 @@
-use Rattle.std.proofs.Common.{◌≡◌, ◌∙◌, sym, ap, refl, subst, List, ℕ, true, false}
-use Rattle.ac_table.specs.Kept.{IsKept}
+use Rattle.std.proofs.Common.{◌≡◌, ◌∙◌, ◌<◌, sym, ap, refl, subst, List, ℕ, true, false}
+use Rattle.std.specs.List.{AllByRecursion}
+use Rattle.ac_table.specs.Kept.{IsKept, state_of}
 use Rattle.ac_table.specs.Tables.{Row, is_live}
 use Rattle.ac_table.specs.declared.table.Seat.{Seat}
 use Rattle.ac_table.proofs.Becomes.{asserted_is}
@@ -15,10 +16,14 @@ returns-in_default-clause-fault c = let i = c.self.inside in
     absurd cc
 
 pub put_row-requires-clause-above : goal.put_row-requires-clause-above
-put_row-requires-clause-above c = keys_below _ _ _ _ c.self.invariant
+put_row-requires-clause-above c =
+    subst (λ n. AllByRecursion (λ e. e.0 < n) c.self.inside.rows.entries) (sym c.get-handle.ensures.handle)
+    (keys_below _ _ _ _ c.self.invariant)
 
 pub put_row-requires-clause-above_own : goal.put_row-requires-clause-above_own
-put_row-requires-clause-above_own c = own_below c.args.owner _ _ _ _ _ c.self.invariant (sym c.in-Some.ensures.value)
+put_row-requires-clause-above_own c =
+    subst (λ n. AllByRecursion (λ h. h < n) c.in-Some.seat.now.own.keys) (sym c.get-handle.ensures.handle)
+    (own_below c.args.owner _ _ _ _ _ c.self.invariant (sym c.in-Some.ensures.value))
 
 pub invariant_of-self-in_err-put_row : goal.invariant_of-self-in_err-put_row
 invariant_of-self-in_err-put_row c = let i = c.self.inside in
@@ -37,14 +42,17 @@ invariant_of-self-2 c = let i = c.self.inside in
     let new = c.get_mut.follows.lender t in
     let re = reseated_from c.args.owner c.in-Some.seat.now t i.seats new (sym c.in-Some.ensures.value)
     (c.get_mut.follows.holds t) in
-    kept_asserted i.next c.in-Some.seat.now t _ i.rows.entries c.put_row.new.rows.entries i.seats.entries new.entries
-    i.busy.keys c.self.invariant re c.in_ok-put_row.ensures.own refl refl c.in_ok-put_row.ensures.rows
-    c.in_ok-put_row.ensures.ordered
+    subst (λ n. IsKept n c.put_row.new.rows.entries new.entries i.busy.keys) (sym c.advance.ensures)
+    (kept_asserted i.next c.in-Some.seat.now t _ i.rows.entries c.put_row.new.rows.entries i.seats.entries new.entries
+    i.busy.keys c.self.invariant re c.in_ok-put_row.ensures.own refl c.get-handle.ensures.handle
+    c.in_ok-put_row.ensures.rows c.in_ok-put_row.ensures.ordered)
 
 pub returns-clause-made : goal.returns-clause-made
 returns-clause-made c = let i = c.self.inside in
     let t : Seat = record { own = c.put_row.new.own; inbox = c.in-Some.seat.now.inbox } in
     let new = c.get_mut.follows.lender t in
     let w = c.get_mut.follows.holds t in
-    asserted_is c.args.owner i.next c.in-Some.seat.now t _ i.rows.entries c.put_row.new.rows.entries i.seats.entries
-    new.entries _ c.self.view_is refl refl c.in_ok-put_row.ensures.rows (sym c.in-Some.ensures.value) refl w.0
+    ap (λ n. state_of n c.put_row.new.rows.entries new.entries) c.advance.ensures
+    ∙ asserted_is c.args.owner i.next c.in-Some.seat.now t _ i.rows.entries c.put_row.new.rows.entries i.seats.entries
+    new.entries _ c.self.view_is c.get-handle.ensures.handle refl c.in_ok-put_row.ensures.rows
+    (sym c.in-Some.ensures.value) refl w.0

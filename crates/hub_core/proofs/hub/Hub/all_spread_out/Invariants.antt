@@ -1,5 +1,6 @@
+-- Those so far that spread have ended.
 use Rattle.std.proofs.Common.{◌≡◌, drop}
-use Rattle.hub_core.specs.Endings.{all_spread_out}
+use Rattle.hub_machine.specs.Endings.{all_spread_out}
 use Rattle.hub_core.proofs.hub.Hub.all_spread_out.Given as goal
 
 -- what is left to be done leads to what all leads to

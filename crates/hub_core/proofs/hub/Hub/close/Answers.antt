@@ -1,7 +1,8 @@
-use Rattle.std.proofs.Common.{subst, sym}
-use Rattle.hub_core.proofs.Small.{AreSmall, small_without}
+-- A connection that names nothing any more leaves the rest as it was.
+use Rattle.hub_core.proofs.Keeping.{kept_without}
 use Rattle.hub_core.proofs.hub.Hub.close.Goals as goal
 
 pub invariant_of-self : goal.invariant_of-self
 invariant_of-self g c =
-    (subst AreSmall (sym c.remove.ensures.entries) (small_without _ _ c.self.invariant.0), c.self.invariant.1)
+    kept_without c.args.connection c.self.inside.world c.self.inside.connections.entries c.remove.new.self.entries
+    c.self.inside.faults.entries c.remove.ensures.entries c.self.invariant

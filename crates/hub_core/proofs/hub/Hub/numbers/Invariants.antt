@@ -1,3 +1,4 @@
+-- The numbers are gone through in order.
 use Rattle.std.proofs.Common.{◌≡◌, ◌++◌}
 use Rattle.std.specs.Map.{keys_of}
 use Rattle.hub_core.proofs.hub.Hub.numbers.Given as goal

@@ -1,3 +1,4 @@
+-- A connection that names something has a small number.
 use Rattle.std.proofs.Common.{ap, sym, ◌∙◌, option_copied, arith, ◌≤◌, ◌^◌}
 use Rattle.hub_core.proofs.Small.{small_at}
 use Rattle.hub_core.proofs.hub.Hub.ports.Goals as goal

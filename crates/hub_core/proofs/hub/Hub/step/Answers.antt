@@ -1,4 +1,5 @@
-use Rattle.hub_core.proofs.Completing.{complete_done}
+-- What is never refused.
+use Rattle.hub_machine.specs.Lemmas.Completing.{complete_done}
 use Rattle.hub_core.proofs.hub.Hub.step.Goals as goal
 
 pub returns-clause-complete : goal.returns-clause-complete

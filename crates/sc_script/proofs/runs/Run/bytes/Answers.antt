@@ -1,7 +1,7 @@
 -- Bytes of a connection: its stream is taken out with them in it, and its packets are read from there on.
 use Rattle.std.proofs.Common.{◌≡◌, true, false, sym, ap, ◌∙◌, subst, unwrap_or}
 use Rattle.ac_world.specs.Worlds.{entry_of, without_entry}
-use Rattle.hub_core.specs.State.{is_there}
+use Rattle.hub_machine.specs.State.{is_there}
 use Rattle.sc_script.specs.Runs.{RunState, no_stream, with_bytes, without_stream, HasRun, IsStopped}
 use Rattle.sc_script.proofs.FaultsPassed.{ok_too, err_too}
 use Rattle.sc_script.proofs.Coming.{taken_out, all_dropped, all_come}

@@ -7,4 +7,4 @@ use Rattle.sc_script.proofs.runs.Run.drain.Given as goal
 abbrev pub invariant-loop : goal.invariant-loop
 invariant-loop g l =
     (N : Decider) → Decides N → (r : Running) → IsAt r l.fn.self
-    → GoesOn (drained l.place l.turns r) (drained l.place (l.turns - l.counter)) l.run
+    → GoesOn (drained l.turns r) (drained (l.turns - l.counter)) l.run

@@ -1,6 +1,6 @@
 -- Each event: its course is that of the step, of the bytes, of the turn or of the turns that it is.
 use Rattle.std.proofs.Common.{sym, ap, ◌∙◌}
-use Rattle.hub_core.specs.declared.steps.Step.TheVariants as step
+use Rattle.hub_machine.specs.declared.steps.Step.TheVariants as step
 use Rattle.sc_script.specs.Events.{Open, Bytes, Drain}
 use Rattle.sc_script.specs.Runs.{stepped, turned, drained, bytes_come, after_event}
 use Rattle.sc_script.proofs.PartsPassed.{runs_so, stops_so}
@@ -60,7 +60,7 @@ returns-in-Close-clause-stop g c =
 pub returns-in-Turn-clause-run : goal.returns-in-Turn-clause-run
 returns-in-Turn-clause-run g c =
     let n = c.args.place in
-    runs_so c.args.self (λ N. turned n c.in-Turn.actor) (λ N. after_event N n c.args.event) (λ N r at.
+    runs_so c.args.self (λ N. turned c.in-Turn.actor) (λ N. after_event N n c.args.event) (λ N r at.
     course_of_turn N n r c.in-Turn.actor c.args.event c.in-Turn.is
     (sym (c.if-may_turn.ensures r at)))
     c.turn.result c.turn.ensures.run
@@ -68,7 +68,7 @@ returns-in-Turn-clause-run g c =
 pub returns-in-Turn-clause-stop : goal.returns-in-Turn-clause-stop
 returns-in-Turn-clause-stop g c =
     let n = c.args.place in
-    stops_so c.args.self (λ N. turned n c.in-Turn.actor) (λ N. after_event N n c.args.event) (λ N r at.
+    stops_so c.args.self (λ N. turned c.in-Turn.actor) (λ N. after_event N n c.args.event) (λ N r at.
     course_of_turn N n r c.in-Turn.actor c.args.event c.in-Turn.is
     (sym (c.if-may_turn.ensures r at)))
     c.turn.result c.turn.ensures.stop
@@ -76,13 +76,13 @@ returns-in-Turn-clause-stop g c =
 pub returns-in-Drain-clause-run : goal.returns-in-Drain-clause-run
 returns-in-Drain-clause-run g c =
     let n = c.args.place in
-    runs_so c.args.self (λ N. drained n c.in-Drain.turns) (λ N. after_event N n c.args.event) (λ N r at.
+    runs_so c.args.self (λ N. drained c.in-Drain.turns) (λ N. after_event N n c.args.event) (λ N r at.
     course_of_event N n r (Drain c.in-Drain.turns) c.args.event c.in-Drain.is)
     c.drain.result c.drain.ensures.run
 
 pub returns-in-Drain-clause-stop : goal.returns-in-Drain-clause-stop
 returns-in-Drain-clause-stop g c =
     let n = c.args.place in
-    stops_so c.args.self (λ N. drained n c.in-Drain.turns) (λ N. after_event N n c.args.event) (λ N r at.
+    stops_so c.args.self (λ N. drained c.in-Drain.turns) (λ N. after_event N n c.args.event) (λ N r at.
     course_of_event N n r (Drain c.in-Drain.turns) c.args.event c.in-Drain.is)
     c.drain.result c.drain.ensures.stop

@@ -1,5 +1,5 @@
-use Rattle.std.proofs.Common.{◌≡◌, sym, ap, ◌∙◌}
-use Rattle.hub_core.specs.State.{is_there}
+use Rattle.std.proofs.Common.{sym, ap, ◌∙◌}
+use Rattle.hub_machine.specs.State.{is_there}
 use Rattle.sc_script.specs.Runs.{RunState, with_stream}
 use Rattle.sc_script.proofs.Reading.{err_so, stops_first, reads_more, reads_no_more}
 use Rattle.sc_script.proofs.runs.Run.packet.Goals as goal

@@ -1,6 +1,6 @@
 use Rattle.std.proofs.Common.{◌≡◌, ◌≤◌, ◌<◌, ◌+◌, sym, ap, ◌∙◌, subst}
-use Rattle.hub_core.specs.Machine.{step}
-use Rattle.hub_core.specs.declared.steps.Reply.TheVariants.{Sent}
+use Rattle.hub_machine.specs.Machine.{step}
+use Rattle.hub_machine.specs.declared.steps.Reply.TheVariants.{Sent}
 use Rattle.sc_script.specs.Runs.{stepped, kept, turning, size_of}
 use Rattle.sc_script.proofs.FaultsPassed.{err_so}
 use Rattle.sc_script.proofs.Stepping.{quiet, goes_quietly, goes_sending, stops_sending, stops_for}

@@ -1,4 +1,4 @@
-use Rattle.std.proofs.Common.{◌≡◌, sym, subst, IfOk, IfErr}
+use Rattle.std.proofs.Common.{sym, subst, IfOk, IfErr}
 use Rattle.sc_script.specs.Runs.{with_stream, with_no_packet, HasRun, IsStopped, RunsAs, StopsAs}
 use Rattle.sc_script.proofs.FaultsPassed.{ok_too, err_too}
 use Rattle.sc_script.proofs.NoPackets.{not_bad}

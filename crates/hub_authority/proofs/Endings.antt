@@ -1,0 +1,132 @@
+-- What is left of a connection's names, where others or it itself end: the same exports, or nothing.
+use Rattle.std.proofs.Common.{◌≡◌, ℕ, List, [], ◌∷◌, ◌==◌, Bool, true, false, cond, Option, Some, None}
+use Rattle.std.proofs.Common.{refl, ap, sym, ◌∙◌, arith, ◌-◌, ◌&&◌}
+use Rattle.std.specs.Prelude.{nat_le}
+use Rattle.std.proofs.lemmas.Bool.Decides.{nat_tests}
+use Rattle.std.specs.Map.{keys_of}
+use Rattle.ac_table.specs.Tables.{is_live}
+use Rattle.ac_world.specs.declared.spreads.Spread.{Spread as SpreadOf}
+use Rattle.ac_world.specs.Worlds.{WorldState, actor_of, entry_of, without_entry, ended_of, gone}
+use Rattle.rl_ports.specs.Ports.{PortsState}
+use Rattle.hub_machine.specs.declared.faults.Fault.{Fault}
+use Rattle.hub_machine.specs.declared.faults.Fault.TheVariants.{Spread}
+use Rattle.hub_machine.specs.State.{State, ports_of, is_there}
+use Rattle.hub_machine.specs.Endings.{closed, failed, failed_where, spread_out}
+use Rattle.hub_machine.specs.Endings.{all_spread_out, overrun_of, all_overrun, finished}
+use Rattle.hub_authority.proofs.Actors.{live_ended}
+use Rattle.hub_authority.proofs.Entries.{out_other}
+
+-- what connection k had before, with the same exports
+pub record HadThem (k : ℕ) (s : State) (p : PortsState) : Type 0 where
+  pub before : PortsState
+  pub there : ports_of k s ≡ Some before
+  pub same : p.exports ≡ before.exports
+
+-- from s to t: no connection comes, and the exports of k are what they were, or it names nothing
+pub record Keeps (k : ℕ) (s t : State) : Type 0 where
+  pub opened : t.world.opened ≡ s.world.opened
+  pub live : is_live (actor_of k) s.world.table ≡ false → is_live (actor_of k) t.world.table ≡ false
+  pub named : (p : PortsState) → ports_of k t ≡ Some p → HadThem k s p
+
+pub keeps_all : (k : ℕ) (s : State) → Keeps k s s
+keeps_all k s = record {
+  opened = refl;
+  live = λ is. is;
+  named = λ p is. record { before = p; there = is; same = refl };
+}
+
+pub keeps_then : (k : ℕ) (s t u : State) → Keeps k s t → Keeps k t u → Keeps k s u
+keeps_then k s t u first later = record {
+  opened = later.opened ∙ first.opened;
+  live = λ is. later.live (first.live is);
+  named = λ p is.
+      let l = later.named p is in
+      let f = first.named l.before l.there in
+      record { before = f.before; there = f.there; same = l.same ∙ f.same };
+}
+
+-- ---- one connection ends
+
+opened_ended : (a : ℕ) (w : WorldState) → (ended_of a w).opened ≡ w.opened
+opened_ended a w = by (is_live a w.table)
+  where
+    by : (c : Bool) → (cond c (gone a w) w).opened ≡ w.opened
+    by true = refl
+    by false = refl
+
+still_dead : (b : Bool) (old new : Bool) → new ≡ cond b false old → old ≡ false → new ≡ false
+still_dead true old new is dead = is
+still_dead false old new is dead = is ∙ dead
+
+-- a name among those of a state with fewer live actors and fewer names
+fewer : (b c : Bool) (o q : Option PortsState) (p : PortsState) → (b ≡ true → c ≡ true) → (o ≡ Some p → q ≡ Some p)
+    → cond b o None ≡ Some p → cond c q None ≡ Some p
+fewer true c o q p live names is = rw (live refl) (names is)
+fewer false c o q p live names is = absurd cc
+
+was_live : (b old new : Bool) → new ≡ cond b false old → new ≡ true → old ≡ true
+was_live true old new is live = absurd cc
+was_live false old new is live = sym is ∙ live
+
+same_actors : (k j : ℕ) → (k == j) ≡ true → (actor_of k == actor_of j) ≡ true
+same_actors k j e = grind (arith, nat_tests, e)
+
+none_there : (o : Option PortsState) (b : Bool) (p : PortsState) → b ≡ false → cond b o None ≡ Some p → ⊥
+none_there o true p dead is = cc
+none_there o false p dead is = cc
+
+pub keeps_failed : (k j : ℕ) (f : Fault) (s : State) → Keeps k s (failed j f s)
+keeps_failed k j f s = record {
+  opened = opened_ended (actor_of j) s.world;
+  live = λ is. still_dead _ _ _ (live_ended (actor_of k) (actor_of j) s.world) is;
+  named = λ p is. record { before = p; there = by (k == j) refl p is; same = refl };
+}
+  where
+    by : (b : Bool) → (k == j) ≡ b → (p : PortsState) → ports_of k (failed j f s) ≡ Some p → ports_of k s ≡ Some p
+    by true same p is =
+        let dead : is_live (actor_of k) (ended_of (actor_of j) s.world).table ≡ false =
+        live_ended (actor_of k) (actor_of j) s.world
+        ∙ ap (λ b. cond b false (is_live (actor_of k) s.world.table)) (same_actors k j same) in
+        absurd (none_there (entry_of k (without_entry j s.connections)) _ p dead is)
+    by false other p is =
+        fewer _ _ _ _ p
+        (was_live (actor_of k == actor_of j) _ _ (live_ended (actor_of k) (actor_of j) s.world))
+        (λ e. sym (out_other j k s.connections (λ same. grind (arith, nat_tests, other, same))) ∙ e) is
+
+pub keeps_closed : (k j : ℕ) (s : State) → Keeps k s (closed j s)
+keeps_closed k j s =
+    let failing = keeps_failed k j (Spread 0) s in
+    record { opened = failing.opened; live = failing.live; named = failing.named }
+
+-- ---- the end of a step
+
+-- what stays true where a connection fails is true at the end of a step
+module _ (P : State → Type 0) (fails : (k : ℕ) (f : Fault) (s : State) → P s → P (failed k f s)) where
+  spread_keeps : (x : SpreadOf) (s : State) → P s → P (spread_out x s)
+  spread_keeps x s p = by (nat_le 17 x.actor && is_there (x.actor - 16) s)
+    where
+      by : (b : Bool) → P (cond b (failed (x.actor - 16) (Spread x.weight) s) s)
+      by true = fails (x.actor - 16) (Spread x.weight) s p
+      by false = p
+
+  all_spread_keeps : (xs : List SpreadOf) (s : State) → P s → P (all_spread_out xs s)
+  all_spread_keeps [] s p = p
+  all_spread_keeps (x ∷ xs) s p = all_spread_keeps xs (spread_out x s) (spread_keeps x s p)
+
+  where_keeps : (k : ℕ) (o : Option Fault) (s : State) → P s → P (failed_where k o s)
+  where_keeps k None s p = p
+  where_keeps k (Some f) s p = fails k f s p
+
+  overrun_keeps : (ks : List ℕ) (s : State) → P s → P (all_overrun ks s)
+  overrun_keeps [] s p = p
+  overrun_keeps (k ∷ ks) s p =
+      overrun_keeps ks (failed_where k (overrun_of k s) s) (where_keeps k (overrun_of k s) s p)
+
+  pub finished_keeps : (xs : List SpreadOf) (s : State) → P s → P (finished xs s)
+  finished_keeps xs s p =
+      overrun_keeps (keys_of (all_spread_out xs s).connections) (all_spread_out xs s) (all_spread_keeps xs s p)
+
+pub keeps_finished : (k : ℕ) (xs : List SpreadOf) (s : State) → Keeps k s (finished xs s)
+keeps_finished k xs s =
+    finished_keeps (Keeps k s) (λ j f t kept. keeps_then k s t (failed j f t) kept (keeps_failed k j f t)) xs s
+    (keeps_all k s)

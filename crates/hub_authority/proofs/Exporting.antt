@@ -1,0 +1,145 @@
+-- A connection's exports are its first object and the objects of others of which it was told.
+use Rattle.std.proofs.Common.{◌≡◌, ℕ, ◌+◌, ◌<◌, ◌≤◌, List, [], ◌∷◌, ◌++◌, false}
+use Rattle.std.proofs.Common.{Option, Some, None, ◌⊎◌, inl, inr, refl, ap, sym, ◌∙◌, subst, arith}
+use Rattle.std.proofs.lemmas.List.{append-nil, append_assoc}
+use Rattle.std.specs.List.{flat_map}
+use Rattle.std.specs.Option.{option_or}
+use Rattle.ds_space.specs.declared.references.Reference.{Reference}
+use Rattle.ac_table.specs.declared.batches.Batch.{Batch}
+use Rattle.ac_table.specs.Tables.{is_live}
+use Rattle.ac_world.specs.Worlds.{actor_of}
+use Rattle.rl_ports.specs.Ports.{PortsState}
+use Rattle.rl_wire.specs.Crossing.{all_exported}
+use Rattle.rl_wire.specs.Lemmas.Exporting.{all_exported-more}
+use Rattle.hub_machine.specs.State.{State, opening, ports_of}
+use Rattle.hub_machine.specs.Machine.{step, foreign_to}
+use Rattle.hub_machine.specs.Replays.{run_from, replay}
+use Rattle.hub_machine.specs.declared.steps.Step.{Step}
+use Rattle.hub_authority.specs.Named.{told_by, told_from, first_by, first_from, objects_told, AreItsOwn}
+use Rattle.hub_authority.proofs.Endings.{Keeps}
+use Rattle.hub_authority.proofs.Lists.{flat_map_append}
+
+-- ---- one step
+
+-- connection k has come with its first object
+pub record CameWith (k : ℕ) (s : State) (told : List Batch) (first : Option Reference) (p : PortsState) : Type 0 where
+  pub object : Reference
+  pub next : k ≡ s.world.opened + 1
+  pub is_first : first ≡ Some object
+  pub untold : told ≡ []
+  pub exports : p.exports ≡ object ∷ []
+
+-- connection k was there, and exports what it was told of
+pub record WasTold (k : ℕ) (s : State) (told : List Batch) (p : PortsState) : Type 0 where
+  pub before : PortsState
+  pub there : ports_of k s ≡ Some before
+  pub exports : p.exports ≡ all_exported before.exports (flat_map (foreign_to k) told)
+
+-- from s to t, where connection k is told these batches and gets this first object
+pub record Tells (k : ℕ) (s t : State) (told : List Batch) (first : Option Reference) : Type 0 where
+  pub opened : s.world.opened ≤ t.world.opened
+  pub live : t.world.opened < k → is_live (actor_of k) s.world.table ≡ false
+      → is_live (actor_of k) t.world.table ≡ false
+  pub silent : t.world.opened < k → is_live (actor_of k) s.world.table ≡ false → (told ≡ []) × (first ≡ None)
+  pub named : (p : PortsState) → ports_of k t ≡ Some p → WasTold k s told p ⊎ CameWith k s told first p
+
+pub tells_nothing : (k : ℕ) (s t : State) → Keeps k s t → Tells k s t [] None
+tells_nothing k s t keeps = record {
+  opened = omega (arith, keeps.opened);
+  live = λ l is. keeps.live is;
+  silent = λ l is. (refl, refl);
+  named = λ p is. let h = keeps.named p is in inl (record { before = h.before; there = h.there; exports = h.same });
+}
+
+pub tells_then : (k : ℕ) (s t u : State) (told : List Batch) (first : Option Reference) → Tells k s t told first
+    → Keeps k t u → Tells k s u told first
+tells_then k s t u told first tells keeps = record {
+  opened = subst (λ n. s.world.opened ≤ n) (sym keeps.opened) tells.opened;
+  live = λ l is. keeps.live (tells.live (subst (λ n. n < k) keeps.opened l) is);
+  silent = λ l is. tells.silent (subst (λ n. n < k) keeps.opened l) is;
+  named = λ p is. let h = keeps.named p is in by p h.same (tells.named h.before h.there);
+}
+  where
+    by : (p : PortsState) {q : PortsState} → p.exports ≡ q.exports → WasTold k s told q ⊎ CameWith k s told first q
+        → WasTold k s told p ⊎ CameWith k s told first p
+    by p same (inl w) = inl (record { before = w.before; there = w.there; exports = same ∙ w.exports })
+    by p same (inr c) = inr (record {
+      object = c.object;
+      next = c.next;
+      is_first = c.is_first;
+      untold = c.untold;
+      exports = same ∙ c.exports;
+    })
+
+-- ---- all steps
+
+-- what is true of connection k after these steps, which led to s
+pub record IsTold (k : ℕ) (es : List Step) (s : State) : Type 0 where
+  pub unborn : s.world.opened < k → is_live (actor_of k) s.world.table ≡ false
+  pub first : s.world.opened < k → first_from k opening es ≡ None
+  pub told : s.world.opened < k → told_from k opening es ≡ []
+  pub own : (p : PortsState) → ports_of k s ≡ Some p → AreItsOwn k es p.exports
+
+option_or_assoc : {A : Type 0} (x y z : Option A) → option_or x (option_or y z) ≡ option_or (option_or x y) z
+option_or_assoc (Some x) y z = refl
+option_or_assoc None y z = refl
+
+first_more : (k : ℕ) (s : State) (es : List Step) (e : Step) → first_from k s (es ++ e ∷ [])
+    ≡ option_or (first_from k s es) (first_by k (run_from s es) e)
+first_more k s [] e = by (first_by k s e)
+  where
+    by : (o : Option Reference) → option_or o None ≡ o
+    by None = refl
+    by (Some r) = refl
+first_more k s (f ∷ es) e =
+    ap (option_or (first_by k s f)) (first_more k (step s f).state es e)
+    ∙ option_or_assoc (first_by k s f) (first_from k (step s f).state es) _
+
+told_more : (k : ℕ) (s : State) (es : List Step) (e : Step) → told_from k s (es ++ e ∷ [])
+    ≡ told_from k s es ++ told_by k (run_from s es) e
+told_more k s [] e = append-nil (told_by k s e)
+told_more k s (f ∷ es) e =
+    ap (λ bs. told_by k s f ++ bs) (told_more k (step s f).state es e)
+    ∙ sym (append_assoc (told_by k s f) (told_from k (step s f).state es) _)
+
+pub one_more : (k : ℕ) (es : List Step) (e : Step) → IsTold k es (replay es)
+    → Tells k (replay es) (step (replay es) e).state (told_by k (replay es) e) (first_by k (replay es) e)
+    → IsTold k (es ++ e ∷ []) (step (replay es) e).state
+one_more k es e is tells = record {
+  unborn = λ l. tells.live l (is.unborn (before l));
+  first = λ l.
+      first_more k opening es e
+      ∙ (λ i. option_or (is.first (before l) i) ((tells.silent l (is.unborn (before l))).1 i));
+  told = λ l.
+      told_more k opening es e
+      ∙ (λ i. is.told (before l) i ++ (tells.silent l (is.unborn (before l))).0 i);
+  own = λ p there. by p (tells.named p there);
+}
+  where
+    s : State
+    s = replay es
+
+    before : (step s e).state.world.opened < k → s.world.opened < k
+    before l = omega (arith, l, tells.opened)
+
+    by : (p : PortsState) → WasTold k s (told_by k s e) p ⊎ CameWith k s (told_by k s e) (first_by k s e) p
+        → AreItsOwn k (es ++ e ∷ []) p.exports
+    by p (inl w) =
+        let old = is.own w.before w.there in (
+          old.0,
+          first_more k opening es e ∙ ap (λ o. option_or o (first_by k s e)) old.1,
+          w.exports
+              ∙ ap (λ xs. all_exported xs (flat_map (foreign_to k) (told_by k s e))) old.2
+              ∙ sym (all_exported-more (old.0 ∷ []) (objects_told k es) (flat_map (foreign_to k) (told_by k s e)))
+              ∙ ap (all_exported (old.0 ∷ []))
+              (sym (ap (flat_map (foreign_to k)) (told_more k opening es e)
+              ∙ flat_map_append (foreign_to k) (told_from k opening es) (told_by k s e))),
+        )
+    by p (inr c) =
+        let later : s.world.opened < k = omega (arith, c.next) in (
+          c.object,
+          first_more k opening es e ∙ (λ i. option_or (is.first later i) (c.is_first i)),
+          c.exports
+              ∙ ap (λ bs. all_exported (c.object ∷ []) (flat_map (foreign_to k) bs))
+              (sym (told_more k opening es e ∙ (λ i. is.told later i ++ c.untold i))),
+        )

@@ -1,0 +1,14 @@
+pub mod Actors
+pub mod Asking
+pub mod Endings
+pub mod Entries
+pub mod Exporting
+pub mod Lists
+pub mod Orderly
+pub mod Plans
+pub mod Rows
+pub mod Runs
+pub mod Saying
+pub mod Sparing
+pub mod Taking
+pub mod Telling

@@ -1,0 +1,251 @@
+-- In each run the handles of every connection ascend, and stand for rows that have been made; so each packet that is
+-- taken does what it asks.
+use Rattle.std.proofs.Common.{◌≡◌, ℕ, ◌+◌, ◌-◌, ◌≤◌, List, [], ◌∷◌, Bool, true, false, cond, Option, Some, None}
+use Rattle.std.proofs.Common.{refl, sym, ◌∙◌, subst, arith, length}
+use Rattle.std.specs.List.{AllByRecursion}
+use Rattle.ac_table.specs.declared.batches.Batch.{Batch}
+use Rattle.ac_table.specs.Tables.{is_live, first_batch, ended, popped, rows_of, lowest}
+use Rattle.ac_world.specs.declared.spreads.Spread.{Spread as SpreadOf}
+use Rattle.ac_world.specs.declared.turns.Turned.{Turned}
+use Rattle.ac_world.specs.declared.turns.Turned.TheVariants as turned
+use Rattle.ac_world.specs.Outboxes.{Plan, plan_over, retractions}
+use Rattle.ac_world.specs.Turns.{After as TurnOf, turn_first, turn, space_turn, plain_turn, connection_turn}
+use Rattle.ac_world.specs.Turns.{all_answered}
+use Rattle.ac_world.specs.Worlds.{WorldState, actor_of, ended_of, gone, is_space, is_system, without_entry}
+use Rattle.rl_packet.specs.declared.packets.TurnEvent.{TurnEvent}
+use Rattle.rl_ports.specs.Ports.{PortsState, ports_to, with_exports}
+use Rattle.hub_machine.specs.declared.faults.Fault.{Fault}
+use Rattle.hub_machine.specs.declared.steps.Reply.{Reply}
+use Rattle.hub_machine.specs.declared.steps.Reply.TheVariants.{Worn, Halted, Idle}
+use Rattle.hub_machine.specs.declared.steps.Step.{Step}
+use Rattle.hub_machine.specs.declared.steps.Step.TheVariants.{Arrive, Packet, Bad, Close, Turn, Work, Stop}
+use Rattle.hub_machine.specs.Faults.{over}
+use Rattle.hub_machine.specs.State.{State, opening, ports_of}
+use Rattle.hub_machine.specs.Admission.{Admitting, Admitted, refused, admitted, admission, before_all, unless}
+use Rattle.hub_machine.specs.Admission.{all_admitted}
+use Rattle.hub_machine.specs.Endings.{nameless, closed, failed, finished}
+use Rattle.hub_machine.specs.Machine.{unchanged, opened, refusal, arrive_unless, accepted, judged, packet_at, bad_at}
+use Rattle.hub_machine.specs.Machine.{close_at, exports_after, exporting, telling_fault, told_unless, tell, fault_for}
+use Rattle.hub_machine.specs.Machine.{tell_fault, after_turn, turn_of, rest, work_by, is_worn, done, step}
+use Rattle.hub_machine.specs.Replays.{run_from, replay}
+use Rattle.hub_valid.specs.Validity.{IsValid}
+use Rattle.hub_valid.specs.Lemmas.Hubs.{stays_valid}
+use Rattle.hub_valid.specs.Lemmas.Values.{all_weaker}
+use Rattle.hub_valid.specs.Lemmas.WorldLists.{all_with, all_without, all_found}
+use Rattle.hub_laws.specs.Laws.{AreAllowed}
+use Rattle.hub_laws.proofs.Kept.{IsSound, IsHub}
+use Rattle.hub_laws.proofs.Opening.{replay_hub}
+use Rattle.hub_laws.proofs.Posting.{posted_table, table-popped}
+use Rattle.hub_laws.proofs.Saying.{plain_answers}
+use Rattle.hub_laws.proofs.Steps.{named_of, step_hub}
+use Rattle.hub_laws.proofs.Turns.{without_first, turning_of, space_runs}
+use Rattle.hub_authority.specs.Laws.{TakenPackets}
+use Rattle.hub_authority.proofs.Asking.{StandBelow, HaveLed, plan_of, all_led}
+use Rattle.hub_authority.proofs.Endings.{finished_keeps}
+use Rattle.hub_authority.proofs.Entries.{KeysAscend, ascend_none}
+use Rattle.hub_authority.proofs.Taking.{IsOrderly, walked_from, taken_does}
+
+-- what a connection names, where next is the next handle
+abbrev pub IsInOrder : ℕ → ℕ × PortsState → Type 0
+IsInOrder next e = KeysAscend e.1.handles × StandBelow next e.1
+
+abbrev pub AreInOrder : State → Type 0
+AreInOrder s = AllByRecursion (IsInOrder s.world.table.next) s.connections
+
+later_in_order : (m n : ℕ) (names : List (ℕ × PortsState)) → m ≤ n → AllByRecursion (IsInOrder m) names
+    → AllByRecursion (IsInOrder n) names
+later_in_order m n names l all =
+    all_weaker (IsInOrder m) (IsInOrder n)
+    (λ e i. (i.0, λ h r is. let less = i.1 h r is in omega (arith, l, less))) names all
+
+-- the world changes, and the next handle never falls
+with_world : (w : WorldState) (s : State) → s.world.table.next ≤ w.table.next → AreInOrder s
+    → AreInOrder (record s { world = w })
+with_world w s l all = later_in_order s.world.table.next w.table.next s.connections l all
+
+-- ---- endings
+
+next_ended : (a : ℕ) (w : WorldState) → (ended_of a w).table.next ≡ w.table.next
+next_ended a w = by (is_live a w.table)
+  where
+    by : (b : Bool) → (cond b (gone a w) w).table.next ≡ w.table.next
+    by true = (posted_table a (retractions (rows_of a w.table.rows) []) (ended a w.table)).1
+    by false = refl
+
+closed_in_order : (k : ℕ) (s : State) → AreInOrder s → AreInOrder (closed k s)
+closed_in_order k s all =
+    subst (λ n. AllByRecursion (IsInOrder n) (without_entry k s.connections)) (sym (next_ended (actor_of k) s.world))
+    (all_without (IsInOrder s.world.table.next) k s.connections all)
+
+failed_in_order : (k : ℕ) (f : Fault) (s : State) → AreInOrder s → AreInOrder (failed k f s)
+failed_in_order k f s all = closed_in_order k s all
+
+finished_in_order : (xs : List SpreadOf) (s : State) → AreInOrder s → AreInOrder (finished xs s)
+finished_in_order xs s all = finished_keeps AreInOrder failed_in_order xs s all
+
+-- ---- arrivals
+
+arrive_in_order : (o : Option Reply) (space : ℕ) (s : State) → AreInOrder s
+    → AreInOrder (arrive_unless o space s).state
+arrive_in_order (Some r) space s all = all
+arrive_in_order None space s all =
+    finished_in_order [] (opened space s)
+    (all_with (IsInOrder s.world.table.next) (s.world.opened + 1) (ports_to (record { at = space; entity = 0 }))
+    s.connections (ascend_none, λ h n is. absurd cc) all)
+
+-- ---- packets
+
+accepted_in_order : (k : ℕ) (ports : PortsState) (es : List TurnEvent) (x : Admitting) (s : State)
+    → HaveLed k s.world es (before_all k ports s.world) x → AreInOrder s → AreInOrder (accepted k x (nameless k s))
+accepted_in_order k ports es x s led all =
+    let plan : Plan = plan_of k s.world x in
+    let next : x.next ≡ (accepted k x (nameless k s)).world.table.next =
+    sym ((posted_table (actor_of k) plan.out plan.table).1 ∙ led.walked.next_is) in
+    subst (λ n. AllByRecursion (IsInOrder n) (accepted k x (nameless k s)).connections) next
+    (all_with (IsInOrder x.next) k x.ports (without_entry k s.connections) (led.walked.ascend, led.walked.stand)
+    (later_in_order s.world.table.next x.next (without_entry k s.connections) led.later
+    (all_without (IsInOrder s.world.table.next) k s.connections all)))
+
+-- what a connection names is in order, and the table is one
+orderly_of : (k : ℕ) (ports : PortsState) (s : State) → IsHub [] s → AreInOrder s → ports_of k s ≡ Some ports
+    → IsOrderly s ports
+orderly_of k ports s h all is =
+    let i = all_found (IsInOrder s.world.table.next) k ports s.connections all (named_of k ports s is).kept in
+    (h.sound.table, i.0, i.1)
+
+judged_in_order : (k : ℕ) (ports : PortsState) (es : List TurnEvent) (d : Admitted) (s : State) → IsOrderly s ports
+    → AreInOrder s → admission k ports s.world es ≡ d → AreInOrder (judged k d (nameless k s)).state
+judged_in_order k ports es (refused f) s orderly all is =
+    finished_in_order [] (failed k f s) (failed_in_order k f s all)
+judged_in_order k ports es (admitted x) s orderly all is =
+    finished_in_order [] (accepted k x (nameless k s)) (by (over 1024 3 (length es)) is)
+  where
+    start : Admitting
+    start = before_all k ports s.world
+
+    by : (c : Option Fault) → unless c (all_admitted k s.world es start) ≡ admitted x
+        → AreInOrder (accepted k x (nameless k s))
+    by None is =
+        accepted_in_order k ports es x s (all_led k s.world es start x (walked_from s ports orderly) is) all
+    by (Some f) is = absurd cc
+
+packet_in_order : (k : ℕ) (o : Option PortsState) (es : List TurnEvent) (s : State) → IsHub [] s → AreInOrder s
+    → ports_of k s ≡ o → AreInOrder (packet_at k o es s).state
+packet_in_order k None es s h all is = all
+packet_in_order k (Some ports) es s h all is =
+    judged_in_order k ports es (admission k ports s.world es) s (orderly_of k ports s h all is) all refl
+
+bad_in_order : (k : ℕ) (o : Option PortsState) (f : Fault) (s : State) → AreInOrder s
+    → AreInOrder (bad_at k o f s).state
+bad_in_order k None f s all = all
+bad_in_order k (Some ports) f s all = finished_in_order [] (failed k f s) (failed_in_order k f s all)
+
+close_in_order : (k : ℕ) (o : Option PortsState) (s : State) → AreInOrder s → AreInOrder (close_at k o s).state
+close_in_order k None s all = all
+close_in_order k (Some ports) s all = finished_in_order [] (closed k s) (closed_in_order k s all)
+
+-- ---- turns
+
+-- the next handle never falls
+abbrev IsLater : WorldState → TurnOf → Type 0
+IsLater w t = w.table.next ≤ t.world.table.next
+
+next_turned : (a : ℕ) (w : WorldState) → IsSound [] w → IsLater w (turn a w)
+next_turned a w sound = by (is_live a w.table)
+  where
+    taken : (b : Batch) (space system : Bool) → first_batch a w.table ≡ Some b → is_space a ≡ space
+        → IsLater w (cond space (space_turn a b (without_first a w))
+        (cond system (plain_turn a b (without_first a w)) (connection_turn a b (without_first a w))))
+    taken b true system first is =
+        let plan : Plan = (turning_of a b w).plan in
+        let posts = (posted_table a plan.out plan.table).1 in
+        let later = (space_runs a b w sound is first).moves.later in
+        omega (arith, posts, later)
+    taken b false true first is =
+        let plan : Plan = all_answered b.events (plan_over (popped a w.table)) in
+        let posts = (posted_table a plan.out plan.table).1 in
+        let says = plain_answers (16 + w.opened) a (popped a w.table) b.events (table-popped a w.table sound.table)
+        sound.rows in
+        omega (arith, posts, says.moves.later)
+    taken b false false first is = omega arith
+
+    first : (o : Option Batch) → first_batch a w.table ≡ o → IsLater w (turn_first a o w)
+    first None is = omega arith
+    first (Some b) is = taken b (is_space a) (is_system a) is refl
+
+    by : (live : Bool)
+        → IsLater w (cond live (turn_first a (first_batch a w.table) w) (record { world = w; turned = turned.Gone }))
+    by true = first (first_batch a w.table) refl
+    by false = omega arith
+
+fault_in_order : (a : ℕ) (o : Option Fault) (s : State) → AreInOrder s → AreInOrder (tell_fault a o s).state
+fault_in_order a None s all = all
+fault_in_order a (Some f) s all = finished_in_order [] (record s { faults = without_entry (a - 16) s.faults }) all
+
+told_in_order : (o : Option Fault) (k : ℕ) (ports : PortsState) (b : Batch) (s : State) → AreInOrder s
+    → ports_of k s ≡ Some ports → AreInOrder (told_unless o k ports b s).state
+told_in_order (Some f) k ports b s all is = finished_in_order [] (failed k f s) (failed_in_order k f s all)
+told_in_order None k ports b s all is =
+    finished_in_order [] (exporting k b ports s)
+    (all_with (IsInOrder s.world.table.next) k (with_exports (exports_after k b ports) ports) s.connections
+    (all_found (IsInOrder s.world.table.next) k ports s.connections all (named_of k ports s is).kept) all)
+
+tell_in_order : (k : ℕ) (o : Option PortsState) (b : Batch) (s : State) → AreInOrder s → ports_of k s ≡ o
+    → AreInOrder (tell k o b s).state
+tell_in_order k None b s all is = finished_in_order [] s all
+tell_in_order k (Some ports) b s all is = told_in_order (telling_fault k b ports) k ports b s all is
+
+after_in_order : (a : ℕ) (t : Turned) (s : State) → AreInOrder s → AreInOrder (after_turn a t s).state
+after_in_order a (turned.Ran xs) s all = finished_in_order xs s all
+after_in_order a (turned.Taken b) s all = tell_in_order (a - 16) (ports_of (a - 16) s) b s all refl
+after_in_order a turned.Idle s all = all
+after_in_order a turned.Gone s all = fault_in_order a (fault_for a s) s all
+
+turn_in_order : (a : ℕ) (s : State) → IsHub [] s → AreInOrder s → AreInOrder (turn_of a s).state
+turn_in_order a s h all =
+    after_in_order a (turn a s.world).turned (record s { world = (turn a s.world).world })
+    (with_world (turn a s.world).world s (next_turned a s.world h.sound) all)
+
+rest_in_order : (b : Bool) (s : State) → AreInOrder s
+    → AreInOrder (cond b (unchanged s Halted) (unchanged s Idle)).state
+rest_in_order true s all = all
+rest_in_order false s all = all
+
+work_in_order : (o : Option ℕ) (s : State) → IsHub [] s → AreInOrder s → AreInOrder (work_by o s).state
+work_in_order None s h all = rest_in_order s.stopped s all
+work_in_order (Some a) s h all = by (is_system a)
+  where
+    by : (b : Bool) → AreInOrder (cond b (turn_of a s) (rest s)).state
+    by true = turn_in_order a s h all
+    by false = rest_in_order s.stopped s all
+
+-- ---- steps
+
+done_in_order : (s : State) (e : Step) → IsHub [] s → AreInOrder s → AreInOrder (done s e).state
+done_in_order s (Arrive space) h all = arrive_in_order (refusal space s) space s all
+done_in_order s (Packet k es) h all = packet_in_order k (ports_of k s) es s h all refl
+done_in_order s (Bad k f) h all = bad_in_order k (ports_of k s) f s all
+done_in_order s (Close k) h all = close_in_order k (ports_of k s) s all
+done_in_order s (Turn a) h all = turn_in_order a s h all
+done_in_order s Work h all = work_in_order (lowest s.world.table) s h all
+done_in_order s Stop h all = finished_in_order [] (record s { stopped = true }) all
+
+step_in_order : (s : State) (e : Step) → IsHub [] s → AreInOrder s → AreInOrder (step s e).state
+step_in_order s e h all = by (is_worn s e)
+  where
+    by : (b : Bool) → AreInOrder (cond b (unchanged s Worn) (done s e)).state
+    by true = all
+    by false = done_in_order s e h all
+
+run_in_order : (s : State) (es : List Step) → AreAllowed s es → IsValid s → IsHub [] s → AreInOrder s
+    → AreInOrder (run_from s es)
+run_in_order s [] may valid h all = all
+run_in_order s (e ∷ es) may valid h all =
+    run_in_order (step s e).state es may.1 (stays_valid.1 s e valid may.0) (step_hub s e may.0 valid h)
+    (step_in_order s e h all)
+
+pub taken_packets : TakenPackets
+taken_packets steps k es ports may there taken =
+    taken_does (replay steps) k es ports
+    (orderly_of k ports (replay steps) (replay_hub steps may)
+    (run_in_order opening steps may stays_valid.0 (replay_hub [] tt) tt) there) there taken

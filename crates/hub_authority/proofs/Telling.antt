@@ -1,0 +1,540 @@
+-- What each step makes of a connection's exports, and of what it is told.
+use Rattle.std.proofs.Common.{◌≡◌, ◌≢◌, ℕ, ◌+◌, ◌-◌, ◌<◌, ◌≤◌, List, [], ◌∷◌, ◌==◌, Bool, true, false, cond}
+use Rattle.std.proofs.Common.{Option, Some, None, ◌⊎◌, inl, inr, refl, ap, sym, ◌∙◌, subst, arith, drop, nat_lt, length}
+use Rattle.std.proofs.Common.{is_some}
+use Rattle.std.specs.Prelude.{nat_le}
+use Rattle.std.specs.List.{flat_map}
+use Rattle.std.proofs.lemmas.Bool.Decides.{nat_tests}
+use Rattle.std.proofs.lemmas.List.{append-nil}
+use Rattle.ds_space.specs.declared.references.Reference.{Reference}
+use Rattle.ac_table.specs.declared.batches.Batch.{Batch}
+use Rattle.ac_table.specs.Tables.{Actor, TableState, is_live, first_batch, first_in, find_actor, popped, lowest}
+use Rattle.ac_world.specs.declared.turns.Turned.TheVariants as turned
+use Rattle.ac_world.specs.Outboxes.{plan_over, all_acted, committed}
+use Rattle.ac_world.specs.Worlds.{WorldState, actor_of, entry_of, with_entry, without_entry, is_space, is_system}
+use Rattle.ac_world.specs.Turns.{After as TurnOf, turn_first, turn_with, begin_turn, all_turned, all_answered}
+use Rattle.ac_world.specs.Turns.{space_turn, plain_turn, connection_turn}
+use Rattle.rl_packet.specs.declared.packets.Event.{Event}
+use Rattle.rl_packet.specs.declared.packets.Event.TheVariants.{Assert, Retract, Message, Sync}
+use Rattle.rl_packet.specs.declared.packets.TurnEvent.{TurnEvent}
+use Rattle.rl_ports.specs.declared.ports.Inbound.{Inbound}
+use Rattle.rl_ports.specs.declared.ports.Inbound.TheVariants.{Row, Refused as Without}
+use Rattle.rl_ports.specs.Ports.{PortsState, ports_to, with_exports, inbound_of, export_of}
+use Rattle.rl_wire.specs.Crossing.{all_exported}
+use Rattle.hub_machine.specs.declared.faults.Fault.{Fault}
+use Rattle.hub_machine.specs.Faults.{over, error_of}
+use Rattle.hub_machine.specs.State.{State, ports_of}
+use Rattle.hub_machine.specs.Admission.{Admitting, Admitted, refused, admitted, before_all, cause_of, after, after_at}
+use Rattle.hub_machine.specs.Admission.{after_event, after_retraction, unless, all_admitted, admission}
+use Rattle.hub_machine.specs.Endings.{nameless, failed, closed}
+use Rattle.hub_machine.specs.Machine.{After, step, done, is_worn, unchanged, ends, opened, refusal, arrive_unless}
+use Rattle.hub_machine.specs.Machine.{accepted, judged, packet_at, bad_at, close_at, foreign_to, telling_fault}
+use Rattle.hub_machine.specs.Machine.{exporting, told_unless, tell, fault_for, tell_fault, after_turn, turn_of, rest}
+use Rattle.hub_machine.specs.Machine.{work_by, exports_after as exports_after_turn}
+use Rattle.hub_machine.specs.declared.steps.Step.{Step}
+use Rattle.hub_machine.specs.declared.steps.Step.TheVariants.{Arrive, Packet, Bad, Close, Turn, Work, Stop}
+use Rattle.hub_machine.specs.declared.steps.Reply.{Reply}
+use Rattle.hub_machine.specs.declared.steps.Reply.TheVariants.{Worn, Barred, Halted, Full, Gone, Refused, Idle, Sent}
+use Rattle.hub_machine.specs.declared.steps.Reply.TheVariants.{Ran, Taken}
+use Rattle.hub_authority.specs.Named.{batch_sent, told_by, first_by, opened_as}
+use Rattle.hub_authority.proofs.Actors.{live_placed, live_committed, live_with_inbox}
+use Rattle.hub_authority.proofs.Endings.{HadThem, Keeps, keeps_all, keeps_then, keeps_failed, keeps_closed}
+use Rattle.hub_authority.proofs.Endings.{keeps_finished}
+use Rattle.hub_authority.proofs.Entries.{put_found, put_other, out_other}
+use Rattle.hub_authority.proofs.Exporting.{Tells, WasTold, CameWith, tells_nothing, tells_then}
+use Rattle.hub_authority.proofs.Plans.{actors_all_acted, actors_all_turned, actors_all_answered}
+
+-- ---- the world changes
+
+-- where the names stay and the same are live
+pub keeps_world : (k : ℕ) (s : State) (w : WorldState) → w.opened ≡ s.world.opened
+    → is_live (actor_of k) w.table ≡ is_live (actor_of k) s.world.table → Keeps k s (record s { world = w })
+keeps_world k s w same live = record {
+  opened = same;
+  live = λ is. live ∙ is;
+  named = λ p is. record {
+    before = p;
+    there = ap (λ b. cond b (entry_of k s.connections) None) (sym live) ∙ is;
+    same = refl;
+  };
+}
+
+pub live_from_actors : (a : ℕ) (t u : TableState) → t.actors ≡ u.actors → is_live a t ≡ is_live a u
+live_from_actors a t u same = ap (λ xs. is_some (find_actor a xs)) same
+
+-- ---- an arrival
+
+named_with : (b : Bool) (o : Option PortsState) (q p : PortsState) → o ≡ Some q → cond b o None ≡ Some p → q ≡ p
+named_with true o q p there is = let same : Some q ≡ Some p = sym there ∙ is in cc
+named_with false o q p there is = absurd cc
+
+same_names : (b c : Bool) (o q : Option PortsState) → b ≡ c → o ≡ q → cond c q None ≡ cond b o None
+same_names b c o q live found = sym (λ i. cond (live i) (found i) None)
+
+arrival_tells : (k space : ℕ) (s : State)
+    → Tells k s (opened space s) [] (cond (s.world.opened + 1 == k) (Some (record { at = space; entity = 0 })) None)
+arrival_tells k space s = record {
+  opened = omega arith;
+  live = λ l is. live_placed (actor_of k) _ s.world.table.actors (λ same. omega (arith, l, same)) ∙ is;
+  silent = λ l is. (refl, ap (λ b. cond b (Some first) None) (later l));
+  named = λ p is. by (s.world.opened + 1 == k) refl p is;
+}
+  where
+    first : Reference
+    first = record { at = space; entity = 0 }
+
+    later : s.world.opened + 1 < k → (s.world.opened + 1 == k) ≡ false
+    later l = grind (arith, nat_tests, l)
+
+    placed : k ≢ s.world.opened + 1 → is_live (actor_of k) (opened space s).world.table
+        ≡ is_live (actor_of k) s.world.table
+    placed apart = live_placed (actor_of k) _ s.world.table.actors (λ same. apart (omega (arith, same)))
+
+    by : (b : Bool) → (s.world.opened + 1 == k) ≡ b → (p : PortsState) → ports_of k (opened space s) ≡ Some p
+        → WasTold k s [] p ⊎ CameWith k s [] (cond b (Some first) None) p
+    by true here p is =
+        let one : s.world.opened + 1 ≡ k = grind (arith, nat_tests, here) in
+        let found : entry_of k (opened space s).connections ≡ Some (ports_to first) =
+        subst (λ n. entry_of k (with_entry n (ports_to first) s.connections) ≡ Some (ports_to first)) (sym one)
+        (put_found k (ports_to first) s.connections) in
+        inr (record {
+          object = first;
+          next = sym one;
+          is_first = refl;
+          untold = refl;
+          exports = ap (λ q. q.exports) (sym (named_with _ _ (ports_to first) p found is));
+        })
+    by false other p is =
+        let apart : k ≢ s.world.opened + 1 = λ same. grind (arith, nat_tests, other, same) in
+        inl (record {
+          before = p;
+          there = same_names _ _ _ _ (placed apart)
+              (put_other (s.world.opened + 1) k (ports_to first) s.connections apart) ∙ is;
+          exports = refl;
+        })
+
+arrive_tells : (k space : ℕ) (s : State) → Tells k s (step s (Arrive space)).state [] (first_by k s (Arrive space))
+arrive_tells k space s = worn (is_worn s (Arrive space))
+  where
+    quiet : Tells k s s [] None
+    quiet = tells_nothing k s s (keeps_all k s)
+
+    full : (b : Bool) → Tells k s (arrive_unless (cond b (Some Full) None) space s).state []
+        (opened_as k space (arrive_unless (cond b (Some Full) None) space s).reply)
+    full true = quiet
+    full false =
+        tells_then k s (opened space s) _ [] _ (arrival_tells k space s) (keeps_finished k [] (opened space s))
+
+    halted : (b : Bool) → Tells k s
+        (arrive_unless (cond b (Some Halted) (cond (nat_le 32 (length s.connections)) (Some Full) None)) space s).state
+        [] (opened_as k space
+        (arrive_unless (cond b (Some Halted) (cond (nat_le 32 (length s.connections)) (Some Full) None)) space s).reply)
+    halted true = quiet
+    halted false = full (nat_le 32 (length s.connections))
+
+    barred : (b : Bool) → Tells k s (arrive_unless (cond b (Some Barred)
+        (cond s.stopped (Some Halted) (cond (nat_le 32 (length s.connections)) (Some Full) None))) space s).state
+        [] (opened_as k space (arrive_unless (cond b (Some Barred)
+        (cond s.stopped (Some Halted) (cond (nat_le 32 (length s.connections)) (Some Full) None))) space s).reply)
+    barred true = quiet
+    barred false = halted s.stopped
+
+    worn : (b : Bool) → Tells k s (cond b (unchanged s Worn) (arrive_unless (refusal space s) space s)).state []
+        (opened_as k space (cond b (unchanged s Worn) (arrive_unless (refusal space s) space s)).reply)
+    worn true = quiet
+    worn false = barred (nat_lt 8 space)
+
+-- ---- a packet
+
+exports_retraction : (h : ℕ) (o : Option Inbound) (w : WorldState) (x : Admitting)
+    → (after_retraction h o w x).ports.exports ≡ x.ports.exports
+exports_retraction h None w x = refl
+exports_retraction h (Some Without) w x = refl
+exports_retraction h (Some (Row n)) w x = refl
+
+exports_event : (k : ℕ) (w : WorldState) (to : Reference) (e : Event) (x : Admitting)
+    → (after_event k w to e x).ports.exports ≡ x.ports.exports
+exports_event k w to (Assert v h) x = refl
+exports_event k w to (Retract h) x = exports_retraction h (inbound_of h x.ports) w x
+exports_event k w to (Message v) x = refl
+exports_event k w to (Sync peer) x = refl
+
+pub exports_after : (k : ℕ) (w : WorldState) (e : TurnEvent) (x : Admitting)
+    → (after k w e x).ports.exports ≡ x.ports.exports
+exports_after k w e x = by (export_of e.oid x.ports)
+  where
+    by : (o : Option Reference) → (after_at k w o e.event x).ports.exports ≡ x.ports.exports
+    by None = refl
+    by (Some to) = exports_event k w to e.event x
+
+admitted_exports : (k : ℕ) (w : WorldState) (es : List TurnEvent) (x y : Admitting)
+    → all_admitted k w es x ≡ admitted y → y.ports.exports ≡ x.ports.exports
+admitted_exports k w [] x y is = let same : x ≡ y = cc in ap (λ z. z.ports.exports) (sym same)
+admitted_exports k w (e ∷ es) x y is =
+    by (cause_of k w e x) is (λ later. admitted_exports k w es (after k w e x) y later)
+  where
+    by : (c : Option Fault) → unless c (all_admitted k w es (after k w e x)) ≡ admitted y
+        → (all_admitted k w es (after k w e x) ≡ admitted y → y.ports.exports ≡ (after k w e x).ports.exports)
+        → y.ports.exports ≡ x.ports.exports
+    by None is later = later is ∙ exports_after k w e x
+    by (Some f) is later = absurd cc
+
+admission_exports : (k : ℕ) (ports : PortsState) (w : WorldState) (es : List TurnEvent) (y : Admitting)
+    → admission k ports w es ≡ admitted y → y.ports.exports ≡ ports.exports
+admission_exports k ports w es y is = by (over 1024 3 (length es)) is
+  where
+    by : (c : Option Fault) → unless c (all_admitted k w es (before_all k ports w)) ≡ admitted y
+        → y.ports.exports ≡ ports.exports
+    by None is = admitted_exports k w es (before_all k ports w) y is
+    by (Some f) is = absurd cc
+
+keeps_accepted : (k j : ℕ) (x : Admitting) (ports : PortsState) (s : State) → ports_of j s ≡ Some ports
+    → x.ports.exports ≡ ports.exports → Keeps k s (accepted j x (nameless j s))
+keeps_accepted k j x ports s there same = record {
+  opened = refl;
+  live = λ is. live ∙ is;
+  named = λ p is. by (k == j) refl p is;
+}
+  where
+    live : is_live (actor_of k) (committed (actor_of j) (all_acted (actor_of j) x.acts (plan_over s.world.table)))
+        ≡ is_live (actor_of k) s.world.table
+    live =
+        live_committed (actor_of k) (actor_of j) (all_acted (actor_of j) x.acts (plan_over s.world.table))
+        ∙ live_from_actors (actor_of k) (all_acted (actor_of j) x.acts (plan_over s.world.table)).table s.world.table
+        (actors_all_acted (actor_of j) x.acts (plan_over s.world.table))
+
+    by : (b : Bool) → (k == j) ≡ b → (p : PortsState) → ports_of k (accepted j x (nameless j s)) ≡ Some p
+        → HadThem k s p
+    by true here p is =
+        let one : k ≡ j = grind (arith, nat_tests, here) in
+        let found : entry_of k (accepted j x (nameless j s)).connections ≡ Some x.ports =
+        subst (λ n. entry_of n (accepted j x (nameless j s)).connections ≡ Some x.ports) (sym one)
+        (put_found j x.ports (without_entry j s.connections)) in
+        record {
+          before = ports;
+          there = ap (λ n. ports_of n s) one ∙ there;
+          same = ap (λ q. q.exports) (sym (named_with _ _ x.ports p found is)) ∙ same;
+        }
+    by false other p is =
+        let apart : k ≢ j = λ same. grind (arith, nat_tests, other, same) in
+        record {
+          before = p;
+          there = same_names _ _ _ _ live (put_other j k x.ports (without_entry j s.connections) apart
+              ∙ out_other j k s.connections apart) ∙ is;
+          same = refl;
+        }
+
+keeps_packet : (k j : ℕ) (es : List TurnEvent) (s : State) → Keeps k s (packet_at j (ports_of j s) es s).state
+keeps_packet k j es s = by (ports_of j s) refl
+  where
+    judge : (ports : PortsState) (d : Admitted) → ports_of j s ≡ Some ports → admission j ports s.world es ≡ d
+        → Keeps k s (judged j d (nameless j s)).state
+    judge ports (refused f) there is =
+        keeps_then k s (failed j f s) _ (keeps_failed k j f s) (keeps_finished k [] (failed j f s))
+    judge ports (admitted x) there is =
+        keeps_then k s (accepted j x (nameless j s)) _
+        (keeps_accepted k j x ports s there (admission_exports j ports s.world es x is))
+        (keeps_finished k [] (accepted j x (nameless j s)))
+
+    by : (o : Option PortsState) → ports_of j s ≡ o → Keeps k s (packet_at j o es s).state
+    by None is = keeps_all k s
+    by (Some ports) is = judge ports (admission j ports s.world es) is refl
+
+-- ---- a turn
+
+-- a state of which connection k sees the same, where it is sent nothing
+pub record IsQuiet (k : ℕ) (s : State) (x : After) : Type 0 where
+  pub keeps : Keeps k s x.state
+  pub unsent : (o : Option Batch) → batch_sent o x.reply ≡ []
+
+quiet_end : (k : ℕ) (s t : State) (r : Reply) → Keeps k s t → ((o : Option Batch) → batch_sent o r ≡ [])
+    → IsQuiet k s (ends [] t r)
+quiet_end k s t r keeps unsent =
+    record { keeps = keeps_then k s t _ keeps (keeps_finished k [] t); unsent = unsent }
+
+quiet_same : (k : ℕ) (s : State) (r : Reply) → ((o : Option Batch) → batch_sent o r ≡ [])
+    → IsQuiet k s (unchanged s r)
+quiet_same k s r unsent = record { keeps = keeps_all k s; unsent = unsent }
+
+none_gone : (o : Option Batch) → batch_sent o Gone ≡ []
+none_gone None = refl
+none_gone (Some b) = refl
+
+none_idle : (o : Option Batch) → batch_sent o Idle ≡ []
+none_idle None = refl
+none_idle (Some b) = refl
+
+none_halted : (o : Option Batch) → batch_sent o Halted ≡ []
+none_halted None = refl
+none_halted (Some b) = refl
+
+none_worn : (o : Option Batch) → batch_sent o Worn ≡ []
+none_worn None = refl
+none_worn (Some b) = refl
+
+none_ran : (o : Option Batch) → batch_sent o Ran ≡ []
+none_ran None = refl
+none_ran (Some b) = refl
+
+none_refused : (f : Fault) (o : Option Batch) → batch_sent o (Refused f) ≡ []
+none_refused f None = refl
+none_refused f (Some b) = refl
+
+-- what follows from a turn in s
+abbrev follows : ℕ → State → TurnOf → After
+follows a s t = after_turn a t.turned (record s { world = t.world })
+
+live_popped : (b a : ℕ) (t : TableState) → is_live b (popped a t) ≡ is_live b t
+live_popped b a t = live_with_inbox b a (drop 1) t.actors
+
+-- a system actor's
+quiet_system : (k a : ℕ) (b : Batch) (s : State) → is_system a ≡ true
+    → IsQuiet k s (follows a s (turn_with a b (record s.world { table = popped a s.world.table })))
+quiet_system k a b s system = by (is_space a) (is_system a) system
+  where
+    w : WorldState
+    w = record s.world { table = popped a s.world.table }
+
+    by : (c d : Bool) → d ≡ true
+        → IsQuiet k s (follows a s (cond c (space_turn a b w) (cond d (plain_turn a b w) (connection_turn a b w))))
+    by true d is = record {
+      keeps = keeps_then k s (record s { world = (space_turn a b w).world }) (follows a s (space_turn a b w)).state
+          (keeps_world k s (space_turn a b w).world refl
+          (live_committed (actor_of k) a (all_turned a b.from b.events (begin_turn a w)).plan
+          ∙ live_from_actors (actor_of k) (all_turned a b.from b.events (begin_turn a w)).plan.table w.table
+          (actors_all_turned a b.from b.events (begin_turn a w))
+          ∙ live_popped (actor_of k) a s.world.table))
+          (keeps_finished k (all_turned a b.from b.events (begin_turn a w)).spreads
+          (record s { world = (space_turn a b w).world }));
+      unsent = none_ran;
+    }
+    by false true is = quiet_end k s (record s { world = (plain_turn a b w).world }) Ran
+        (keeps_world k s (plain_turn a b w).world refl
+        (live_committed (actor_of k) a (all_answered b.events (plan_over w.table))
+        ∙ live_from_actors (actor_of k) (all_answered b.events (plan_over w.table)).table w.table
+        (actors_all_answered b.events (plan_over w.table))
+        ∙ live_popped (actor_of k) a s.world.table)) none_ran
+    by false false is = absurd cc
+
+abbrev turn_is : ℕ → State → Bool → Option Batch → After
+turn_is a s live o = follows a s (cond live (turn_first a o s.world) (record { world = s.world; turned = turned.Gone }))
+
+quiet_system_turn : (k a : ℕ) (s : State) → is_system a ≡ true → IsQuiet k s (turn_of a s)
+quiet_system_turn k a s system = by (is_live a s.world.table) (first_batch a s.world.table)
+  where
+    gone : (b : Bool) → b ≡ false → IsQuiet k s (tell_fault a (cond b (entry_of (a - 16) s.faults) None) s)
+    gone true is = absurd cc
+    gone false is = quiet_same k s Gone none_gone
+
+    by : (live : Bool) (o : Option Batch) → IsQuiet k s (turn_is a s live o)
+    by true None = quiet_same k s Idle none_idle
+    by true (Some b) = quiet_system k a b s system
+    by false o = gone (nat_le 17 a) (grind (arith, nat_tests, system))
+
+-- what a turn of actor a, whose first batch is o, tells connection k
+abbrev TurnTells : ℕ → ℕ → State → Option Batch → After → Type 0
+TurnTells k a s o x = Tells k s x.state (cond (a == actor_of k) (batch_sent o x.reply) []) None
+
+quiet_tells : (k a : ℕ) (s : State) (o : Option Batch) (x : After) → IsQuiet k s x → TurnTells k a s o x
+quiet_tells k a s o x quiet =
+    subst (λ bs. Tells k s x.state bs None) (sym (by (a == actor_of k))) (tells_nothing k s x.state quiet.keeps)
+  where
+    by : (b : Bool) → cond b (batch_sent o x.reply) [] ≡ []
+    by true = quiet.unsent o
+    by false = refl
+
+-- where no batch waits, none is sent
+no_batch_tells : (k a : ℕ) (s : State) (x : After) → Keeps k s x.state → TurnTells k a s None x
+no_batch_tells k a s x keeps =
+    subst (λ bs. Tells k s x.state bs None) (sym (by (a == actor_of k))) (tells_nothing k s x.state keeps)
+  where
+    by : (b : Bool) → cond b (batch_sent None x.reply) [] ≡ []
+    by true = refl
+    by false = refl
+
+-- ---- a connection's turn
+
+exporting_tells : (k j : ℕ) (b : Batch) (ports : PortsState) (s : State) (c : Bool) → ports_of j s ≡ Some ports
+    → (c ≡ true → k ≡ j) → (c ≡ false → k ≢ j) → Tells k s (exporting j b ports s) (cond c (b ∷ []) []) None
+exporting_tells k j b ports s true there one apart = record {
+  opened = omega arith;
+  live = λ l is. is;
+  silent = λ l is. absurd (dead (is_live (actor_of j) s.world.table) (entry_of j s.connections) there
+      (ap (λ n. is_live (actor_of n) s.world.table) (sym (one refl)) ∙ is));
+  named = λ p is.
+      let found : entry_of k (exporting j b ports s).connections ≡ Some after =
+      subst (λ n. entry_of n (exporting j b ports s).connections ≡ Some after) (sym (one refl))
+      (put_found j after s.connections) in
+      inl (record {
+        before = ports;
+        there = ap (λ n. ports_of n s) (one refl) ∙ there;
+        exports =
+            ap (λ q. q.exports) (sym (named_with _ _ after p found is))
+            ∙ ap (λ n. all_exported ports.exports (foreign_to n b)) (sym (one refl))
+            ∙ ap (all_exported ports.exports) (sym (append-nil (foreign_to k b)));
+      });
+}
+  where
+    after : PortsState
+    after = with_exports (exports_after_turn j b ports) ports
+
+    dead : (c : Bool) (o : Option PortsState) → cond c o None ≡ Some ports → c ≡ false → ⊥
+    dead true o is not = cc
+    dead false o is not = cc
+exporting_tells k j b ports s false there one apart =
+    tells_nothing k s (exporting j b ports s) (record {
+      opened = refl;
+      live = λ is. is;
+      named = λ p is. record {
+        before = p;
+        there = same_names _ _ _ _ refl (put_other j k _ s.connections (apart refl)) ∙ is;
+        same = refl;
+      };
+    })
+
+tells_after : (k : ℕ) (s t u : State) (told : List Batch) → Keeps k s t → Tells k t u told None → Tells k s u told None
+tells_after k s t u told keeps tells = record {
+  opened = subst (λ n. n ≤ u.world.opened) keeps.opened tells.opened;
+  live = λ l is. tells.live l (keeps.live is);
+  silent = λ l is. tells.silent l (keeps.live is);
+  named = λ p is. by p (tells.named p is);
+}
+  where
+    by : (p : PortsState) → WasTold k t told p ⊎ CameWith k t told None p
+        → WasTold k s told p ⊎ CameWith k s told None p
+    by p (inl w) =
+        let h = keeps.named w.before w.there in
+        inl (record {
+          before = h.before;
+          there = h.there;
+          exports = w.exports ∙ ap (λ xs. all_exported xs (flat_map (foreign_to k) told)) h.same;
+        })
+    by p (inr c) = let none : None ≡ Some c.object = c.is_first in absurd cc
+
+connection_tells : (k a : ℕ) (b : Batch) (s t : State) (o : Option PortsState) → is_system a ≡ false → Keeps k s t
+    → ports_of (a - 16) t ≡ o → TurnTells k a s (Some b) (tell (a - 16) o b t)
+connection_tells k a b s t None system keeps there =
+    quiet_tells k a s (Some b) (tell (a - 16) None b t) (quiet_end k s t Ran keeps none_ran)
+connection_tells k a b s t (Some ports) system keeps there = by (telling_fault (a - 16) b ports)
+  where
+    by : (f : Option Fault) → TurnTells k a s (Some b) (told_unless f (a - 16) ports b t)
+    by (Some f) =
+        quiet_tells k a s (Some b) (told_unless (Some f) (a - 16) ports b t)
+        (quiet_end k s (failed (a - 16) f t) (Refused f) (keeps_then k s t _ keeps (keeps_failed k (a - 16) f t))
+        (none_refused f))
+    by None =
+        tells_then k s (exporting (a - 16) b ports t) _ _ _
+        (tells_after k s t (exporting (a - 16) b ports t) _ keeps
+        (exporting_tells k (a - 16) b ports t (a == actor_of k) there
+        (λ is. grind (arith, nat_tests, is)) (λ is same. grind (arith, nat_tests, is, same, system))))
+        (keeps_finished k [] (exporting (a - 16) b ports t))
+
+turn_tells : (k a : ℕ) (s : State) → TurnTells k a s (first_batch a s.world.table) (turn_of a s)
+turn_tells k a s = by (is_system a) refl
+  where
+    no_batch : (o : Option Actor) → is_some o ≡ false → first_in o ≡ None
+    no_batch None is = refl
+    no_batch (Some x) is = absurd cc
+
+    told_of_fault : (f : Option Fault) → TurnTells k a s None (tell_fault a f s)
+    told_of_fault None = no_batch_tells k a s (unchanged s Gone) (keeps_all k s)
+    told_of_fault (Some f) =
+        let t : State = record s { faults = without_entry (a - 16) s.faults } in
+        let keeps : Keeps k s t = record {
+          opened = refl;
+          live = λ is. is;
+          named = λ p is. record { before = p; there = is; same = refl };
+        } in
+        no_batch_tells k a s (ends [] t (Sent (error_of f))) (keeps_then k s t _ keeps (keeps_finished k [] t))
+
+    with_batch : (b : Batch) → is_system a ≡ false
+        → TurnTells k a s (Some b) (follows a s (turn_with a b (record s.world { table = popped a s.world.table })))
+    with_batch b system = apart (is_space a) (is_system a) (grind (arith, nat_tests, system)) system
+      where
+        w : WorldState
+        w = record s.world { table = popped a s.world.table }
+
+        taken : State
+        taken = record s { world = (connection_turn a b w).world }
+
+        apart : (c d : Bool) → c ≡ false → d ≡ false → TurnTells k a s (Some b)
+            (follows a s (cond c (space_turn a b w) (cond d (plain_turn a b w) (connection_turn a b w))))
+        apart true d is system = absurd cc
+        apart false true is system = absurd cc
+        apart false false is no_system =
+            connection_tells k a b s taken (ports_of (a - 16) taken) system
+            (keeps_world k s (connection_turn a b w).world refl (live_popped (actor_of k) a s.world.table)) refl
+
+    live : (o : Option Batch) → is_system a ≡ false → TurnTells k a s o (turn_is a s true o)
+    live None system = quiet_tells k a s None (unchanged s Idle) (quiet_same k s Idle none_idle)
+    live (Some b) system = with_batch b system
+
+    one : (c : Bool) → is_live a s.world.table ≡ c → is_system a ≡ false
+        → TurnTells k a s (first_batch a s.world.table) (turn_is a s c (first_batch a s.world.table))
+    one true is system = live (first_batch a s.world.table) system
+    one false is system =
+        subst (λ o. TurnTells k a s o (turn_is a s false o))
+        (sym (no_batch (find_actor a s.world.table.actors) is)) (told_of_fault (fault_for a s))
+
+    by : (c : Bool) → is_system a ≡ c → TurnTells k a s (first_batch a s.world.table) (turn_of a s)
+    by true system = quiet_tells k a s _ (turn_of a s) (quiet_system_turn k a s system)
+    by false system = one (is_live a s.world.table) refl system
+
+-- ---- any step
+
+keeps_bad : (k j : ℕ) (o : Option PortsState) (f : Fault) (s : State) → Keeps k s (bad_at j o f s).state
+keeps_bad k j None f s = keeps_all k s
+keeps_bad k j (Some ports) f s =
+    keeps_then k s (failed j f s) _ (keeps_failed k j f s) (keeps_finished k [] (failed j f s))
+
+keeps_close : (k j : ℕ) (o : Option PortsState) (s : State) → Keeps k s (close_at j o s).state
+keeps_close k j None s = keeps_all k s
+keeps_close k j (Some ports) s =
+    keeps_then k s (closed j s) _ (keeps_closed k j s) (keeps_finished k [] (closed j s))
+
+keeps_rest : (k : ℕ) (s : State) → Keeps k s (rest s).state
+keeps_rest k s = by s.stopped
+  where
+    by : (b : Bool) → Keeps k s (cond b (unchanged s Halted) (unchanged s Idle)).state
+    by true = keeps_all k s
+    by false = keeps_all k s
+
+keeps_work : (k : ℕ) (o : Option ℕ) (s : State) → Keeps k s (work_by o s).state
+keeps_work k None s = keeps_rest k s
+keeps_work k (Some a) s = by (is_system a) refl
+  where
+    by : (b : Bool) → is_system a ≡ b → Keeps k s (cond b (turn_of a s) (rest s)).state
+    by true system = (quiet_system_turn k a s system).keeps
+    by false system = keeps_rest k s
+
+keeps_stop : (k : ℕ) (s : State) → Keeps k s (ends [] (record s { stopped = true }) Taken).state
+keeps_stop k s =
+    keeps_then k s (record s { stopped = true }) _ (record { opened = refl; live = λ is. is; named = all_there })
+    (keeps_finished k [] (record s { stopped = true }))
+  where
+    all_there : (p : PortsState) → ports_of k s ≡ Some p → HadThem k s p
+    all_there p is = record { before = p; there = is; same = refl }
+
+-- where it is done, unless numbers are used up
+unless_worn : (k : ℕ) (s : State) (e : Step) → Keeps k s (done s e).state → Tells k s (step s e).state [] None
+unless_worn k s e keeps = tells_nothing k s (step s e).state (by (is_worn s e))
+  where
+    by : (b : Bool) → Keeps k s (cond b (unchanged s Worn) (done s e)).state
+    by true = keeps_all k s
+    by false = keeps
+
+turn_step_tells : (k a : ℕ) (s : State) → TurnTells k a s (first_batch a s.world.table) (step s (Turn a))
+turn_step_tells k a s = by (is_worn s (Turn a))
+  where
+    by : (b : Bool) → TurnTells k a s (first_batch a s.world.table) (cond b (unchanged s Worn) (turn_of a s))
+    by true = quiet_tells k a s (first_batch a s.world.table) (unchanged s Worn) (quiet_same k s Worn none_worn)
+    by false = turn_tells k a s
+
+pub step_tells : (k : ℕ) (s : State) (e : Step) → Tells k s (step s e).state (told_by k s e) (first_by k s e)
+step_tells k s (Arrive space) = arrive_tells k space s
+step_tells k s (Packet j es) = unless_worn k s (Packet j es) (keeps_packet k j es s)
+step_tells k s (Bad j f) = unless_worn k s (Bad j f) (keeps_bad k j (ports_of j s) f s)
+step_tells k s (Close j) = unless_worn k s (Close j) (keeps_close k j (ports_of j s) s)
+step_tells k s (Turn a) = turn_step_tells k a s
+step_tells k s Work = unless_worn k s Work (keeps_work k (lowest s.world.table) s)
+step_tells k s Stop = unless_worn k s Stop (keeps_stop k s)

@@ -1,0 +1,41 @@
+-- Authority: a packet that is taken does exactly what its events ask for at the connection's exports, and these are its
+-- first object and the objects of others of which it was told. Syndicate Protocol, "capabilities".
+use Rattle.std.specs.Prelude.{◌≡◌, ℕ, ◌++◌, List, Some, filter}
+use Rattle.ac_table.specs.declared.batches.Row.{Row as TableRow}
+use Rattle.ac_table.specs.Tables.{Actor, find_actor, is_live}
+use Rattle.rl_packet.specs.declared.packets.TurnEvent.{TurnEvent}
+use Rattle.rl_ports.specs.Ports.{PortsState}
+use Rattle.hub_machine.specs.State.{State, opening, ports_of}
+use Rattle.hub_machine.specs.Machine.{step}
+use Rattle.hub_machine.specs.Replays.{replay}
+use Rattle.hub_machine.specs.declared.steps.Step.{Step}
+use Rattle.hub_machine.specs.declared.steps.Step.TheVariants.{Packet}
+use Rattle.hub_machine.specs.declared.steps.Reply.TheVariants.{Taken}
+use Rattle.hub_laws.specs.Laws.{AreAllowed}
+use Rattle.hub_authority.specs.Asked.{rows_asked, rows_left, messages_asked, messages_in, events_of}
+use Rattle.hub_authority.specs.Named.{AreItsOwn}
+
+-- the rows, without those whose owners the step's end has ended
+abbrev pub of_the_live : State → List TableRow → List TableRow
+of_the_live s rows = filter (λ r. is_live r.owner s.world.table) rows
+
+-- from s to t: what a packet of connection k, which had these ports, does
+pub record DoesWhatIsAsked (k : ℕ) (ports : PortsState) (es : List TurnEvent) (s t : State) : Type 0 where
+  -- the rows are those that were there and aren't taken back, and then those that are asked for
+  pub rows : t.world.table.rows ≡ of_the_live t
+      (rows_left k ports es s.world.table.rows ++ rows_asked ports.exports k s.world.table.next es)
+  -- to the messages that wait for a live actor come exactly those that are asked for
+  pub messages : (b : ℕ) (x y : Actor) → find_actor b s.world.table.actors ≡ Some x
+      → find_actor b t.world.table.actors ≡ Some y
+      → messages_in (events_of y.inbox) ≡ messages_in (events_of x.inbox) ++ messages_asked ports.exports k b es
+
+-- after each list of steps whose callers saw to their conditions
+abbrev pub TakenPackets : Type 0
+TakenPackets =
+    (steps : List Step) (k : ℕ) (es : List TurnEvent) (ports : PortsState) → AreAllowed opening steps
+    → ports_of k (replay steps) ≡ Some ports → (step (replay steps) (Packet k es)).reply ≡ Taken
+    → DoesWhatIsAsked k ports es (replay steps) (step (replay steps) (Packet k es)).state
+
+abbrev pub Exports : Type 0
+Exports = (k : ℕ) (steps : List Step) (ports : PortsState) → ports_of k (replay steps) ≡ Some ports
+    → AreItsOwn k steps ports.exports

@@ -1,0 +1,18 @@
+//! Authority: what connections may do, and what they can name. Each law is the contract of a
+//! function that does nothing, and is proved of the definitions alone.
+#![tactic(auto)]
+
+ghost use Rattle.hub_authority.specs.Laws.{TakenPackets, Exports};
+
+/// In each state to which allowed steps lead, a packet that is taken makes exactly the rows and
+/// sends exactly the messages for which its events ask, at the objects that the connection's
+/// exports name.
+pub fn packets_do_what_they_ask()
+    ensures { TakenPackets }
+{}
+
+/// A live connection's exports are its first object, and the objects of others of which it was
+/// told, each once, in order of first use.
+pub fn exports_are_what_was_told()
+    ensures { Exports }
+{}

@@ -1,0 +1,8 @@
+-- A packet that is admitted leaves a valid state.
+use Rattle.hub_valid.specs.Lemmas.Hubs.{accepted_is_valid}
+use Rattle.hub_core.proofs.hub.Hub.judge.Goals as goal
+
+pub accept-requires-clause-valid : goal.accept-requires-clause-valid
+accept-requires-clause-valid g c = λ valid.
+    accepted_is_valid c.args.connection c.args.ports c.args.turn.now c.in-Ok.admitting c.args.self valid
+    c.requires.valid c.requires.bare c.in-Ok.ensures.admitted

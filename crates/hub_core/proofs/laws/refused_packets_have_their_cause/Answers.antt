@@ -1,5 +1,0 @@
-use Rattle.hub_core.proofs.Refusing.{for_its_cause}
-use Rattle.hub_core.proofs.laws.refused_packets_have_their_cause.Goals as goal
-
-pub returns : goal.returns
-returns c = for_its_cause

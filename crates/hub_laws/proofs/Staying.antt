@@ -1,0 +1,302 @@
+-- What each step keeps of a connection that stays, but for its own turn: what it has got, and its exports.
+use Rattle.std.proofs.Common.{◌≡◌, ◌≢◌, ℕ, ◌-◌, ◌≤◌, leb, List, [], ◌∷◌, Bool, true, false, cond, ◌&&◌}
+use Rattle.std.proofs.Common.{Option, Some, None, is_some, inl, inr, refl, sym, ap, ◌∙◌, arith}
+use Rattle.std.specs.Map.{keys_of}
+use Rattle.std.proofs.lemmas.Bool.Decides.{nat_tests}
+use Rattle.ds_space.specs.declared.references.Reference.{Reference}
+use Rattle.ac_table.specs.declared.batches.Batch.{Batch}
+use Rattle.ac_table.specs.Tables.{Actor, IsTable, find_actor, is_live, rows_of, ended, first_batch}
+use Rattle.ac_world.specs.declared.spreads.Spread.{Spread as SpreadOf}
+use Rattle.ac_world.specs.declared.turns.Turned.{Turned}
+use Rattle.ac_world.specs.declared.turns.Turned.TheVariants as turned
+use Rattle.ac_world.specs.Outboxes.{retractions}
+use Rattle.ac_world.specs.Turns.{After as TurnOf, space_turn, plain_turn, connection_turn, turn_first, turn}
+use Rattle.ac_world.specs.Worlds.{WorldState, entry_of, with_entry, without_entry, is_space, is_system, actor_of, gone}
+use Rattle.ac_world.specs.Worlds.{ended_of}
+use Rattle.rl_packet.specs.declared.packets.Event.{Event}
+use Rattle.rl_packet.specs.declared.packets.Event.TheVariants.{Assert, Retract, Message, Sync}
+use Rattle.rl_packet.specs.declared.packets.TurnEvent.{TurnEvent}
+use Rattle.rl_ports.specs.declared.ports.Inbound.{Inbound}
+use Rattle.rl_ports.specs.declared.ports.Inbound.TheVariants.{Row, Refused}
+use Rattle.rl_ports.specs.Ports.{PortsState, inbound_of, export_of}
+use Rattle.hub_machine.specs.declared.faults.Fault.{Fault}
+use Rattle.hub_machine.specs.declared.faults.Fault.TheVariants.{Spread}
+use Rattle.hub_machine.specs.State.{State, is_there, ports_of}
+use Rattle.hub_machine.specs.Admission.{Admitting, Admitted, refused, admitted, before_all, cause_of, after_retraction}
+use Rattle.hub_machine.specs.Admission.{after_event, after_at, after, unless, all_admitted, admission}
+use Rattle.hub_machine.specs.Endings.{nameless, closed, failed, failed_where, spread_out, all_spread_out}
+use Rattle.hub_machine.specs.Endings.{overrun_of, all_overrun, finished}
+use Rattle.hub_machine.specs.Machine.{unchanged, accepted, judged, packet_at, bad_at, close_at, telling_fault}
+use Rattle.hub_machine.specs.Machine.{exporting, told_unless, tell, fault_for, tell_fault, after_turn, turn_of, rest}
+use Rattle.hub_machine.specs.Machine.{work_by}
+use Rattle.hub_machine.specs.declared.steps.Reply.TheVariants.{Halted, Idle}
+use Rattle.hub_laws.specs.Scratch.{exports_in}
+use Rattle.hub_laws.proofs.EndingActors.{retractions_ascend, ended_none}
+use Rattle.hub_laws.proofs.Entries.{put_found, put_other, out_other}
+use Rattle.hub_laws.proofs.Growing.{Grows, grows_not, grows_on, ended_grows, sent_grows, other_turn_grows}
+use Rattle.hub_laws.proofs.Kept.{IsSound}
+use Rattle.hub_laws.proofs.Leaving.{one_or_not}
+use Rattle.hub_laws.proofs.Posting.{posted_to}
+use Rattle.hub_laws.proofs.Steps.{IsNamed, named_of}
+
+-- the exports that are kept for a connection
+abbrev pub exports_kept : ℕ → State → List Reference
+exports_kept k s = exports_in (entry_of k s.connections)
+
+-- Connection k, found in the later state, was there in the earlier one. It has taken nothing since, and its exports are
+-- the same.
+pub record Stays (k : ℕ) (s t : State) : Type 0 where
+  pub grows : Grows (actor_of k) s.world t.world
+  pub exports : (x : Actor) → find_actor (actor_of k) t.world.table.actors ≡ Some x
+      → exports_kept k t ≡ exports_kept k s
+
+pub stays_not : (k : ℕ) (s : State) → Stays k s s
+stays_not k s = record { grows = grows_not (actor_of k) s.world; exports = λ x found. refl }
+
+pub stays_on : (k : ℕ) (s t u : State) → Stays k s t → Stays k t u → Stays k s u
+stays_on k s t u first later = record {
+  grows = grows_on (actor_of k) s.world t.world u.world first.grows later.grows;
+  exports = λ x found.
+      let before = later.grows.still x found in
+      later.exports x found ∙ first.exports before.before before.found;
+}
+
+-- where the world alone changes
+pub world_stays : (k : ℕ) (s : State) (w : WorldState) → Grows (actor_of k) s.world w
+    → Stays k s (record s { world = w })
+world_stays k s w grows = record { grows = grows; exports = λ x found. refl }
+
+-- where another connection names other things
+pub other_stays : (k j : ℕ) (p : PortsState) (s : State) → k ≢ j
+    → Stays k s (record s { connections = with_entry j p s.connections })
+other_stays k j p s apart = record {
+  grows = grows_not (actor_of k) s.world;
+  exports = λ x found. ap exports_in (put_other j k p s.connections apart);
+}
+
+-- ---- a connection ends
+
+-- who has ended isn't found
+pub ended_not_found : (a : ℕ) (w : WorldState) (x : Actor) → find_actor a (ended_of a w).table.actors ≡ Some x → ⊥
+ended_not_found a w x = by (is_live a w.table) refl
+  where
+    by : (c : Bool) → is_live a w.table ≡ c → find_actor a (cond c (gone a w) w).table.actors ≡ Some x → ⊥
+    by true live found =
+        let y = posted_to a a (retractions (rows_of a w.table.rows) []) (ended a w.table) x
+        (retractions_ascend a w.table.rows) found in
+        absurd (let none : None ≡ Some y.0 = sym (ended_none a w.table) ∙ y.1 in cc)
+    by false dead found = absurd (let live : is_live a w.table ≡ true = ap is_some found in cc)
+
+closed_stays : (k j : ℕ) (fs : List (ℕ × Fault)) (s : State) → Stays k s (record (closed j s) { faults = fs })
+closed_stays k j fs s = record {
+  grows = ended_grows (actor_of j) (actor_of k) s.world;
+  exports = λ x found. elim (one_or_not k j) [
+    | inl same ↦ absurd (ended_not_found (actor_of j) s.world x
+        (ap (λ i. find_actor (actor_of i) (ended_of (actor_of j) s.world).table.actors) (sym same) ∙ found))
+    | inr apart ↦ ap exports_in (out_other j k s.connections apart)
+  ];
+}
+
+failed_stays : (k j : ℕ) (f : Fault) (s : State) → Stays k s (failed j f s)
+failed_stays k j f s = closed_stays k j (with_entry j f s.faults) s
+
+-- ---- a step ends
+
+where_stays : (k j : ℕ) (o : Option Fault) (s : State) → Stays k s (failed_where j o s)
+where_stays k j None s = stays_not k s
+where_stays k j (Some f) s = failed_stays k j f s
+
+spread_stays : (k : ℕ) (x : SpreadOf) (s : State) → Stays k s (spread_out x s)
+spread_stays k x s = by (leb 17 x.actor && is_there (x.actor - 16) s)
+  where
+    by : (c : Bool) → Stays k s (cond c (failed (x.actor - 16) (Spread x.weight) s) s)
+    by true = failed_stays k (x.actor - 16) (Spread x.weight) s
+    by false = stays_not k s
+
+all_spread_stays : (k : ℕ) (xs : List SpreadOf) (s : State) → Stays k s (all_spread_out xs s)
+all_spread_stays k [] s = stays_not k s
+all_spread_stays k (x ∷ xs) s =
+    stays_on k s (spread_out x s) _ (spread_stays k x s) (all_spread_stays k xs (spread_out x s))
+
+all_overrun_stays : (k : ℕ) (js : List ℕ) (s : State) → Stays k s (all_overrun js s)
+all_overrun_stays k [] s = stays_not k s
+all_overrun_stays k (j ∷ js) s =
+    let t : State = failed_where j (overrun_of j s) s in
+    stays_on k s t _ (where_stays k j (overrun_of j s) s) (all_overrun_stays k js t)
+
+pub finished_stays : (k : ℕ) (xs : List SpreadOf) (s : State) → Stays k s (finished xs s)
+finished_stays k xs s =
+    let t : State = all_spread_out xs s in
+    stays_on k s t _ (all_spread_stays k xs s) (all_overrun_stays k (keys_of t.connections) t)
+
+-- a connection fails, and with it a step ends
+pub failing_stays : (k j : ℕ) (f : Fault) (s : State) → Stays k s (finished [] (failed j f s))
+failing_stays k j f s = stays_on k s (failed j f s) _ (failed_stays k j f s) (finished_stays k [] (failed j f s))
+
+pub bad_stays : (k j : ℕ) (o : Option PortsState) (f : Fault) (s : State) → Stays k s (bad_at j o f s).state
+bad_stays k j None f s = stays_not k s
+bad_stays k j (Some p) f s = failing_stays k j f s
+
+pub close_stays : (k j : ℕ) (o : Option PortsState) (s : State) → Stays k s (close_at j o s).state
+close_stays k j None s = stays_not k s
+close_stays k j (Some p) s =
+    stays_on k s (closed j s) _ (closed_stays k j s.faults s) (finished_stays k [] (closed j s))
+
+-- ---- a packet is taken: it exports nothing
+
+retraction_exports : (h : ℕ) (o : Option Inbound) (w : WorldState) (x : Admitting)
+    → (after_retraction h o w x).ports.exports ≡ x.ports.exports
+retraction_exports h None w x = refl
+retraction_exports h (Some Refused) w x = refl
+retraction_exports h (Some (Row n)) w x = refl
+
+event_exports : (j : ℕ) (w : WorldState) (to : Reference) (e : Event) (x : Admitting)
+    → (after_event j w to e x).ports.exports ≡ x.ports.exports
+event_exports j w to (Assert v h) x = refl
+event_exports j w to (Retract h) x = retraction_exports h (inbound_of h x.ports) w x
+event_exports j w to (Message v) x = refl
+event_exports j w to (Sync peer) x = refl
+
+at_exports : (j : ℕ) (w : WorldState) (o : Option Reference) (e : Event) (x : Admitting)
+    → (after_at j w o e x).ports.exports ≡ x.ports.exports
+at_exports j w None e x = refl
+at_exports j w (Some to) e x = event_exports j w to e x
+
+all_exports : (j : ℕ) (w : WorldState) (es : List TurnEvent) (x y : Admitting) → all_admitted j w es x ≡ admitted y
+    → y.ports.exports ≡ x.ports.exports
+all_exports j w [] x y is = let same : x ≡ y = cc in ap (λ (z : Admitting). z.ports.exports) (sym same)
+all_exports j w (e ∷ es) x y is =
+    by (cause_of j w e x) is (all_exports j w es (after j w e x) y)
+    ∙ at_exports j w (export_of e.oid x.ports) e.event x
+  where
+    by : (c : Option Fault) → unless c (all_admitted j w es (after j w e x)) ≡ admitted y
+        → (all_admitted j w es (after j w e x) ≡ admitted y → y.ports.exports ≡ (after j w e x).ports.exports)
+        → y.ports.exports ≡ (after j w e x).ports.exports
+    by None is later = later is
+    by (Some f) is later = absurd cc
+
+admission_exports : (j : ℕ) (p : PortsState) (w : WorldState) (es : List TurnEvent) (c : Option Fault) (x : Admitting)
+    → unless c (all_admitted j w es (before_all j p w)) ≡ admitted x → x.ports.exports ≡ p.exports
+admission_exports j p w es None x is = all_exports j w es (before_all j p w) x is
+admission_exports j p w es (Some f) x is = absurd cc
+
+accepted_stays : (k j : ℕ) (p : PortsState) (x : Admitting) (s : State) → IsTable s.world.table → IsNamed j p s
+    → x.ports.exports ≡ p.exports → Stays k s (accepted j x (nameless j s))
+accepted_stays k j p x s table named is = record {
+  grows = sent_grows (actor_of j) (actor_of k) x.acts s.world table named.live;
+  exports = λ y found. elim (one_or_not k j) [
+    | inl same ↦
+        (let names = without_entry j s.connections in
+        ap (λ i. exports_in (entry_of i (with_entry j x.ports names))) same
+        ∙ ap exports_in (put_found j x.ports names) ∙ is ∙ sym (ap exports_in named.kept)
+        ∙ ap (λ i. exports_in (entry_of i s.connections)) (sym same))
+    | inr apart ↦
+        ap exports_in (put_other j k x.ports (without_entry j s.connections) apart ∙ out_other j k s.connections apart)
+  ];
+}
+
+judged_stays : (k j : ℕ) (p : PortsState) (es : List TurnEvent) (d : Admitted) (s : State) → IsTable s.world.table
+    → IsNamed j p s → admission j p s.world es ≡ d → Stays k s (judged j d (nameless j s)).state
+judged_stays k j p es (refused f) s table named is = failing_stays k j f s
+judged_stays k j p es (admitted x) s table named is =
+    let t : State = accepted j x (nameless j s) in
+    stays_on k s t _ (accepted_stays k j p x s table named (admission_exports j p s.world es _ x is))
+    (finished_stays k [] t)
+
+pub packet_stays : (k j : ℕ) (o : Option PortsState) (es : List TurnEvent) (s : State) → IsTable s.world.table
+    → ports_of j s ≡ o → Stays k s (packet_at j o es s).state
+packet_stays k j None es s table is = stays_not k s
+packet_stays k j (Some p) es s table is =
+    judged_stays k j p es (admission j p s.world es) s table (named_of j p s is) refl
+
+-- ---- another's turn
+
+pub fault_stays : (k a : ℕ) (o : Option Fault) (s : State) → Stays k s (tell_fault a o s).state
+fault_stays k a None s = stays_not k s
+fault_stays k a (Some f) s =
+    let t : State = record s { faults = without_entry (a - 16) s.faults } in
+    stays_on k s t _ (record { grows = grows_not (actor_of k) s.world; exports = λ x found. refl })
+    (finished_stays k [] t)
+
+unless_stays : (k j : ℕ) (o : Option Fault) (p : PortsState) (b : Batch) (s : State) → k ≢ j
+    → Stays k s (told_unless o j p b s).state
+unless_stays k j None p b s apart =
+    stays_on k s (exporting j b p s) _ (other_stays k j _ s apart) (finished_stays k [] (exporting j b p s))
+unless_stays k j (Some f) p b s apart = failing_stays k j f s
+
+tell_stays : (k j : ℕ) (o : Option PortsState) (b : Batch) (s : State) → k ≢ j → Stays k s (tell j o b s).state
+tell_stays k j None b s apart = finished_stays k [] s
+tell_stays k j (Some p) b s apart = unless_stays k j (telling_fault j b p) p b s apart
+
+after_stays : (k a : ℕ) (t : Turned) (s : State) → ((b : Batch) → t ≡ turned.Taken b → k ≢ a - 16)
+    → Stays k s (after_turn a t s).state
+after_stays k a (turned.Ran xs) s apart = finished_stays k xs s
+after_stays k a (turned.Taken b) s apart = tell_stays k (a - 16) (ports_of (a - 16) s) b s (apart b refl)
+after_stays k a turned.Idle s apart = stays_not k s
+after_stays k a turned.Gone s apart = fault_stays k a (fault_for a s) s
+
+-- no batch is taken by a system actor
+taken_by_connection : (a : ℕ) (w : WorldState) (b : Batch) → (turn a w).turned ≡ turned.Taken b → is_system a ≡ false
+taken_by_connection a w b = by (is_live a w.table) (first_batch a w.table)
+  where
+    none : TurnOf
+    none = record { world = w; turned = turned.Gone }
+
+    kinds : (batch : Batch) (u : WorldState) (c d : Bool) → is_system a ≡ d
+        → (cond c (space_turn a batch u) (cond d (plain_turn a batch u) (connection_turn a batch u))).turned
+        ≡ turned.Taken b → is_system a ≡ false
+    kinds batch u true d system is = absurd cc
+    kinds batch u false true system is = absurd cc
+    kinds batch u false false system is = system
+
+    by : (c : Bool) (o : Option Batch) → (cond c (turn_first a o w) none).turned ≡ turned.Taken b
+        → is_system a ≡ false
+    by false o is = absurd cc
+    by true None is = absurd cc
+    by true (Some batch) is = kinds batch _ (is_space a) (is_system a) refl is
+
+pub other_turn_stays : (k a : ℕ) (s : State) → IsSound [] s.world → actor_of k ≢ a → Stays k s (turn_of a s).state
+other_turn_stays k a s sound apart =
+    let t : TurnOf = turn a s.world in
+    let u : State = record s { world = t.world } in
+    stays_on k s u _ (world_stays k s t.world (other_turn_grows a (actor_of k) s.world sound apart))
+    (after_stays k a t.turned u
+    (λ b is same. let far = taken_by_connection a s.world b is in
+    let high : 17 ≤ a = grind (arith, nat_tests, far) in
+    apart (omega (arith, same, high))))
+
+-- ---- work
+
+rest_stays : (k : ℕ) (s : State) → Stays k s (rest s).state
+rest_stays k s = by s.stopped
+  where
+    by : (c : Bool) → Stays k s (cond c (unchanged s Halted) (unchanged s Idle)).state
+    by true = stays_not k s
+    by false = stays_not k s
+
+-- the turn of a system actor, which isn't live where it has the connection's number
+system_stays : (k a : ℕ) (s : State) → IsSound [] s.world → is_system a ≡ true → Stays k s (turn_of a s).state
+system_stays k a s sound low = elim (one_or_not (actor_of k) a) [
+  | inr apart ↦ other_turn_stays k a s sound apart
+  | inl same ↦
+      dead (is_live a s.world.table) (sound.no_watchers a (omega (arith, same)) (grind (arith, nat_tests, low)))
+]
+  where
+    none : TurnOf
+    none = record { world = s.world; turned = turned.Gone }
+
+    after_this : TurnOf → State
+    after_this t = (after_turn a t.turned (record s { world = t.world })).state
+
+    dead : (c : Bool) → c ≡ false
+        → Stays k s (after_this (cond c (turn_first a (first_batch a s.world.table) s.world) none))
+    dead true is = absurd cc
+    dead false is = fault_stays k a (fault_for a s) s
+
+pub work_stays : (k : ℕ) (o : Option ℕ) (s : State) → IsSound [] s.world → Stays k s (work_by o s).state
+work_stays k None s sound = rest_stays k s
+work_stays k (Some a) s sound = by (is_system a) refl
+  where
+    by : (c : Bool) → is_system a ≡ c → Stays k s (cond c (turn_of a s) (rest s)).state
+    by true low = system_stays k a s sound low
+    by false high = rest_stays k s

@@ -1,0 +1,6 @@
+use Rattle.std.proofs.Common.{◌≡◌, map, take}
+use Rattle.dp_pattern.specs.Words.{number}
+use Rattle.hub_machine.proofs.faults.error.Given as goal
+
+abbrev pub invariant-loop-n : goal.invariant-loop-n
+invariant-loop-n l = l.items.items ≡ map number (take l.n-index l.numbers)

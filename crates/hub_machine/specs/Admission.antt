@@ -1,0 +1,197 @@
+-- The admission of a packet: its events are checked in order, each as those before it would leave what is counted, and
+-- the first cause against one of them refuses all. Syndicate Protocol, "turns"; the limits are this server's own.
+use Rattle.std.specs.Prelude.{ℕ, ◌+◌, ◌-◌, ◌^◌, min, List, [], ◌∷◌, ◌++◌, length, not, Option, Some, None}
+use Rattle.std.specs.Prelude.{Bool, ◌&&◌, unwrap_or, option_and_then, if◌then◌else◌}
+use Rattle.pv_value.specs.Plain.{Plain, embedded}
+use Rattle.pv_value.specs.Weight.{weight}
+use Rattle.pv_value.specs.Depth.{depth}
+use Rattle.ac_table.specs.declared.batches.Row.{Row as TableRow}
+use Rattle.ac_table.specs.Tables.{find_row}
+use Rattle.ac_world.specs.declared.acts.Act.{Act}
+use Rattle.ac_world.specs.declared.acts.Act.TheVariants as act
+use Rattle.ac_world.specs.declared.sums.Load.{Load}
+use Rattle.ac_world.specs.Sums.{top, top_load, both, one, backlog, row_weight}
+use Rattle.ac_table.specs.Tables.{is_live}
+use Rattle.ac_world.specs.Worlds.{WorldState, entry_of, with_entry, actor_of, is_system}
+use Rattle.rl_packet.specs.declared.packets.Event.{Event}
+use Rattle.rl_packet.specs.declared.packets.Event.TheVariants.{Assert, Retract, Message, Sync}
+use Rattle.rl_packet.specs.declared.packets.TurnEvent.{TurnEvent}
+use Rattle.ds_space.specs.declared.references.Reference.{Reference}
+use Rattle.rl_wire.specs.Crossing.{crossed_in, fault_in}
+use Rattle.rl_wire.specs.declared.faults.WireFault.{WireFault}
+use Rattle.rl_wire.specs.declared.faults.WireFault.TheVariants as wire
+use Rattle.hub_machine.specs.Faults.{Fault, UnknownOid, HandleInUse, UnknownHandle, Limit, ◌<|>◌, where_it_is, over}
+use Rattle.rl_ports.specs.declared.ports.Inbound.{Inbound}
+use Rattle.rl_ports.specs.declared.ports.Inbound.TheVariants.{Row, Refused}
+use Rattle.rl_ports.specs.Ports.{PortsState, inbound_of, is_in_use, taken_into_use, freed, export_of}
+
+-- What the events so far do, the weight of each row that they make, what the connection names after them, how much its
+-- rows weigh and how much of it waits for the system's actors, and the handle that is drawn next. Counts and sums of
+-- weights end at the greatest 64-bit number.
+pub record Admitting : Type 0 where
+  pub acts : List Act
+  pub made : List (ℕ × ℕ)
+  pub ports : PortsState
+  pub rows : ℕ
+  pub load : Load
+  pub next : ℕ
+
+-- before the first event of connection k
+abbrev pub before_all : ℕ → PortsState → WorldState → Admitting
+before_all k ports w = record {
+  acts = [];
+  made = [];
+  ports = ports;
+  rows = top (row_weight (actor_of k) w);
+  load = top_load (backlog (actor_of k) w);
+  next = w.table.next;
+}
+
+-- ---- what is counted
+
+abbrev pub weighed : Plain → ℕ
+weighed v = top (weight v)
+
+abbrev pub nested : Plain → ℕ
+nested v = min (depth v) (2 ^ 32 - 1)
+
+-- the rows with one more that weighs so much
+abbrev pub rows_with : ℕ → Admitting → ℕ
+rows_with w x = top (x.rows + w)
+
+-- whether events at an object wait for one of the system's actors
+abbrev pub waits_at : Reference → WorldState → Bool
+waits_at to w = is_system to.at && is_live to.at w.table
+
+-- what waits for them, with one event more that weighs so much
+abbrev pub load_with : WorldState → Reference → ℕ → Admitting → Load
+load_with w to n x = if waits_at to w then top_load (both x.load (one n)) else x.load
+
+-- what is inside an embedded value
+abbrev pub inside : Plain → Plain
+inside (embedded x) = x
+inside v = v
+
+-- ---- causes, the first that holds before the others; values are as the server keeps them
+
+-- why a value can't come in at connection k: an export in it isn't there, or as the server keeps it, it is too heavy or
+-- too deep
+abbrev pub fault_of : WireFault → Option Fault
+fault_of (wire.UnknownOid n) = Some (UnknownOid n)
+fault_of (wire.Limit which n) = Some (Limit which n)
+fault_of wire.NoMemory = None
+
+abbrev pub value_cause : ℕ → Plain → Admitting → Option Fault
+value_cause k v x = option_and_then fault_of (fault_in x.ports.exports k v)
+
+-- a value of the connection's, as the server keeps it
+abbrev pub kept : ℕ → Plain → Admitting → Plain
+kept k v x = crossed_in x.ports.exports k v
+
+abbrev pub load_cause : Load → Option Fault
+load_cause l = over 65536 10 l.count <|> over 16777216 11 l.weight
+
+abbrev pub handle_cause : ℕ → Admitting → Option Fault
+handle_cause h x = where_it_is (is_in_use h x.ports) (HandleInUse h)
+
+abbrev pub assertion_cause : ℕ → WorldState → Reference → Plain → ℕ → Admitting → Option Fault
+assertion_cause k w to v h x =
+    value_cause k v x
+    <|> handle_cause h x
+    <|> over 4096 4 (top (length x.ports.handles + 1))
+    <|> over 4194304 5 (rows_with (weighed (kept k v x)) x)
+    <|> load_cause (load_with w to (weighed (kept k v x)) x)
+
+abbrev pub retraction_cause : ℕ → Admitting → Option Fault
+retraction_cause h x = where_it_is (not (is_in_use h x.ports)) (UnknownHandle h)
+
+abbrev pub message_cause : ℕ → WorldState → Reference → Plain → Admitting → Option Fault
+message_cause k w to v x = value_cause k v x <|> load_cause (load_with w to (weighed (kept k v x)) x)
+
+-- a sync weighs what its peer weighs, without a node for the embedding
+abbrev pub sync_cause : ℕ → WorldState → Reference → Plain → Admitting → Option Fault
+sync_cause k w to peer x =
+    value_cause k peer x <|> load_cause (load_with w to (weighed (inside (kept k peer x))) x)
+
+abbrev pub event_cause : ℕ → WorldState → Reference → Event → Admitting → Option Fault
+event_cause k w to (Assert v h) x = assertion_cause k w to v h x
+event_cause k w to (Retract h) x = retraction_cause h x
+event_cause k w to (Message v) x = message_cause k w to v x
+event_cause k w to (Sync peer) x = sync_cause k w to peer x
+
+-- an event is at an export, which has to be there
+abbrev pub cause_at : ℕ → WorldState → Option Reference → TurnEvent → Admitting → Option Fault
+cause_at k w None e x = Some (UnknownOid e.oid)
+cause_at k w (Some to) e x = event_cause k w to e.event x
+
+abbrev pub cause_of : ℕ → WorldState → TurnEvent → Admitting → Option Fault
+cause_of k w e x = cause_at k w (export_of e.oid x.ports) e x
+
+-- ---- what an event leaves
+
+abbrev pub after_assertion : WorldState → Reference → Plain → ℕ → Admitting → Admitting
+after_assertion w to v h x = record {
+  acts = x.acts ++ act.Assert to.at to.entity v ∷ [];
+  made = with_entry x.next (weighed v) x.made;
+  ports = taken_into_use h (Row x.next) x.ports;
+  rows = rows_with (weighed v) x;
+  load = load_with w to (weighed v) x;
+  next = x.next + 1;
+}
+
+abbrev pub weight_of_row : Option TableRow → ℕ
+weight_of_row None = 0
+weight_of_row (Some r) = weighed r.value
+
+-- how much the row of a handle weighs: of one made by this packet, or of one that stands
+abbrev pub row_weighs : ℕ → WorldState → Admitting → ℕ
+row_weighs n w x = unwrap_or (entry_of n x.made) (weight_of_row (find_row n w.table.rows))
+
+abbrev pub after_retraction : ℕ → Option Inbound → WorldState → Admitting → Admitting
+after_retraction h None w x = x
+after_retraction h (Some Refused) w x = record x { ports = freed h x.ports }
+after_retraction h (Some (Row n)) w x = record x {
+  acts = x.acts ++ act.Retract n ∷ [];
+  ports = freed h x.ports;
+  rows = x.rows - row_weighs n w x;
+}
+
+abbrev pub after_message : WorldState → Reference → Plain → Admitting → Admitting
+after_message w to v x =
+    record x { acts = x.acts ++ act.Message to.at to.entity v ∷ []; load = load_with w to (weighed v) x }
+
+abbrev pub after_sync : WorldState → Reference → Plain → Admitting → Admitting
+after_sync w to peer x =
+    record x { acts = x.acts ++ act.Sync to.at to.entity peer ∷ []; load = load_with w to (weighed peer) x }
+
+abbrev pub after_event : ℕ → WorldState → Reference → Event → Admitting → Admitting
+after_event k w to (Assert v h) x = after_assertion w to (kept k v x) h x
+after_event k w to (Retract h) x = after_retraction h (inbound_of h x.ports) w x
+after_event k w to (Message v) x = after_message w to (kept k v x) x
+after_event k w to (Sync peer) x = after_sync w to (inside (kept k peer x)) x
+
+abbrev pub after_at : ℕ → WorldState → Option Reference → Event → Admitting → Admitting
+after_at k w None e x = x
+after_at k w (Some to) e x = after_event k w to e x
+
+abbrev pub after : ℕ → WorldState → TurnEvent → Admitting → Admitting
+after k w e x = after_at k w (export_of e.oid x.ports) e.event x
+
+-- ---- all events
+
+-- what becomes of a packet
+pub data Admitted : Type 0 where
+  refused : (f : Fault) → Admitted
+  admitted : (x : Admitting) → Admitted
+
+abbrev pub unless : Option Fault → Admitted → Admitted
+unless None d = d
+unless (Some f) d = refused f
+
+abbrev pub all_admitted : ℕ → WorldState → List TurnEvent → Admitting → Admitted
+all_admitted k w [] x = admitted x
+all_admitted k w (e ∷ es) x = unless (cause_of k w e x) (all_admitted k w es (after k w e x))
+
+-- the number of events is looked at first
+abbrev pub admission : ℕ → PortsState → WorldState → List TurnEvent → Admitted
+admission k ports w es = unless (over 1024 3 (length es)) (all_admitted k w es (before_all k ports w))

@@ -1,0 +1,43 @@
+-- Why a packet is refused, in words: it has too many events, or a cause is against one of them and none against those
+-- before it.
+use Rattle.std.specs.Prelude.{◌≡◌, ◌↔◌, ℕ, ◌<◌, ◌≤◌, ◌⊎◌, List, [], ◌∷◌, ◌++◌, false, length, Some, None}
+use Rattle.ac_world.specs.Worlds.{WorldState}
+use Rattle.rl_packet.specs.declared.packets.TurnEvent.{TurnEvent}
+use Rattle.hub_machine.specs.Faults.{Fault, Limit}
+use Rattle.rl_ports.specs.Ports.{PortsState}
+use Rattle.hub_machine.specs.State.{State, ports_of}
+use Rattle.hub_machine.specs.Admission.{Admitting, before_all, cause_of, after}
+use Rattle.hub_machine.specs.Machine.{step, is_worn}
+use Rattle.hub_machine.specs.declared.steps.Step.TheVariants.{Packet}
+use Rattle.hub_machine.specs.declared.steps.Reply.TheVariants.{Refused}
+
+-- what events leave
+abbrev pub after_all : ℕ → WorldState → List TurnEvent → Admitting → Admitting
+after_all k w [] x = x
+after_all k w (e ∷ es) x = after_all k w es (after k w e x)
+
+-- no cause is against any of the events, each as those before it leave what is counted
+abbrev pub NoneAgainst : ℕ → WorldState → List TurnEvent → Admitting → Type 0
+NoneAgainst k w [] x = Unit {0}
+NoneAgainst k w (e ∷ es) x = (cause_of k w e x ≡ None) × NoneAgainst k w es (after k w e x)
+
+-- f is against one of the events, and nothing against those before it
+pub record IsFirstCause (k : ℕ) (w : WorldState) (es : List TurnEvent) (x : Admitting) (f : Fault) : Type 0 where
+  pub before : List TurnEvent
+  pub event : TurnEvent
+  pub later : List TurnEvent
+  pub are : es ≡ before ++ event ∷ later
+  pub free : NoneAgainst k w before x
+  pub cause : cause_of k w event (after_all k w before x) ≡ Some f
+
+abbrev pub IsCause : ℕ → PortsState → WorldState → List TurnEvent → Fault → Type 0
+IsCause k ports w es f =
+    ((1024 < length es) × (f ≡ Limit 3 (length es)))
+    ⊎ ((length es ≤ 1024) × IsFirstCause k w es (before_all k ports w) f)
+
+-- a packet of a live connection is refused for exactly its cause
+abbrev pub RefusedForItsCause : Type 0
+RefusedForItsCause =
+    (s : State) (k : ℕ) (es : List TurnEvent) (ports : PortsState) (f : Fault) → is_worn s (Packet k es) ≡ false
+    → ports_of k s ≡ Some ports
+    → ((step s (Packet k es)).reply ≡ Refused f) ↔ IsCause k ports s.world es f

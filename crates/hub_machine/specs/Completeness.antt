@@ -1,0 +1,92 @@
+-- What is never refused: a packet of a live connection that keeps to the limits, whose objects are known and whose
+-- handles are right; and that a turn takes exactly the first batch.
+use Rattle.std.specs.Prelude.{◌≡◌, ℕ, ◌+◌, ◌-◌, ◌≤◌, List, [], ◌∷◌, Bool, true, false, length, Option, Some, None}
+use Rattle.pv_value.specs.Plain.{Plain}
+use Rattle.ds_space.specs.declared.references.Reference.{Reference}
+use Rattle.ac_table.specs.declared.batches.Batch.{Batch}
+use Rattle.ac_table.specs.Tables.{first_batch}
+use Rattle.ac_world.specs.declared.sums.Load.{Load}
+use Rattle.ac_world.specs.Worlds.{WorldState, is_system}
+use Rattle.rl_packet.specs.declared.packets.Event.{Event}
+use Rattle.rl_packet.specs.declared.packets.Event.TheVariants.{Assert, Retract, Message, Sync}
+use Rattle.rl_packet.specs.declared.packets.TurnEvent.{TurnEvent}
+use Rattle.rl_ports.specs.Ports.{PortsState, is_in_use, export_of}
+use Rattle.rl_wire.specs.Crossing.{held_in, first_unknown, nested}
+use Rattle.hub_machine.specs.Faults.{Fault}
+use Rattle.hub_machine.specs.State.{State, ports_of}
+use Rattle.hub_machine.specs.Admission.{Admitting, before_all, after, kept, weighed, rows_with, load_with, inside}
+use Rattle.hub_machine.specs.Machine.{is_worn, packet_to, telling_fault, exports_after}
+use Rattle.hub_machine.specs.declared.steps.Step.{Step}
+use Rattle.hub_machine.specs.declared.steps.Step.TheVariants.{Arrive, Packet, Bad, Close, Turn, Work, Stop}
+use Rattle.hub_machine.specs.declared.steps.Reply.{Reply}
+use Rattle.hub_machine.specs.declared.steps.Reply.TheVariants.{Refused, Ran, Taken}
+
+-- ---- packets
+
+abbrev pub IsLight : Plain → Type 0
+IsLight v = (weighed v ≤ 1048576) × (nested v ≤ 48)
+
+abbrev pub MayWait : Load → Type 0
+MayWait l = (l.count ≤ 65536) × (l.weight ≤ 16777216)
+
+-- each export that it names is there, and as the server keeps it the value is neither too heavy nor too deep
+abbrev pub IsFineValue : ℕ → Plain → Admitting → Type 0
+IsFineValue k v x = (first_unknown x.ports.exports (held_in v) ≡ None) × IsLight (kept k v x)
+
+abbrev pub IsFineAssertion : ℕ → WorldState → Reference → Plain → ℕ → Admitting → Type 0
+IsFineAssertion k w to v h x =
+    IsFineValue k v x × (is_in_use h x.ports ≡ false) × (length x.ports.handles + 1 ≤ 4096)
+    × (rows_with (weighed (kept k v x)) x ≤ 4194304) × MayWait (load_with w to (weighed (kept k v x)) x)
+
+-- the event keeps to the limits, and its handle is right
+abbrev pub IsFineEvent : ℕ → WorldState → Reference → Event → Admitting → Type 0
+IsFineEvent k w to (Assert v h) x = IsFineAssertion k w to v h x
+IsFineEvent k w to (Retract h) x = is_in_use h x.ports ≡ true
+IsFineEvent k w to (Message v) x = IsFineValue k v x × MayWait (load_with w to (weighed (kept k v x)) x)
+IsFineEvent k w to (Sync peer) x =
+    IsFineValue k peer x × MayWait (load_with w to (weighed (inside (kept k peer x))) x)
+
+-- and its object is an export
+abbrev pub IsFineAt : ℕ → WorldState → Option Reference → Event → Admitting → Type 0
+IsFineAt k w None e x = ⊥
+IsFineAt k w (Some to) e x = IsFineEvent k w to e x
+
+-- each event, as those before it leave what is counted
+abbrev pub AreFine : ℕ → WorldState → List TurnEvent → Admitting → Type 0
+AreFine k w [] x = Unit {0}
+AreFine k w (e ∷ es) x = IsFineAt k w (export_of e.oid x.ports) e.event x × AreFine k w es (after k w e x)
+
+abbrev pub IsFineFor : ℕ → Option PortsState → List TurnEvent → State → Type 0
+IsFineFor k None es s = ⊥
+IsFineFor k (Some ports) es s = (length es ≤ 1024) × AreFine k s.world es (before_all k ports s.world)
+
+abbrev pub IsFinePacket : ℕ → List TurnEvent → State → Type 0
+IsFinePacket k es s = IsFineFor k (ports_of k s) es s
+
+-- ---- turns
+
+-- the reply to a connection's turn that takes this batch: the packet, or that too much would be exported
+abbrev pub told_reply : Option Fault → ℕ → Batch → PortsState → Reply
+told_reply None k b ports = packet_to (exports_after k b ports) k b
+told_reply (Some f) k b ports = Refused f
+
+abbrev pub IsToldTo : ℕ → Option PortsState → Batch → Reply → Type 0
+IsToldTo k None b r = Unit {0}
+IsToldTo k (Some ports) b r = r ≡ told_reply (telling_fault k b ports) k b ports
+
+-- the reply to an actor's turn that takes this batch
+abbrev pub IsTurnReply : Bool → ℕ → Batch → State → Reply → Type 0
+IsTurnReply true a b s r = r ≡ Ran
+IsTurnReply false a b s r = IsToldTo (a - 16) (ports_of (a - 16) s) b r
+
+-- ---- steps
+
+abbrev pub IsComplete : State → Step → Reply → Type 0
+IsComplete s (Packet k es) r = is_worn s (Packet k es) ≡ false → IsFinePacket k es s → r ≡ Taken
+IsComplete s (Turn a) r =
+    is_worn s (Turn a) ≡ false → (b : Batch) → first_batch a s.world.table ≡ Some b → IsTurnReply (is_system a) a b s r
+IsComplete s (Arrive space) r = Unit {0}
+IsComplete s (Bad k f) r = Unit {0}
+IsComplete s (Close k) r = Unit {0}
+IsComplete s Work r = Unit {0}
+IsComplete s Stop r = Unit {0}

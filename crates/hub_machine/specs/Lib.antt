@@ -1,0 +1,11 @@
+pub mod Admission
+pub mod Bareness
+pub mod Causes
+pub mod Completeness
+pub mod Endings
+pub mod Faults
+pub mod Laws
+pub mod Lemmas
+pub mod Machine
+pub mod Replays
+pub mod State

@@ -1,0 +1,45 @@
+//! The limits. Each is the most that is taken; one more is refused, or ends the connection.
+
+pub use ds_space::WANTED_WEIGHT;
+
+/// The most events of a turn. A fault tells it as 3.
+pub const TURN_EVENTS: u64 = 1_024;
+
+/// The most handles that a connection has in use. A fault tells it as 4.
+pub const HANDLES: u64 = 4_096;
+
+/// The greatest weight of all that a connection asserts. A fault tells it as 5.
+pub const ROWS_WEIGHT: u64 = 4_194_304;
+
+/// The greatest weight of one value that is asserted or said. A fault tells it as 6.
+pub const VALUE_WEIGHT: u64 = 1_048_576;
+
+/// How deep a value may nest that is asserted or said. A fault tells it as 7.
+pub const VALUE_DEPTH: u32 = 48;
+
+/// The most events of a connection's that wait for the system's actors. A fault tells it as 10.
+pub const BACKLOG: u64 = 65_536;
+
+/// The greatest weight of these events. A fault tells it as 11.
+pub const BACKLOG_WEIGHT: u64 = 16_777_216;
+
+/// The most assertions and events that are held for a connection or wait for it.
+pub const DELIVERIES: u64 = 65_536;
+
+/// The greatest weight of these.
+pub const DELIVERIES_WEIGHT: u64 = 16_777_216;
+
+/// The most live connections.
+pub const CONNECTIONS: usize = 32;
+
+/// The last dataspace; the first is 1.
+pub const DATASPACES: u8 = 8;
+
+/// A packet's greatest length on the wire, in bytes.
+pub const PACKET_BYTES: usize = 262_144;
+
+/// No step is done where a handle of this number or more would be drawn.
+pub const WORN_HANDLE: u64 = 1 << 62;
+
+/// No connection comes where so many were opened.
+pub const WORN_CONNECTIONS: u32 = 1 << 31;

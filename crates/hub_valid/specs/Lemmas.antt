@@ -1,0 +1,11 @@
+-- Lemmas on the definitions, which proofs above cite. A reader of the contracts needs none of them.
+pub mod Admitted
+pub mod Captured
+pub mod Crossed
+pub mod Hubs
+pub mod Turns
+pub mod Values
+pub mod WorldLists
+pub mod WorldPlans
+pub mod WorldTables
+pub mod Worlds

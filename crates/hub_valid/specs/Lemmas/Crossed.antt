@@ -1,0 +1,236 @@
+-- What is held in values that cross, and that what is sent may stand in a packet.
+use Rattle.std.proofs.Common.{◌≡◌, ℕ, zero, suc, ◌^◌, ◌<◌, ◌≤◌, Bool, true, false, ◌&&◌, List, [], ◌∷◌, ◌++◌, length}
+use Rattle.std.proofs.Common.{map, Option, Some, None, refl, arith}
+use Rattle.std.proofs.lemmas.Bool.{and_from}
+use Rattle.std.proofs.lemmas.Bool.Decides.{nat_tests}
+use Rattle.std.specs.Prelude.{◌==◌, IsSomeAnd, option_map, unwrap_or, if◌then◌else◌}
+use Rattle.std.specs.declared.cmp.Ordering.{Ordering}
+use Rattle.std.specs.declared.cmp.Ordering.TheVariants.{Less, Equal, Greater}
+use Rattle.std.specs.Ordering.{match_ordering}
+use Rattle.std.specs.BTreeMap.{insert_entry}
+use Rattle.std.specs.List.{AllByRecursion}
+use Rattle.pv_value.specs.Plain.{Plain, integer, record_of, sequence, set_of, dictionary, embedded, boolean, double}
+use Rattle.pv_value.specs.Plain.{string, byte_string, symbol, Plains, no_more, then_more, PlainPairs, no_pairs}
+use Rattle.pv_value.specs.Plain.{then_pair, plains, listed, pairs, paired}
+use Rattle.pv_value.specs.Order.{order}
+use Rattle.pv_value.specs.Sets.{ascending_by}
+use Rattle.ds_space.specs.declared.references.Reference.{Reference}
+use Rattle.ds_space.specs.References.{reference_of, is_same}
+use Rattle.ac_table.specs.declared.batches.Event.{Event}
+use Rattle.ac_table.specs.declared.batches.Event.TheVariants.{Assert, Retract, Message, Sync}
+use Rattle.rl_packet.specs.Wired.{is_wire_reference, is_wired, all_wired, all_pairs_wired, IsTurnEvent}
+use Rattle.rl_ports.specs.Ports.{place_of, number_of}
+use Rattle.rl_wire.specs.Crossing.{by_keys, crossed, all_crossed, all_pairs_crossed, held_in, all_held_in}
+use Rattle.rl_wire.specs.Crossing.{all_pairs_held_in, actor_at, wire_value, object_out, crossed_out}
+use Rattle.rl_wire.specs.Lemmas.Later.{all_of_front, all_of_rest}
+use Rattle.hub_machine.specs.Machine.{sent_event}
+use Rattle.hub_valid.specs.Validity.{IsObject, IsObjectValue, HoldsObjects, IsValidEvent}
+use Rattle.hub_valid.specs.Promises.{SentIsSound}
+use Rattle.hub_valid.specs.Lemmas.Values.{all_append, all_ascending}
+
+-- ---- values in lists, each of which holds what passes
+
+module _ (Q : Plain → Type 0) where
+  -- each embedded value in it that isn't inside another holds what passes
+  abbrev Holds : Plain → Type 0
+  Holds v = AllByRecursion Q (held_in v)
+
+  -- an entry's key and value do
+  abbrev EntryHolds : Plain × Plain → Type 0
+  EntryHolds p = Holds p.0 × Holds p.1
+
+  held_listed : (xs : Plains) → AllByRecursion Q (all_held_in xs) → AllByRecursion Holds (listed xs)
+  held_listed no_more a = tt
+  held_listed (then_more x xs) a =
+      (all_of_front Q (held_in x) (all_held_in xs) a, held_listed xs (all_of_rest Q (held_in x) (all_held_in xs) a))
+
+  held_plains : (xs : List Plain) → AllByRecursion Holds xs → AllByRecursion Q (all_held_in (plains xs))
+  held_plains [] a = tt
+  held_plains (x ∷ xs) a = all_append Q (held_in x) (all_held_in (plains xs)) a.0 (held_plains xs a.1)
+
+  held_paired : (ps : PlainPairs) → AllByRecursion Q (all_pairs_held_in ps) → AllByRecursion EntryHolds (paired ps)
+  held_paired no_pairs a = tt
+  held_paired (then_pair k v ps) a =
+      let first = all_of_front Q (held_in k ++ held_in v) (all_pairs_held_in ps) a in (
+        (all_of_front Q (held_in k) (held_in v) first, all_of_rest Q (held_in k) (held_in v) first),
+        held_paired ps (all_of_rest Q (held_in k ++ held_in v) (all_pairs_held_in ps) a),
+      )
+
+  held_pairs : (ps : List (Plain × Plain)) → AllByRecursion EntryHolds ps
+      → AllByRecursion Q (all_pairs_held_in (pairs ps))
+  held_pairs [] a = tt
+  held_pairs (p ∷ ps) a =
+      all_append Q (held_in p.0 ++ held_in p.1) (all_pairs_held_in (pairs ps))
+      (all_append Q (held_in p.0) (held_in p.1) a.0.0 a.0.1) (held_pairs ps a.1)
+
+  -- an entry that is put in order replaces at most the value of an equal key
+  entry_inserted : (ps : List (Plain × Plain)) (k v : Plain) → AllByRecursion EntryHolds ps → Holds k → Holds v
+      → AllByRecursion EntryHolds (insert_entry order ps k v)
+  entry_inserted [] k v a hk hv = ((hk, hv), tt)
+  entry_inserted (p ∷ ps) k v a hk hv = by (order k p.0) (entry_inserted ps k v a.1 hk hv)
+    where
+      by : (o : Ordering) → AllByRecursion EntryHolds (insert_entry order ps k v)
+          → AllByRecursion EntryHolds
+          (match_ordering o ((k, v) ∷ p ∷ ps) ((p.0, v) ∷ ps) (p ∷ insert_entry order ps k v))
+      by Less rest = ((hk, hv), a)
+      by Equal rest = ((a.0.0, hv), a.1)
+      by Greater rest = (a.0, rest)
+
+  entries_in_order : (ps : List (Plain × Plain)) → AllByRecursion EntryHolds ps
+      → AllByRecursion EntryHolds (by_keys ps)
+  entries_in_order [] a = tt
+  entries_in_order (p ∷ ps) a = entry_inserted (by_keys ps) p.0 p.1 (entries_in_order ps a.1) a.0.0 a.0.1
+
+  held_in_set : (xs : Plains) → AllByRecursion Q (all_held_in xs)
+      → AllByRecursion Q (all_held_in (plains (ascending_by order (listed xs))))
+  held_in_set xs a =
+      held_plains (ascending_by order (listed xs)) (all_ascending Holds order (listed xs) (held_listed xs a))
+
+  held_in_dictionary : (ps : PlainPairs) → AllByRecursion Q (all_pairs_held_in ps)
+      → AllByRecursion Q (all_pairs_held_in (pairs (by_keys (paired ps))))
+  held_in_dictionary ps a = held_pairs (by_keys (paired ps)) (entries_in_order (paired ps) (held_paired ps a))
+
+-- ---- what is held in a value that has crossed comes of what was held in it
+
+mutual
+  pub held_by_crossed : (P Q : Plain → Type 0) (f : Plain → Plain) → ((x : Plain) → P x → Q (f x)) → (v : Plain)
+      → AllByRecursion P (held_in v) → AllByRecursion Q (held_in (crossed f v))
+  held_by_crossed P Q f by (embedded x) a = (by x a.0, tt)
+  held_by_crossed P Q f by (record_of l fs) a =
+      all_append Q (held_in (crossed f l)) (all_held_in (all_crossed f fs))
+      (held_by_crossed P Q f by l (all_of_front P (held_in l) (all_held_in fs) a))
+      (held_by_all_crossed P Q f by fs (all_of_rest P (held_in l) (all_held_in fs) a))
+  held_by_crossed P Q f by (sequence xs) a = held_by_all_crossed P Q f by xs a
+  held_by_crossed P Q f by (set_of xs) a = held_in_set Q (all_crossed f xs) (held_by_all_crossed P Q f by xs a)
+  held_by_crossed P Q f by (dictionary ps) a =
+      held_in_dictionary Q (all_pairs_crossed f ps) (held_by_all_pairs_crossed P Q f by ps a)
+  held_by_crossed P Q f by (boolean b) a = tt
+  held_by_crossed P Q f by (double d) a = tt
+  held_by_crossed P Q f by (integer n) a = tt
+  held_by_crossed P Q f by (string s) a = tt
+  held_by_crossed P Q f by (byte_string b) a = tt
+  held_by_crossed P Q f by (symbol s) a = tt
+
+  held_by_all_crossed : (P Q : Plain → Type 0) (f : Plain → Plain) → ((x : Plain) → P x → Q (f x)) → (xs : Plains)
+      → AllByRecursion P (all_held_in xs) → AllByRecursion Q (all_held_in (all_crossed f xs))
+  held_by_all_crossed P Q f by no_more a = tt
+  held_by_all_crossed P Q f by (then_more x xs) a =
+      all_append Q (held_in (crossed f x)) (all_held_in (all_crossed f xs))
+      (held_by_crossed P Q f by x (all_of_front P (held_in x) (all_held_in xs) a))
+      (held_by_all_crossed P Q f by xs (all_of_rest P (held_in x) (all_held_in xs) a))
+
+  held_by_all_pairs_crossed : (P Q : Plain → Type 0) (f : Plain → Plain) → ((x : Plain) → P x → Q (f x))
+      → (ps : PlainPairs) → AllByRecursion P (all_pairs_held_in ps)
+      → AllByRecursion Q (all_pairs_held_in (all_pairs_crossed f ps))
+  held_by_all_pairs_crossed P Q f by no_pairs a = tt
+  held_by_all_pairs_crossed P Q f by (then_pair k v ps) a =
+      let first = all_of_front P (held_in k ++ held_in v) (all_pairs_held_in ps) a in
+      all_append Q (held_in (crossed f k) ++ held_in (crossed f v)) (all_pairs_held_in (all_pairs_crossed f ps))
+      (all_append Q (held_in (crossed f k)) (held_in (crossed f v))
+      (held_by_crossed P Q f by k (all_of_front P (held_in k) (held_in v) first))
+      (held_by_crossed P Q f by v (all_of_rest P (held_in k) (held_in v) first)))
+      (held_by_all_pairs_crossed P Q f by ps (all_of_rest P (held_in k ++ held_in v) (all_pairs_held_in ps) a))
+
+-- ---- a value in which each embedded value holds a wire reference may stand in a packet
+
+abbrev IsWireReference : Plain → Type 0
+IsWireReference x = is_wire_reference x ≡ true
+
+mutual
+  wired_by_held : (v : Plain) → AllByRecursion IsWireReference (held_in v) → is_wired v ≡ true
+  wired_by_held (embedded x) a = a.0
+  wired_by_held (record_of l fs) a =
+      and_from (is_wired l) (all_wired fs)
+      (wired_by_held l (all_of_front IsWireReference (held_in l) (all_held_in fs) a))
+      (all_wired_by_held fs (all_of_rest IsWireReference (held_in l) (all_held_in fs) a))
+  wired_by_held (sequence xs) a = all_wired_by_held xs a
+  wired_by_held (set_of xs) a = all_wired_by_held xs a
+  wired_by_held (dictionary ps) a = all_pairs_wired_by_held ps a
+  wired_by_held (boolean b) a = refl
+  wired_by_held (double d) a = refl
+  wired_by_held (integer n) a = refl
+  wired_by_held (string s) a = refl
+  wired_by_held (byte_string b) a = refl
+  wired_by_held (symbol s) a = refl
+
+  all_wired_by_held : (xs : Plains) → AllByRecursion IsWireReference (all_held_in xs) → all_wired xs ≡ true
+  all_wired_by_held no_more a = refl
+  all_wired_by_held (then_more x xs) a =
+      and_from (is_wired x) (all_wired xs)
+      (wired_by_held x (all_of_front IsWireReference (held_in x) (all_held_in xs) a))
+      (all_wired_by_held xs (all_of_rest IsWireReference (held_in x) (all_held_in xs) a))
+
+  all_pairs_wired_by_held : (ps : PlainPairs) → AllByRecursion IsWireReference (all_pairs_held_in ps)
+      → all_pairs_wired ps ≡ true
+  all_pairs_wired_by_held no_pairs a = refl
+  all_pairs_wired_by_held (then_pair k v ps) a =
+      let first = all_of_front IsWireReference (held_in k ++ held_in v) (all_pairs_held_in ps) a in
+      and_from (is_wired k && is_wired v) (all_pairs_wired ps)
+      (and_from (is_wired k) (is_wired v)
+      (wired_by_held k (all_of_front IsWireReference (held_in k) (held_in v) first))
+      (wired_by_held v (all_of_rest IsWireReference (held_in k) (held_in v) first)))
+      (all_pairs_wired_by_held ps (all_of_rest IsWireReference (held_in k ++ held_in v) (all_pairs_held_in ps) a))
+
+-- ---- objects that go out
+
+own_wire : (e : ℕ) → e < 2 ^ 63 → IsWireReference (wire_value 1 e)
+own_wire e low = grind (arith, nat_tests)
+
+other_wire : (e : ℕ) → e < 2 ^ 63 → IsWireReference (wire_value 0 e)
+other_wire e low = grind (arith, nat_tests)
+
+-- an export's number is at most how many there are
+place_within : (r : Reference) (xs : List Reference) (n : ℕ) → place_of r xs ≡ Some n → n ≤ length xs
+place_within r [] n is = absurd cc
+place_within r (x ∷ xs) n is = by (is_same r x) (place_of r xs) (place_within r xs) is
+  where
+    by : (b : Bool) (o : Option ℕ) → ((m : ℕ) → o ≡ Some m → m ≤ length xs)
+        → (if b then Some zero else option_map suc o) ≡ Some n → n ≤ suc (length xs)
+    by true o later is = let same : zero ≡ n = cc in omega arith
+    by false None later is = absurd cc
+    by false (Some m) later is = let same : suc m ≡ n = cc in omega (arith, later m refl)
+
+number_within : (r : Reference) (xs : List Reference) → number_of r xs ≤ length xs
+number_within r xs = by (place_of r xs) (place_within r xs)
+  where
+    by : (o : Option ℕ) → ((m : ℕ) → o ≡ Some m → m ≤ length xs) → unwrap_or o (length xs) ≤ length xs
+    by None within = omega arith
+    by (Some n) within = within n refl
+
+object_goes_out : (n k : ℕ) (exports : List Reference) (x : Plain) → length exports ≤ 4096 → IsObjectValue n x
+    → IsWireReference (object_out exports (actor_at k) x (reference_of x))
+object_goes_out n k exports x few h = by (reference_of x) h
+  where
+    at : (r : Reference) (b : Bool) → IsObject n r
+        → IsWireReference (if b then wire_value 1 r.entity else wire_value 0 (number_of r exports))
+    at r true o = own_wire r.entity o.1
+    at r false o = other_wire (number_of r exports) (omega (arith, number_within r exports))
+
+    by : (o : Option Reference) → IsSomeAnd o (IsObject n) → IsWireReference (object_out exports (actor_at k) x o)
+    by None h = absurd h
+    by (Some r) h = at r (r.at == actor_at k) h
+
+sent_value : (n k : ℕ) (exports : List Reference) (v : Plain) → length exports ≤ 4096 → HoldsObjects n v
+    → is_wired (crossed_out exports k v) ≡ true
+sent_value n k exports v few h =
+    wired_by_held (crossed_out exports k v)
+    (held_by_crossed (IsObjectValue n) IsWireReference (λ x. object_out exports (actor_at k) x (reference_of x))
+    (λ x. object_goes_out n k exports x few) v h)
+
+sent_one : (n next k : ℕ) (exports : List Reference) (e : Event) → IsValidEvent n next e → next ≤ 2 ^ 63
+    → length exports ≤ 4096 → IsTurnEvent (sent_event exports k e)
+sent_one n next k exports (Assert h entity v) valid low few =
+    (valid.1, (sent_value n k exports v few valid.2, omega arith))
+sent_one n next k exports (Retract h entity) valid low few = (valid.1, omega arith)
+sent_one n next k exports (Message entity v) valid low few = (valid.0, sent_value n k exports v few valid.1)
+sent_one n next k exports (Sync entity peer) valid low few =
+    (valid.0, object_goes_out n k exports peer few valid.1)
+
+sent_all : (n next k : ℕ) (exports : List Reference) (es : List Event) → AllByRecursion (IsValidEvent n next) es
+    → next ≤ 2 ^ 63 → length exports ≤ 4096 → AllByRecursion IsTurnEvent (map (sent_event exports k) es)
+sent_all n next k exports [] valid low few = tt
+sent_all n next k exports (e ∷ es) valid low few =
+    (sent_one n next k exports e valid.0 low few, sent_all n next k exports es valid.1 low few)
+
+pub sent_is_sound : SentIsSound
+sent_is_sound n next k exports b valid low few = sent_all n next k exports b.events valid low few

@@ -1,0 +1,306 @@
+-- A valid state stays so: the first is valid, and each step of the hub keeps it so.
+use Rattle.std.proofs.Common.{◌≡◌, ℕ, ◌+◌, ◌-◌, ◌^◌, ◌<◌, ◌≤◌, ◌==◌, ◌&&◌, nat_lt, nat_le, List, [], ◌∷◌, ◌++◌, Bool}
+use Rattle.std.proofs.Common.{true, false, cond, Option, Some, None, refl, sym, subst, arith, length, is_some}
+use Rattle.std.proofs.Common.{IsSomeAnd}
+use Rattle.std.specs.List.{AllByRecursion, flat_map}
+use Rattle.std.specs.Map.{keys_of}
+use Rattle.std.proofs.lemmas.Bool.Decides.{nat_tests}
+use Rattle.pv_value.specs.Plain.{Plain}
+use Rattle.ds_space.specs.declared.references.Reference.{Reference}
+use Rattle.ds_space.specs.References.{reference_of}
+use Rattle.ac_table.specs.declared.batches.Event.{Event as Told}
+use Rattle.ac_table.specs.declared.batches.Event.TheVariants as told
+use Rattle.ac_table.specs.declared.batches.Batch.{Batch}
+use Rattle.ac_table.specs.Tables.{is_live, lowest}
+use Rattle.ac_world.specs.declared.spreads.Spread.{Spread}
+use Rattle.ac_world.specs.declared.turns.Turned.{Turned}
+use Rattle.ac_world.specs.declared.turns.Turned.TheVariants as turned
+use Rattle.ac_world.specs.Worlds.{actor_of, entry_of, without_entry, is_system, gone}
+use Rattle.ac_world.specs.Turns.{turn}
+use Rattle.rl_packet.specs.declared.packets.TurnEvent.{TurnEvent}
+use Rattle.rl_ports.specs.Ports.{PortsState, ports_to, with_exports, place_of, exported}
+use Rattle.rl_wire.specs.Crossing.{held_in, foreign_of, actor_at, all_exported}
+use Rattle.hub_machine.specs.declared.faults.Fault.{Fault}
+use Rattle.hub_machine.specs.State.{State, ports_of, is_there}
+use Rattle.hub_machine.specs.Bareness.{are_bare}
+use Rattle.hub_machine.specs.Admission.{Admitted, refused, admitted, admission}
+use Rattle.hub_machine.specs.declared.faults.Fault.TheVariants as fault
+use Rattle.hub_machine.specs.Endings.{nameless, departed_for, closed, failed, failed_where, spread_out, all_spread_out}
+use Rattle.hub_machine.specs.Endings.{overrun_of, all_overrun, finished}
+use Rattle.hub_machine.specs.Machine.{unchanged, opened, refusal, arrive_unless, accepted, judged, packet_at, bad_at}
+use Rattle.hub_machine.specs.Machine.{close_at, told_value, foreign_told, foreign_to, telling_fault, exports_after}
+use Rattle.hub_machine.specs.Machine.{exporting, told_unless, tell, fault_for, tell_fault, after_turn, turn_of, rest}
+use Rattle.hub_machine.specs.Machine.{work_by, is_worn, done, step, IsAllowed}
+use Rattle.hub_machine.specs.declared.steps.Step.{Step}
+use Rattle.hub_machine.specs.declared.steps.Step.TheVariants.{Arrive, Packet, Bad, Close, Turn, Work, Stop}
+use Rattle.hub_machine.specs.declared.steps.Reply.{Reply}
+use Rattle.hub_machine.specs.declared.steps.Reply.TheVariants.{Worn, Barred, Halted, Full, Idle}
+use Rattle.hub_valid.specs.Validity.{IsObject, IsObjectValue, IsValidEvent, IsValidBatch, IsValidEntry, AreValid}
+use Rattle.hub_valid.specs.Validity.{IsValid, StaysValid}
+use Rattle.hub_valid.specs.Promises.{OpenedIsValid, AcceptedIsValid, NamelessIsValid, DepartedIsValid, TurnedIsValid}
+use Rattle.hub_valid.specs.Promises.{TakenIsValid, ExportingIsValid}
+use Rattle.hub_valid.specs.Lemmas.Admitted.{acts_are_valid, exports_stay}
+use Rattle.hub_valid.specs.Lemmas.Values.{all_flat, all_weaker, all_append, later_object}
+use Rattle.hub_valid.specs.Lemmas.WorldLists.{all_with, all_without, all_found}
+use Rattle.hub_valid.specs.Lemmas.Worlds.{beginning_valid, arrived_valid, sent_valid, gone_valid}
+use Rattle.hub_valid.specs.Lemmas.Turns.{turn_valid, turn_opens_none, taken_valid, taken_valid_after}
+
+-- ---- what connections name
+
+later_entry : (m n : ℕ) (e : ℕ × PortsState) → m ≤ n → IsValidEntry m e → IsValidEntry n e
+later_entry m n e l v = (
+  omega (arith, v.0),
+  all_weaker (IsObject (16 + m)) (IsObject (16 + n)) (λ r. later_object (16 + m) (16 + n) r (omega arith))
+      e.1.exports v.1,
+)
+
+-- the names that a live connection has
+ports_valid : (k : ℕ) (ports : PortsState) (s : State) → IsValid s → ports_of k s ≡ Some ports
+    → IsValidEntry s.world.opened (k, ports)
+ports_valid k ports s v is = by (is_live (actor_of k) s.world.table) is
+  where
+    by : (b : Bool) → cond b (entry_of k s.connections) None ≡ Some ports → IsValidEntry s.world.opened (k, ports)
+    by true found = all_found (IsValidEntry s.world.opened) k ports s.connections v.named found
+    by false found = absurd cc
+
+-- ---- the promises
+
+pub opened_is_valid : OpenedIsValid
+opened_is_valid space s low few v = record {
+  few = omega (arith, few);
+  world = arrived_valid s.world v.world;
+  named = all_with (IsValidEntry (s.world.opened + 1)) (s.world.opened + 1)
+      (ports_to (record { at = space; entity = 0 })) s.connections (omega arith, ((omega arith, omega arith), tt))
+      (all_weaker (IsValidEntry s.world.opened) (IsValidEntry (s.world.opened + 1))
+      (λ e. later_entry s.world.opened (s.world.opened + 1) e (omega arith)) s.connections v.named);
+}
+
+pub nameless_is_valid : NamelessIsValid
+nameless_is_valid k s v =
+    record { few = v.few; world = v.world; named = all_without (IsValidEntry s.world.opened) k s.connections v.named }
+
+pub departed_is_valid : DepartedIsValid
+departed_is_valid k s v = by (is_live (actor_of k) s.world.table)
+  where
+    by : (b : Bool) → AreValid (cond b (gone (actor_of k) s.world) s.world) s.connections
+    by true = record { few = v.few; world = gone_valid (actor_of k) s.world v.world; named = v.named }
+    by false = v
+
+pub turned_is_valid : TurnedIsValid
+turned_is_valid a s v = record {
+  few = subst (λ n. n ≤ 2 ^ 31) (sym (turn_opens_none a s.world)) v.few;
+  world = turn_valid a s.world v.world;
+  named = subst (λ n. AllByRecursion (IsValidEntry n) s.connections) (sym (turn_opens_none a s.world)) v.named;
+}
+
+pub taken_is_valid : TakenIsValid
+taken_is_valid a s b v is = taken_valid a s.world b v.world is
+
+-- ---- a packet that is accepted
+
+pub accepted_is_valid : AcceptedIsValid
+accepted_is_valid k ports es x s v entry bare is = record {
+  few = v.few;
+  world = sent_valid (actor_of k) x.acts s.world (acts_are_valid k ports es x s v entry bare is) v.world;
+  named = all_with (IsValidEntry s.world.opened) k x.ports s.connections (
+    entry.0,
+    subst (AllByRecursion (IsObject (16 + s.world.opened))) (sym (exports_stay k ports s.world es x is))
+        entry.1,
+  )
+      v.named;
+}
+
+-- ---- a batch that a connection is told of
+
+foreign_object : (n actor : ℕ) (o : Option Reference) → IsSomeAnd o (IsObject n)
+    → AllByRecursion (IsObject n) (foreign_of actor o)
+foreign_object n actor None object = tt
+foreign_object n actor (Some r) object = by (r.at == actor)
+  where
+    by : (b : Bool) → AllByRecursion (IsObject n) (cond b [] (r ∷ []))
+    by true = tt
+    by false = (object, tt)
+
+foreign_objects : (n actor : ℕ) (xs : List Plain) → AllByRecursion (IsObjectValue n) xs
+    → AllByRecursion (IsObject n) (flat_map (λ x. foreign_of actor (reference_of x)) xs)
+foreign_objects n actor xs all =
+    all_flat (IsObjectValue n) (IsObject n) (λ x. foreign_of actor (reference_of x))
+    (λ x. foreign_object n actor (reference_of x)) xs all
+
+told_objects : (n next k : ℕ) (e : Told) → IsValidEvent n next e
+    → AllByRecursion (IsObject n) (foreign_told k (told_value e))
+told_objects n next k (told.Assert h entity x) fits = foreign_objects n (actor_at k) (held_in x) fits.2
+told_objects n next k (told.Retract h entity) fits = tt
+told_objects n next k (told.Message entity x) fits = foreign_objects n (actor_at k) (held_in x) fits.1
+told_objects n next k (told.Sync entity peer) fits = foreign_objects n (actor_at k) (peer ∷ []) (fits.1, tt)
+
+exported_pass : (P : Reference → Type 0) (r : Reference) (exports : List Reference) → P r → AllByRecursion P exports
+    → AllByRecursion P (exported r exports)
+exported_pass P r exports p all = by (is_some (place_of r exports))
+  where
+    by : (b : Bool) → AllByRecursion P (cond b exports (exports ++ r ∷ []))
+    by true = all
+    by false = all_append P exports (r ∷ []) all (p, tt)
+
+all_exported_pass : (P : Reference → Type 0) (exports rs : List Reference) → AllByRecursion P exports
+    → AllByRecursion P rs → AllByRecursion P (all_exported exports rs)
+all_exported_pass P exports [] all more = all
+all_exported_pass P exports (r ∷ rs) all more =
+    all_exported_pass P (exported r exports) rs (exported_pass P r exports more.0 all) more.1
+
+pub exporting_is_valid : ExportingIsValid
+exporting_is_valid k b ports s v entry fits = record {
+  few = v.few;
+  world = v.world;
+  named = all_with (IsValidEntry s.world.opened) k (with_exports (exports_after k b ports) ports) s.connections (
+    entry.0,
+    all_exported_pass (IsObject (16 + s.world.opened)) ports.exports (foreign_to k b) entry.1
+        (all_flat (IsValidEvent (16 + s.world.opened) s.world.table.next) (IsObject (16 + s.world.opened))
+        (λ e. foreign_told k (told_value e)) (told_objects (16 + s.world.opened) s.world.table.next k) b.events
+        fits),
+  )
+      v.named;
+}
+
+-- ---- who ends
+
+failed_valid : (k : ℕ) (f : Fault) (s : State) → IsValid s → IsValid (failed k f s)
+failed_valid k f s v = departed_is_valid k (nameless k s) (nameless_is_valid k s v)
+
+spread_out_valid : (x : Spread) (s : State) → IsValid s → IsValid (spread_out x s)
+spread_out_valid x s v = by (nat_le 17 x.actor && is_there (x.actor - 16) s)
+  where
+    by : (b : Bool) → IsValid (cond b (failed (x.actor - 16) (fault.Spread x.weight) s) s)
+    by true = failed_valid (x.actor - 16) (fault.Spread x.weight) s v
+    by false = v
+
+all_spread_out_valid : (xs : List Spread) (s : State) → IsValid s → IsValid (all_spread_out xs s)
+all_spread_out_valid [] s v = v
+all_spread_out_valid (x ∷ xs) s v = all_spread_out_valid xs (spread_out x s) (spread_out_valid x s v)
+
+failed_where_valid : (k : ℕ) (o : Option Fault) (s : State) → IsValid s → IsValid (failed_where k o s)
+failed_where_valid k None s v = v
+failed_where_valid k (Some f) s v = failed_valid k f s v
+
+all_overrun_valid : (ks : List ℕ) (s : State) → IsValid s → IsValid (all_overrun ks s)
+all_overrun_valid [] s v = v
+all_overrun_valid (k ∷ ks) s v =
+    all_overrun_valid ks (failed_where k (overrun_of k s) s) (failed_where_valid k (overrun_of k s) s v)
+
+-- the end of a step
+pub finished_is_valid : (xs : List Spread) (s : State) → IsValid s → IsValid (finished xs s)
+finished_is_valid xs s v =
+    all_overrun_valid (keys_of (all_spread_out xs s).connections) (all_spread_out xs s) (all_spread_out_valid xs s v)
+
+-- ---- arrivals
+
+may_come : (space : ℕ) (s : State) → refusal space s ≡ None → space ≤ 16
+may_come space s is = by (nat_lt 8 space) refl is
+  where
+    by : (b : Bool) → nat_lt 8 space ≡ b
+        → cond b (Some Barred) (cond s.stopped (Some Halted) (cond (nat_le 32 (length s.connections)) (Some Full) None))
+        ≡ None
+        → space ≤ 16
+    by true high is = absurd cc
+    by false low is = grind (arith, nat_tests, low)
+
+arrive_valid : (o : Option Reply) (space : ℕ) (s : State) → (o ≡ None → space ≤ 16) → s.world.opened < 2 ^ 31
+    → IsValid s → IsValid (arrive_unless o space s).state
+arrive_valid None space s low few v = finished_is_valid [] (opened space s) (opened_is_valid space s (low refl) few v)
+arrive_valid (Some r) space s low few v = v
+
+-- ---- packets
+
+judged_valid : (k : ℕ) (ports : PortsState) (es : List TurnEvent) (d : Admitted) (s : State) → IsValid s
+    → IsValidEntry s.world.opened (k, ports) → are_bare es ≡ true → admission k ports s.world es ≡ d
+    → IsValid (judged k d (nameless k s)).state
+judged_valid k ports es (refused f) s v entry bare is =
+    finished_is_valid [] (departed_for k f (nameless k s)) (failed_valid k f s v)
+judged_valid k ports es (admitted x) s v entry bare is =
+    finished_is_valid [] (accepted k x (nameless k s))
+    (accepted_is_valid k ports es x (nameless k s) (nameless_is_valid k s v) entry bare is)
+
+packet_valid : (k : ℕ) (o : Option PortsState) (es : List TurnEvent) (s : State) → IsValid s → ports_of k s ≡ o
+    → are_bare es ≡ true → IsValid (packet_at k o es s).state
+packet_valid k None es s v is bare = v
+packet_valid k (Some ports) es s v is bare =
+    judged_valid k ports es (admission k ports s.world es) s v (ports_valid k ports s v is) bare refl
+
+bad_valid : (k : ℕ) (o : Option PortsState) (f : Fault) (s : State) → IsValid s → IsValid (bad_at k o f s).state
+bad_valid k None f s v = v
+bad_valid k (Some ports) f s v = finished_is_valid [] (failed k f s) (failed_valid k f s v)
+
+close_valid : (k : ℕ) (o : Option PortsState) (s : State) → IsValid s → IsValid (close_at k o s).state
+close_valid k None s v = v
+close_valid k (Some ports) s v =
+    finished_is_valid [] (closed k s) (departed_is_valid k (nameless k s) (nameless_is_valid k s v))
+
+-- ---- turns
+
+told_unless_valid : (o : Option Fault) (k : ℕ) (ports : PortsState) (b : Batch) (s : State) → IsValid s
+    → IsValidEntry s.world.opened (k, ports) → IsValidBatch (16 + s.world.opened) s.world.table.next b
+    → IsValid (told_unless o k ports b s).state
+told_unless_valid (Some f) k ports b s v entry fits = finished_is_valid [] (failed k f s) (failed_valid k f s v)
+told_unless_valid None k ports b s v entry fits =
+    finished_is_valid [] (exporting k b ports s) (exporting_is_valid k b ports s v entry fits)
+
+tell_valid : (k : ℕ) (o : Option PortsState) (b : Batch) (s : State) → IsValid s → ports_of k s ≡ o
+    → IsValidBatch (16 + s.world.opened) s.world.table.next b → IsValid (tell k o b s).state
+tell_valid k None b s v is fits = finished_is_valid [] s v
+tell_valid k (Some ports) b s v is fits =
+    told_unless_valid (telling_fault k b ports) k ports b s v (ports_valid k ports s v is) fits
+
+tell_fault_valid : (a : ℕ) (o : Option Fault) (s : State) → IsValid s → IsValid (tell_fault a o s).state
+tell_fault_valid a None s v = v
+tell_fault_valid a (Some f) s v = finished_is_valid [] (record s { faults = without_entry (a - 16) s.faults }) v
+
+after_turn_valid : (a : ℕ) (t : Turned) (s : State) → IsValid s
+    → ((b : Batch) → t ≡ turned.Taken b → IsValidBatch (16 + s.world.opened) s.world.table.next b)
+    → IsValid (after_turn a t s).state
+after_turn_valid a (turned.Ran xs) s v fits = finished_is_valid xs s v
+after_turn_valid a (turned.Taken b) s v fits = tell_valid (a - 16) (ports_of (a - 16) s) b s v refl (fits b refl)
+after_turn_valid a turned.Idle s v fits = v
+after_turn_valid a turned.Gone s v fits = tell_fault_valid a (fault_for a s) s v
+
+turn_of_valid : (a : ℕ) (s : State) → IsValid s → IsValid (turn_of a s).state
+turn_of_valid a s v =
+    after_turn_valid a (turn a s.world).turned (record s { world = (turn a s.world).world }) (turned_is_valid a s v)
+    (λ b. taken_valid_after a s.world b v.world)
+
+rest_valid : (s : State) → IsValid s → IsValid (rest s).state
+rest_valid s v = by s.stopped
+  where
+    by : (b : Bool) → IsValid (cond b (unchanged s Halted) (unchanged s Idle)).state
+    by true = v
+    by false = v
+
+work_valid : (o : Option ℕ) (s : State) → IsValid s → IsValid (work_by o s).state
+work_valid None s v = rest_valid s v
+work_valid (Some a) s v = by (is_system a)
+  where
+    by : (b : Bool) → IsValid (cond b (turn_of a s) (rest s)).state
+    by true = turn_of_valid a s v
+    by false = rest_valid s v
+
+-- ---- steps
+
+done_valid : (s : State) (e : Step) → is_worn s e ≡ false → IsValid s → IsAllowed s e → IsValid (done s e).state
+done_valid s (Arrive space) fresh v may =
+    let few : s.world.opened < 2 ^ 31 = grind (arith, nat_tests, fresh) in
+    arrive_valid (refusal space s) space s (may_come space s) few v
+done_valid s (Packet k es) fresh v may = packet_valid k (ports_of k s) es s v refl may
+done_valid s (Bad k f) fresh v may = bad_valid k (ports_of k s) f s v
+done_valid s (Close k) fresh v may = close_valid k (ports_of k s) s v
+done_valid s (Turn a) fresh v may = turn_of_valid a s v
+done_valid s Work fresh v may = work_valid (lowest s.world.table) s v
+done_valid s Stop fresh v may = finished_is_valid [] (record s { stopped = true }) v
+
+pub step_is_valid : (s : State) (e : Step) → IsValid s → IsAllowed s e → IsValid (step s e).state
+step_is_valid s e v may = by (is_worn s e) refl
+  where
+    by : (b : Bool) → is_worn s e ≡ b → IsValid (cond b (unchanged s Worn) (done s e)).state
+    by true worn = v
+    by false fresh = done_valid s e fresh v may
+
+pub stays_valid : StaysValid
+stays_valid = (record { few = omega arith; world = beginning_valid; named = tt }, step_is_valid)

@@ -1,0 +1,64 @@
+-- The first world is valid, and each change that the hub asks for keeps a world valid.
+use Rattle.std.proofs.Common.{ℕ, zero, suc, ◌+◌, ◌≤◌, List, [], arith}
+use Rattle.std.specs.List.{AllByRecursion}
+use Rattle.ac_table.specs.Tables.{TableState, rows_of, ended}
+use Rattle.ac_world.specs.declared.acts.Act.{Act}
+use Rattle.ac_world.specs.Outboxes.{plan_over, all_acted, retractions}
+use Rattle.ac_world.specs.Worlds.{WorldState, first_actors, beginning, arrived, sent, gone}
+use Rattle.hub_valid.specs.Validity.{IsValidRow, IsValidSeat, IsValidAct, IsValidWorld}
+use Rattle.hub_valid.specs.Lemmas.Values.{all_weaker}
+use Rattle.hub_valid.specs.Lemmas.WorldLists.{all_filter}
+use Rattle.hub_valid.specs.Lemmas.WorldTables.{IsValidTable, later_seat, rows_later, inboxes_later, joined_valid}
+use Rattle.hub_valid.specs.Lemmas.WorldTables.{ended_valid}
+use Rattle.hub_valid.specs.Lemmas.WorldPlans.{retractions_valid, posted_valid, begin_valid, all_acted_valid}
+use Rattle.hub_valid.specs.Lemmas.WorldPlans.{committed_valid}
+
+-- ---- a world's table
+
+pub table_of : (w : WorldState) → IsValidWorld w → IsValidTable (16 + w.opened) w.table
+table_of w v = record { rows = v.rows; inboxes = v.inboxes }
+
+-- a world with a valid table, whose dataspaces have got objects
+pub world_with : (w : WorldState) → IsValidTable (16 + w.opened) w.table
+    → AllByRecursion (IsValidSeat (16 + w.opened)) w.spaces → IsValidWorld w
+world_with w t got = record { rows = t.rows; inboxes = t.inboxes; got = got }
+
+-- ---- the first world
+
+first_actors_valid : (n k : ℕ) → IsValidTable n (first_actors k)
+first_actors_valid n zero = record { rows = tt; inboxes = tt }
+first_actors_valid n (suc k) = joined_valid n k (first_actors k) (first_actors_valid n k)
+
+pub beginning_valid : IsValidWorld beginning
+beginning_valid = world_with beginning (first_actors_valid 16 9) tt
+
+-- ---- its changes
+
+later_table : (m n : ℕ) (t : TableState) → IsValidTable m t → m ≤ n → IsValidTable n t
+later_table m n t v l = record {
+  rows = rows_later m n t.next t.next t.rows l (omega arith) v.rows;
+  inboxes = inboxes_later m n t.next t.next t.actors l (omega arith) v.inboxes;
+}
+
+pub arrived_valid : (w : WorldState) → IsValidWorld w → IsValidWorld (arrived w)
+arrived_valid w v = world_with (arrived w)
+    (joined_valid (16 + (w.opened + 1)) _ w.table
+    (later_table (16 + w.opened) (16 + (w.opened + 1)) w.table (table_of w v) (omega arith)))
+    (all_weaker (IsValidSeat (16 + w.opened)) (IsValidSeat (16 + (w.opened + 1)))
+    (λ e. later_seat (16 + w.opened) (16 + (w.opened + 1)) e (omega arith)) w.spaces v.got)
+
+pub sent_valid : (a : ℕ) (acts : List Act) (w : WorldState) → AllByRecursion (IsValidAct (16 + w.opened)) acts
+    → IsValidWorld w → IsValidWorld (sent a acts w)
+sent_valid a acts w fit v = world_with (sent a acts w)
+    (committed_valid (16 + w.opened) a (all_acted a acts (plan_over w.table))
+    (all_acted_valid (16 + w.opened) a acts (plan_over w.table) fit
+    (begin_valid (16 + w.opened) w.table (table_of w v))))
+    v.got
+
+pub gone_valid : (a : ℕ) (w : WorldState) → IsValidWorld w → IsValidWorld (gone a w)
+gone_valid a w v = world_with (gone a w)
+    (posted_valid (16 + w.opened) a (retractions (rows_of a w.table.rows) []) (ended a w.table)
+    (ended_valid (16 + w.opened) a w.table (table_of w v))
+    (retractions_valid (16 + w.opened) w.table.next (rows_of a w.table.rows) []
+    (all_filter (IsValidRow (16 + w.opened) w.table.next) _ w.table.rows v.rows) tt))
+    v.got

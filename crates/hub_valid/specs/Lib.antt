@@ -1,0 +1,3 @@
+pub mod Lemmas
+pub mod Promises
+pub mod Validity

@@ -1,0 +1,88 @@
+-- Valid states: what events and values in them name. n is the number of the last actor that was ever live.
+use Rattle.std.specs.Prelude.{ℕ, ◌+◌, ◌^◌, ◌<◌, ◌≤◌, List, IsSomeAnd}
+use Rattle.std.specs.List.{AllByRecursion}
+use Rattle.std.specs.Map.{values_of}
+use Rattle.pv_value.specs.Plain.{Plain}
+use Rattle.ds_space.specs.declared.references.Reference.{Reference}
+use Rattle.ds_space.specs.References.{reference_of}
+use Rattle.ac_table.specs.declared.batches.Row.{Row}
+use Rattle.ac_table.specs.declared.batches.Event.{Event}
+use Rattle.ac_table.specs.declared.batches.Event.TheVariants.{Assert, Retract, Message, Sync}
+use Rattle.ac_table.specs.declared.batches.Batch.{Batch}
+use Rattle.ac_table.specs.Tables.{Actor}
+use Rattle.ac_world.specs.declared.acts.Act.{Act}
+use Rattle.ac_world.specs.declared.acts.Act.TheVariants as act
+use Rattle.ac_world.specs.Worlds.{WorldState, Seat}
+use Rattle.rl_ports.specs.Ports.{PortsState}
+use Rattle.rl_wire.specs.Crossing.{held_in}
+use Rattle.hub_machine.specs.State.{State, opening}
+use Rattle.hub_machine.specs.Machine.{step, IsAllowed}
+use Rattle.hub_machine.specs.declared.steps.Step.{Step}
+
+-- ---- objects and values
+
+-- the object of an actor that is or was live
+abbrev pub IsObject : ℕ → Reference → Type 0
+IsObject n r = (r.at ≤ n) × (r.entity < 2 ^ 63)
+
+-- the value of such an object
+abbrev pub IsObjectValue : ℕ → Plain → Type 0
+IsObjectValue n x = IsSomeAnd (reference_of x) (IsObject n)
+
+-- each embedded value in it that isn't inside another holds one
+abbrev pub HoldsObjects : ℕ → Plain → Type 0
+HoldsObjects n v = AllByRecursion (IsObjectValue n) (held_in v)
+
+-- ---- the world; next is the next handle
+
+abbrev pub IsValidRow : ℕ → ℕ → Row → Type 0
+IsValidRow n next r = (r.handle < next) × (r.target ≤ n) × (r.entity < 2 ^ 63) × HoldsObjects n r.value
+
+abbrev pub IsValidEvent : ℕ → ℕ → Event → Type 0
+IsValidEvent n next (Assert h entity v) = (h < next) × (entity < 2 ^ 63) × HoldsObjects n v
+IsValidEvent n next (Retract h entity) = (h < next) × (entity < 2 ^ 63)
+IsValidEvent n next (Message entity v) = (entity < 2 ^ 63) × HoldsObjects n v
+IsValidEvent n next (Sync entity peer) = (entity < 2 ^ 63) × IsObjectValue n peer
+
+abbrev pub IsValidBatch : ℕ → ℕ → Batch → Type 0
+IsValidBatch n next b = AllByRecursion (IsValidEvent n next) b.events
+
+abbrev pub IsValidActor : ℕ → ℕ → Actor → Type 0
+IsValidActor n next x = AllByRecursion (IsValidBatch n next) x.inbox
+
+-- what a dataspace has got
+abbrev pub IsValidSeat : ℕ → ℕ × Seat → Type 0
+IsValidSeat n e = AllByRecursion (HoldsObjects n) (values_of e.1.got)
+
+abbrev pub IsValidAct : ℕ → Act → Type 0
+IsValidAct n (act.Assert target entity v) = (target ≤ n) × (entity < 2 ^ 63) × HoldsObjects n v
+IsValidAct n (act.Retract h) = Unit {0}
+IsValidAct n (act.Message target entity v) = (target ≤ n) × (entity < 2 ^ 63) × HoldsObjects n v
+IsValidAct n (act.Sync target entity peer) = (target ≤ n) × (entity < 2 ^ 63) × IsObjectValue n peer
+
+pub record IsValidWorld (w : WorldState) : Type 0 where
+  pub rows : AllByRecursion (IsValidRow (16 + w.opened) w.table.next) w.table.rows
+  pub inboxes : AllByRecursion (IsValidActor (16 + w.opened) w.table.next) w.table.actors
+  pub got : AllByRecursion (IsValidSeat (16 + w.opened)) w.spaces
+
+-- ---- the hub
+
+-- the connection has come, and its exports are objects
+abbrev pub IsValidEntry : ℕ → ℕ × PortsState → Type 0
+IsValidEntry opened e = (e.0 ≤ opened) × AllByRecursion (IsObject (16 + opened)) e.1.exports
+
+-- What a world and the names of its connections are in a valid state. Few enough connections have come that the number
+-- of each one's actor can stand in a reference.
+pub record AreValid (w : WorldState) (names : List (ℕ × PortsState)) : Type 0 where
+  pub few : w.opened ≤ 2 ^ 31
+  pub world : IsValidWorld w
+  pub named : AllByRecursion (IsValidEntry w.opened) names
+
+abbrev pub IsValid : State → Type 0
+IsValid s = AreValid s.world s.connections
+
+-- ---- the law
+
+-- the state is valid at the beginning, and after each step whose caller saw to its condition
+abbrev pub StaysValid : Type 0
+StaysValid = IsValid opening × ((s : State) (e : Step) → IsValid s → IsAllowed s e → IsValid (step s e).state)

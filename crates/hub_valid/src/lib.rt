@@ -1,0 +1,10 @@
+//! Valid states of the machine: each reference in one is an object of an actor that is or was live,
+//! and each event names an object and a handle that a packet can name.
+#![tactic(auto)]
+
+ghost use Rattle.hub_valid.specs.Validity.{StaysValid};
+
+/// The state is valid at the beginning, and after each step whose caller saw to its condition.
+pub fn states_stay_valid()
+    ensures { StaysValid }
+{}

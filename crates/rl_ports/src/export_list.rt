@@ -1,0 +1,176 @@
+//! Exports by number, and the number of each.
+ghost use Rattle.std.specs.Prelude.{◌≡◌, ◌-◌, ◌<◌, ◌≤◌, [], ◌∷◌, ◌++◌, length, take, slice_get};
+ghost use Rattle.std.specs.Prelude.{cond};
+ghost use Rattle.std.specs.Prelude.{None, Some, IfOk, IfErr, OnOk, OnErr, vec_len, vec_capacity};
+ghost use Rattle.std.specs.BTreeMap.{is_at};
+ghost use Rattle.pv_value.specs.Weight.{weight as weight_in};
+ghost use Rattle.ds_space.specs.References.{reference_value as value_of};
+ghost use Rattle.rl_ports.specs.Ports.{place_of, export_fault, IsWhy};
+ghost use Rattle.rl_ports.specs.Kept.{reference_cmp, number_at, fault_of};
+
+use crate::ports::{EXPORTS, EXPORTS_WEIGHT, PortsFault};
+use ds_space::{Reference, reference_value};
+use pv_value::{NoMemory, weight};
+use std::alloc::Global;
+use std::collections::BTreeMap;
+use std::marker::Model;
+
+/// An export, and what it weighs.
+#[derive(Clone, Copy)]
+struct Export {
+    reference: Reference,
+    weight: u64,
+}
+
+/// Exports by their numbers, from 0 on, one for each object.
+#[derive(Drop)]
+pub(crate) struct ExportList {
+    list: Vec<Export>,
+    numbers: BTreeMap<Reference, u64>,
+    weight: u64,
+}
+
+impl Model for ExportList {
+    ghost use Rattle.std.specs.Prelude.{List};
+    ghost use Rattle.ds_space.specs.declared.references.Reference.{Reference};
+
+    ghost Value = { List Reference };
+
+    ghost use Rattle.rl_ports.specs.Kept.{references, IsKept};
+
+    ghost view = { λ e. references e.list.items };
+
+    ghost invariant = { λ e. IsKept e.list.items e.numbers.entries e.weight };
+}
+
+impl ExportList {
+    /// Export 0 is that object, whatever it weighs.
+    pub(crate) fn new(alloc: Global, first: Reference) -> Result<ExportList, NoMemory>
+        ensures { IfOk result (λ e. e ≡ first ∷ []) }
+    {
+        let weight = weight_of(alloc, first)?;
+        let mut list = Vec::new(alloc);
+        let mut numbers = BTreeMap::new(alloc);
+        let export = Export {
+            reference: first,
+            weight,
+        };
+        put(&mut list, &mut numbers, export)?;
+        Ok(ExportList {
+            list,
+            numbers,
+            weight,
+        })
+    }
+
+    /// The export of this number.
+    pub(crate) fn get(&self, number: usize) -> Option<Reference>
+        ensures { result ≡ slice_get self.now number }
+    {
+        let export = self.list.get(number)?;
+        Some(export.reference)
+    }
+
+    /// How many there are. They are few.
+    pub(crate) fn len(&self) -> usize
+        ensures count { result ≡ length self.now }
+        ensures few { result ≤ 4096 }
+    {
+        self.list.len()
+    }
+
+    /// The number of an export.
+    pub(crate) fn number(&self, reference: Reference) -> Option<u64>
+        ensures { result ≡ place_of reference self.now }
+    {
+        self.numbers.get(&reference).copied()
+    }
+
+    /// One export more, which has the next number. After a fault nothing has changed.
+    pub(crate) fn add(&mut self, alloc: Global, reference: Reference) -> Result<u64, PortsFault>
+        requires { place_of reference self.old ≡ None }
+        ensures number { IfOk result (λ n. n ≡ length self.old) }
+        ensures fits { OnOk result (export_fault (self.old ++ reference ∷ []) ≡ None) }
+        ensures done { OnOk result (self.new ≡ self.old ++ reference ∷ []) }
+        ensures fault { IfErr result (IsWhy (export_fault (self.old ++ reference ∷ []))) }
+        ensures undone { OnErr result (self.new ≡ self.old) }
+    {
+        let number = self.list.len() as u64;
+        let weight = weight_of(alloc, reference)?;
+        let sum = self.weight.saturating_add(weight);
+        check(number + 1, sum)?;
+        let export = Export { reference, weight };
+        put(&mut self.list, &mut self.numbers, export)?;
+        self.weight = sum;
+        Ok(number)
+    }
+
+    /// Only so many stay, from number 0 on.
+    pub(crate) fn truncate(&mut self, count: usize)
+        ensures { self.new ≡ take count self.old }
+    {
+        while self.len() > count {
+            self.pop();
+        }
+    }
+
+    /// The newest goes.
+    fn pop(&mut self)
+        requires { 0 < length self.old }
+        ensures { self.new ≡ take (length self.old - 1) self.old }
+    {
+        if let Some(last) = self.list.pop() {
+            self.numbers.remove(&last.reference);
+            self.weight -= last.weight;
+        }
+    }
+}
+
+/// What an export weighs: as much as its value.
+fn weight_of(alloc: Global, reference: Reference) -> Result<u64, NoMemory>
+    ensures { IfOk result (λ w. w ≡ weight_in (value_of reference)) }
+{
+    let value = reference_value(alloc, reference)?;
+    Ok(weight(&value))
+}
+
+/// Whether so many exports, of this weight, are neither too many nor too heavy.
+fn check(count: u64, weight: u64) -> Result<(), PortsFault>
+    ensures fits { OnOk result (fault_of count weight ≡ None) }
+    ensures fault { IfErr result (λ f. fault_of count weight ≡ Some f) }
+{
+    if count > EXPORTS as u64 {
+        return Err(PortsFault::Exports(count));
+    }
+    if weight > EXPORTS_WEIGHT {
+        return Err(PortsFault::Weight(weight));
+    }
+    Ok(())
+}
+
+/// One export more, and its number, or neither.
+fn put(
+    list: &mut Vec<Export>,
+    numbers: &mut BTreeMap<Reference, u64>,
+    export: Export,
+) -> Result<(), NoMemory>
+    ensures list { OnOk result (list.new.items ≡ list.old.items ++ export ∷ []) }
+    ensures numbers { OnOk result ((r : Reference) → number_at r numbers.new.entries
+        ≡ cond (is_at (reference_cmp export.reference) r) (Some (vec_len list.old))
+        (number_at r numbers.old.entries)) }
+    ensures same_list { OnErr result (list.new.items ≡ list.old.items) }
+    ensures same_numbers { OnErr result (numbers.new.entries ≡ numbers.old.entries) }
+{
+    list.reserve(1)?;
+    numbers.insert(export.reference, list.len() as u64)?;
+    append(list, export);
+    Ok(())
+}
+
+/// One export more, where there is room for it.
+fn append(list: &mut Vec<Export>, export: Export)
+    requires { vec_len list.old < vec_capacity list.old }
+    ensures { list.new.items ≡ list.old.items ++ export ∷ [] }
+{
+    let _ = list.push(export);
+}

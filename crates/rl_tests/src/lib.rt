@@ -1,0 +1,10 @@
+//! Tests of packets, ports and the crossing of references: calls that take memory, where it is
+//! ample, and values that nest far deeper than the reader's bound.
+#![tactic(auto)]
+
+#[cfg(test)]
+mod crossing;
+#[cfg(test)]
+mod making;
+#[cfg(test)]
+mod ports;

@@ -1,0 +1,22 @@
+//! The crossing of references: values as a connection writes them, and as the server keeps them.
+//!
+//! What crosses, in which order references are looked at, and what stands where two keys or
+//! elements become equal is `crossed_in` and `crossed_out` of `specs/Crossing.antt`.
+#![tactic(auto)]
+
+mod faults;
+mod gathering;
+mod held;
+mod inward;
+mod outward;
+mod rebuilding;
+mod testing;
+mod wires;
+
+pub use faults::WireFault;
+pub use inward::wire_in;
+pub use outward::wire_out;
+pub use testing::{are_wires, is_wire};
+
+/// The actor of connection 0: that of connection k is so many on.
+const FIRST_ACTOR: u32 = 16;
