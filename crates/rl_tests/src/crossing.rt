@@ -1,10 +1,12 @@
-//! The crossing of values that nest ten thousand levels deep. The server makes such values, so that
-//! both calls have to bear them.
+//! The crossing of values that nest ten thousand levels deep, since the server makes such values,
+//! and of keys that become equal.
 
 use crate::making::{LEVELS, deep, object};
-use pv_value::depth;
+use ds_space::reference_value;
+use pv_value::{Entry, Value, depth};
 use rl_ports::Ports;
 use rl_wire::{WireFault, wire_in, wire_out};
+use std::alloc::Global;
 use std::test::Fail;
 
 #[test]
@@ -29,4 +31,28 @@ fn a_deep_value_is_refused(rt: HostRuntime) -> Result<(), Fail> {
             Ok(())
         }
     }
+}
+
+/// `{#:[at entity]: n ..}`
+fn by_objects(alloc: Global, entries: &[(u32, u64, i128)]) -> Result<Value, Fail> {
+    let mut list = Vec::new(alloc);
+    for (at, entity, n) in entries {
+        let key = Value::embedded(alloc, reference_value(alloc, object(*at, *entity))?)?;
+        let value = Value::integer(*n);
+        list.push(Entry { key, value })?;
+    }
+    match Value::dict(alloc, list) {
+        Ok(dictionary) => Ok(dictionary),
+        Err(_) => Err(Fail::new("a key stands twice")),
+    }
+}
+
+#[test]
+fn of_keys_that_become_equal_the_lesser_stands(rt: HostRuntime) -> Result<(), Fail> {
+    let alloc = rt.alloc();
+    let ports = Ports::new(alloc, object(1, 0))?;
+    // connection 1 is actor 17, so `[0 5]` comes in as `[17 5]`, which is no wire reference
+    let sent = by_objects(alloc, &[(17, 5, 2), (0, 5, 1)])?;
+    assert!(rt; wire_in(alloc, &ports, 1, &sent)? == by_objects(alloc, &[(17, 5, 1)])?);
+    Ok(())
 }
