@@ -1,0 +1,13 @@
+pub mod Found
+pub mod Dropping
+pub mod Folding
+pub mod Keys
+pub mod Beside
+pub mod Gathering
+pub mod Passes
+pub mod Told
+pub mod Reckoning
+pub mod Capped
+pub mod Guardless
+pub mod PatternsBack
+pub mod CaveatsBack

@@ -1,0 +1,6 @@
+-- The goals of `caps_are_their_values` that the check leaves.
+use Rattle.sr_caveat.proofs.Capped.{caps_are_their_values}
+use Rattle.sr_caveat.proofs.laws.caps_are_their_values.Goals as goal
+
+pub returns : goal.returns
+returns c = caps_are_their_values

@@ -1,0 +1,70 @@
+-- Laws of the definitions.
+use Rattle.std.specs.Prelude.{◌≡◌, ℕ, Bool, false, List, [], ◌∷◌, ◌++◌, length, Some, option_and_then}
+use Rattle.pv_value.specs.Plain.{Plain}
+use Rattle.sr_caveat.specs.Patterns.{Pattern, attenuate, binding, constant, record_from, sequence_from, dictionary_of}
+use Rattle.sr_caveat.specs.Patterns.{Template, Templates, no_templates, then_template}
+use Rattle.sr_caveat.specs.Patterns.{Caveat, rewrite, one_of, reject, guard}
+use Rattle.sr_caveat.specs.Patterns.{Caveats, no_caveats, then_caveat, Rewrites, no_rewrites, then_rewrite}
+use Rattle.sr_caveat.specs.Written.{binds, caveat_of}
+use Rattle.sr_caveat.specs.Binding.{bound}
+use Rattle.sr_caveat.specs.Passing.{passed}
+use Rattle.sr_caveat.specs.Caps.{Cap, cap_of, cap_value, IsSound, IsReadBack}
+
+-- the newest caveat comes first, and the older ones see what it gives
+abbrev pub NewestComesFirst : Type 0
+NewestComesFirst = (judged : List ℕ → Plain → Bool) (old : List Caveat) (new : Caveat) (v : Plain)
+    → passed judged (old ++ new ∷ []) v ≡ option_and_then (passed judged old) (passed judged (new ∷ []) v)
+
+-- what passes a reference with further caveats is what the older ones make of some value
+abbrev pub AttenuatingNarrows : Type 0
+AttenuatingNarrows = (judged : List ℕ → Plain → Bool) (old new : List Caveat) (v w : Plain)
+    → passed judged (old ++ new) v ≡ Some w → (u : Plain) × (passed judged old u ≡ Some w)
+
+-- where a value matches, as many values are bound as the pattern binds
+abbrev pub BindingsAreBinds : Type 0
+BindingsAreBinds = (p : Pattern) (v : Plain) (bs : List Plain) → bound p v ≡ Some bs → length bs ≡ binds p
+
+-- ---- guards
+
+-- the names of the guards in a caveat, those inside `attenuate` of its templates among them
+abbrev mutual
+  pub guards_in_template : Template → List (List ℕ)
+  guards_in_template (attenuate t cs) = guards_in_template t ++ guards_in_caveats cs
+  guards_in_template (binding n) = []
+  guards_in_template (constant v) = []
+  guards_in_template (record_from l ts) = guards_in_templates ts
+  guards_in_template (sequence_from ts) = guards_in_templates ts
+  guards_in_template (dictionary_of ks ts) = guards_in_templates ts
+
+  pub guards_in_templates : Templates → List (List ℕ)
+  guards_in_templates no_templates = []
+  guards_in_templates (then_template t ts) = guards_in_template t ++ guards_in_templates ts
+
+  pub guards_in : Caveat → List (List ℕ)
+  guards_in (rewrite p t) = guards_in_template t
+  guards_in (one_of rs) = guards_in_rewrites rs
+  guards_in (reject p) = []
+  guards_in (guard name) = name ∷ []
+
+  pub guards_in_caveats : Caveats → List (List ℕ)
+  guards_in_caveats no_caveats = []
+  guards_in_caveats (then_caveat c cs) = guards_in c ++ guards_in_caveats cs
+
+  pub guards_in_rewrites : Rewrites → List (List ℕ)
+  guards_in_rewrites no_rewrites = []
+  guards_in_rewrites (then_rewrite p t rs) = guards_in_template t ++ guards_in_rewrites rs
+
+-- what was read from the wire holds no guard
+abbrev pub NoGuardFromTheWire : Type 0
+NoGuardFromTheWire = (v : Plain) → guards_in (caveat_of false v) ≡ []
+
+-- ---- references
+
+-- a caveat that was read is read back from its value
+abbrev pub CaveatsAreReadBack : Type 0
+CaveatsAreReadBack = (own : Bool) (v : Plain) → IsReadBack (caveat_of own v)
+
+-- a reference is read from its value, and a value that is read as one is the value of it
+abbrev pub CapsAreTheirValues : Type 0
+CapsAreTheirValues = ((c : Cap) → IsSound c → cap_of (cap_value c) ≡ Some c)
+    × ((v : Plain) (c : Cap) → cap_of v ≡ Some c → v ≡ cap_value c)
