@@ -1,10 +1,10 @@
 pub mod Adding
-pub mod Aims
 pub mod Changing
 pub mod Dropping
 pub mod Handles
 pub mod Lives
 pub mod Numbers
 pub mod Pushes
+pub mod Shapes
 pub mod Taken
 pub mod Told

@@ -1,10 +1,8 @@
 -- What the changes of a turn leave of a table: who is live, and the actors' numbers.
 use Rattle.std.proofs.Common.{◌≡◌, ℕ, ◌==◌, List, [], ◌∷◌, map, refl, ap, arith, sym, ◌∙◌, Option, Some, None}
-use Rattle.std.proofs.Common.{is_some, ◌≤◌, ◌+◌}
+use Rattle.std.proofs.Common.{is_some, ◌≤◌, ◌+◌, true}
 use Rattle.std.specs.List.{list_any, AllByRecursion}
-use Rattle.pv_value.specs.Plain.{Plain}
-use Rattle.ds_space.specs.declared.references.Reference.{Reference}
-use Rattle.ds_space.specs.References.{reference_of}
+use Rattle.pv_value.specs.Plain.{Plain, boolean, sequence, plains}
 use Rattle.ds_space.specs.declared.space.Fanned.{Fanned}
 use Rattle.ac_table.specs.declared.batches.Row.{Row}
 use Rattle.ac_table.specs.declared.batches.Event.{Event}
@@ -16,7 +14,7 @@ use Rattle.ac_world.specs.declared.acts.Act.{Act}
 use Rattle.ac_world.specs.declared.acts.Act.TheVariants as act
 use Rattle.ac_world.specs.Outboxes.{Outbox, Plan, posted, put, drop_own, dropped, said, committed, acted}
 use Rattle.ac_world.specs.Outboxes.{all_acted}
-use Rattle.ac_world.specs.Turns.{say_to, say_all, answer_to, answered, all_answered, observer_in}
+use Rattle.ac_world.specs.Turns.{Aim, aim_at, aim_for, say_at, say_all, answer_to, answered, all_answered}
 use Rattle.ac_world.specs.Worlds.{IsWorld}
 
 abbrev pub numbers_in : List Actor → List ℕ
@@ -101,26 +99,24 @@ pub numbers-all_acted : (a : ℕ) (xs : List Act) (p : Plan) → numbers (all_ac
 numbers-all_acted a [] p = refl
 numbers-all_acted a (x ∷ xs) p = numbers-all_acted a xs (acted a x p) ∙ numbers-acted a x p
 
-pub numbers-say_to : (r : Option Reference) (cs : List Plain) (p : Plan)
-    → numbers (say_to r cs p).table ≡ numbers p.table
-numbers-say_to None cs p = refl
-numbers-say_to (Some r) cs p = refl
+pub numbers-say_at : (aim : Option Aim) (p : Plan) → numbers (say_at aim p).table ≡ numbers p.table
+numbers-say_at None p = refl
+numbers-say_at (Some aim) p = refl
 
 pub numbers-say_all : (fs : List Fanned) (p : Plan) → numbers (say_all fs p).table ≡ numbers p.table
 numbers-say_all [] p = refl
 numbers-say_all (f ∷ fs) p =
-    numbers-say_all fs (say_to (observer_in f.observe) f.captures p)
-    ∙ numbers-say_to (observer_in f.observe) f.captures p
+    numbers-say_all fs (say_at (aim_for (sequence (plains f.captures)) f.observe) p)
+    ∙ numbers-say_at (aim_for (sequence (plains f.captures)) f.observe) p
 
-pub numbers-answer_to : (r : Option Reference) (p : Plan) → numbers (answer_to r p).table ≡ numbers p.table
-numbers-answer_to None p = refl
-numbers-answer_to (Some r) p = refl
+pub numbers-answer_to : (peer : Plain) (p : Plan) → numbers (answer_to peer p).table ≡ numbers p.table
+numbers-answer_to peer p = numbers-say_at (aim_at (boolean true) peer) p
 
 pub numbers-answered : (e : Event) (p : Plan) → numbers (answered e p).table ≡ numbers p.table
 numbers-answered (event.Assert h entity v) p = refl
 numbers-answered (event.Retract h entity) p = refl
 numbers-answered (event.Message entity v) p = refl
-numbers-answered (event.Sync entity peer) p = numbers-answer_to (reference_of peer) p
+numbers-answered (event.Sync entity peer) p = numbers-answer_to peer p
 
 pub numbers-all_answered : (es : List Event) (p : Plan) → numbers (all_answered es p).table ≡ numbers p.table
 numbers-all_answered [] p = refl

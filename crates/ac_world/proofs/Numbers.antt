@@ -4,15 +4,12 @@ use Rattle.std.proofs.Common.{refl, ap, arith, ◌∙◌, filter, Option, Some, 
 use Rattle.std.specs.List.{AllByRecursion}
 use Rattle.std.specs.Map.{values_of}
 use Rattle.pv_value.specs.Plain.{Plain}
-use Rattle.ds_space.specs.declared.references.Reference.{Reference}
 use Rattle.ds_space.specs.Spaces.{Rows, changed, has_row}
-use Rattle.ds_space.specs.References.{reference_of}
 use Rattle.ds_space.specs.Wants.{wants}
 use Rattle.ds_space.specs.declared.space.SpaceEvent.{SpaceEvent}
 use Rattle.ds_space.specs.declared.space.SpaceEvent.TheVariants.{Add, Gone}
 use Rattle.ds_space.specs.declared.space.Change.{Change}
 use Rattle.ds_space.specs.declared.space.Change.TheVariants.{Left, Came}
-use Rattle.ds_space.specs.declared.space.Fanned.{Fanned}
 use Rattle.ds_space.specs.Fans.{fan_of}
 use Rattle.ac_table.specs.declared.batches.Event.{Event}
 use Rattle.ac_table.specs.declared.batches.Event.TheVariants.{Assert, Retract, Message, Sync}
@@ -22,11 +19,11 @@ use Rattle.ac_table.specs.declared.TableFault.{TableFault}
 use Rattle.ac_table.specs.declared.TableFault.TheVariants.{NoActor}
 use Rattle.ac_world.specs.Outboxes.{Outbox, Plan, committed, posted}
 use Rattle.ac_world.specs.Worlds.{IsWorld, first_actors}
-use Rattle.ac_world.specs.Turns.{Turning, Aim, observer_in, drop_met, handle_for, came_at, aim_of}
-use Rattle.ac_world.specs.Turns.{changed_by, all_changed, with_rows, changes, regot, applied, taken_in, say_to, say_all}
-use Rattle.ac_world.specs.Turns.{passed_on, answer_to, turned_by, all_turned, answered, all_answered}
+use Rattle.ac_world.specs.Turns.{Turning, Aim, drop_met, handle_for, came_at, aim_of}
+use Rattle.ac_world.specs.Turns.{changed_by, all_changed, with_rows, changes, regot, applied, taken_in}
+use Rattle.ac_world.specs.Turns.{passed_on, turned_by, all_turned}
 use Rattle.ac_world.proofs.Lives.{numbers, numbers-dropped, numbers-committed, numbers-popped, numbers-posted}
-use Rattle.ac_world.proofs.Lives.{world_from_numbers, live-popped}
+use Rattle.ac_world.proofs.Lives.{numbers-say_all, numbers-answer_to, world_from_numbers, live-popped}
 
 -- ---- an event of a turn leaves the numbers
 
@@ -71,49 +68,24 @@ numbers-taken_in a from h v t =
     if_same (λ (t : Turning). numbers t.plan.table) (numbers t.plan.table) (has_row h t.seat.got) t
     (applied a from (Add h v) t) refl (numbers-applied a from (Add h v) t)
 
-numbers-say_to : (r : Option Reference) (cs : List Plain) (p : Plan)
-    → numbers (say_to r cs p).table ≡ numbers p.table
-numbers-say_to None cs p = refl
-numbers-say_to (Some r) cs p = refl
-
-numbers-say_all : (fs : List Fanned) (p : Plan) → numbers (say_all fs p).table ≡ numbers p.table
-numbers-say_all [] p = refl
-numbers-say_all (f ∷ fs) p =
-    numbers-say_all fs (say_to (observer_in f.observe) f.captures p)
-    ∙ numbers-say_to (observer_in f.observe) f.captures p
-
 numbers-passed_on : (from : ℕ) (v : Plain) (t : Turning)
     → numbers (passed_on from v t).plan.table ≡ numbers t.plan.table
 numbers-passed_on from v t =
     if_same (λ (t : Turning). numbers t.plan.table) (numbers t.plan.table) _ _ _ refl
     (numbers-say_all (fan_of (values_of t.seat.got) v) t.plan)
 
-numbers-answer_to : (r : Option Reference) (p : Plan) → numbers (answer_to r p).table ≡ numbers p.table
-numbers-answer_to None p = refl
-numbers-answer_to (Some r) p = refl
-
 pub numbers-turned_by : (a from : ℕ) (e : Event) (t : Turning)
     → numbers (turned_by a from e t).plan.table ≡ numbers t.plan.table
 numbers-turned_by a from (Assert h entity v) t = numbers-taken_in a from h v t
 numbers-turned_by a from (Retract h entity) t = numbers-applied a from (Gone h) t
 numbers-turned_by a from (Message entity v) t = numbers-passed_on from v t
-numbers-turned_by a from (Sync entity peer) t = numbers-answer_to (reference_of peer) t.plan
+numbers-turned_by a from (Sync entity peer) t = numbers-answer_to peer t.plan
 
 pub numbers-all_turned : (a from : ℕ) (es : List Event) (t : Turning)
     → numbers (all_turned a from es t).plan.table ≡ numbers t.plan.table
 numbers-all_turned a from [] t = refl
 numbers-all_turned a from (e ∷ es) t =
     numbers-all_turned a from es (turned_by a from e t) ∙ numbers-turned_by a from e t
-
-numbers-answered : (e : Event) (p : Plan) → numbers (answered e p).table ≡ numbers p.table
-numbers-answered (Assert h entity v) p = refl
-numbers-answered (Retract h entity) p = refl
-numbers-answered (Message entity v) p = refl
-numbers-answered (Sync entity peer) p = numbers-answer_to (reference_of peer) p
-
-pub numbers-all_answered : (es : List Event) (p : Plan) → numbers (all_answered es p).table ≡ numbers p.table
-numbers-all_answered [] p = refl
-numbers-all_answered (e ∷ es) p = numbers-all_answered es (answered e p) ∙ numbers-answered e p
 
 -- ---- an actor that joins, and one that ends
 

@@ -1,14 +1,15 @@
 -- A turn: an actor takes the first batch of its inbox. A dataspace compares what it wants before each event with what
 -- it wants after it. Syndicate Protocol, "dataspaces".
 use Rattle.std.specs.Prelude.{ℕ, List, [], ◌∷◌, ◌++◌, Bool, true, ◌&&◌, not, ◌==◌, nat_lt, nat_le, Option}
-use Rattle.std.specs.Prelude.{Some, None, map, if◌then◌else◌}
+use Rattle.std.specs.Prelude.{Some, None, map, option_map, option_and_then, if◌then◌else◌}
 use Rattle.std.specs.List.{list_any}
 use Rattle.std.specs.Map.{lookup, remove_entry, values_of}
 use Rattle.std.specs.BTreeMap.{insert_entry, is_at}
 use Rattle.pv_value.specs.Plain.{Plain, boolean, record_of, sequence, embedded, no_more, then_more, plains}
 use Rattle.pv_value.specs.Order.{order}
-use Rattle.ds_space.specs.declared.references.Reference.{Reference}
-use Rattle.ds_space.specs.References.{reference_of}
+use Rattle.sr_caveat.specs.declared.caps.Cap.{Cap}
+use Rattle.sr_caveat.specs.Caps.{cap_of}
+use Rattle.sr_caveat.specs.Passing.{passed, no_names}
 use Rattle.ds_space.specs.Spaces.{Rows, changed, has_row}
 use Rattle.ds_space.specs.declared.space.SpaceEvent.{SpaceEvent}
 use Rattle.ds_space.specs.declared.space.SpaceEvent.TheVariants.{Add, Gone}
@@ -25,6 +26,7 @@ use Rattle.ac_table.specs.Tables.{TableState, is_live, first_batch, popped, lowe
 use Rattle.ac_world.specs.Outboxes.{Plan, plan_over, put, dropped, said, committed}
 use Rattle.ac_world.specs.Worlds.{WorldState, Seat, seat_of, held_by, with_entry, is_system, is_space}
 use Rattle.ac_world.specs.Worlds.{all_delivered}
+pub use Rattle.ac_world.specs.declared.aims.Aim.{Aim}
 use Rattle.ac_world.specs.declared.spreads.Spread.{Spread}
 use Rattle.ac_world.specs.declared.turns.Turned.{Turned}
 use Rattle.ac_world.specs.declared.turns.Turned.TheVariants as turned
@@ -54,23 +56,28 @@ pub record Turning : Type 0 where
   pub plan : Plan
   pub spreads : List Spread
 
--- the object that an observation `<Observe p #:r>` names
-abbrev pub observer_in : Plain → Option Reference
-observer_in (record_of l (then_more p (then_more (embedded r) no_more))) = reference_of r
+-- a value for the object that a reference names, as the reference's caveats let it pass
+abbrev pub aim_by : Plain → Cap → Option Aim
+aim_by v c =
+    option_map (λ w. record { at = record { at = c.actor; entity = c.entity }; value = w })
+    (passed no_names c.caveats v)
+
+-- a value that is sent through a reference: none where its caveats refuse the value, or it is no reference
+abbrev pub aim_at : Plain → Plain → Option Aim
+aim_at v r = option_and_then (aim_by v) (cap_of r)
+
+-- the reference that an observation `<Observe p #:r>` names
+abbrev pub observer_in : Plain → Option Plain
+observer_in (record_of l (then_more p (then_more (embedded r) no_more))) = Some r
 observer_in o = None
 
--- what is to be told, and to whom
-pub record Aim : Type 0 where
-  pub at : Reference
-  pub value : Plain
+-- a value that is sent to the one that observes
+abbrev pub aim_for : Plain → Plain → Option Aim
+aim_for v o = option_and_then (aim_at v) (observer_in o)
 
-abbrev pub aim_at : Option Reference → Plain → Option Aim
-aim_at None c = None
-aim_at (Some r) c = Some (record { at = r; value = c })
-
--- a key `[o c]` wants c at the object that o names
+-- a key `[o c]` wants c at the object that o names, as the reference's caveats let it pass
 abbrev pub aim_of : Plain → Option Aim
-aim_of (sequence (then_more o (then_more c no_more))) = aim_at (observer_in o) c
+aim_of (sequence (then_more o (then_more c no_more))) = aim_for c o
 aim_of k = None
 
 abbrev pub handle_for : Plain → List (Plain × ℕ) → Option ℕ
@@ -88,7 +95,7 @@ left a k t = record {
   spreads = t.spreads;
 }
 
--- a key is wanted now: a row for it comes under the next handle
+-- a key is wanted now: a row for it comes under the next handle; none where what is wanted is refused on its way
 abbrev pub came_at : ℕ → Plain → Option Aim → Turning → Turning
 came_at a k None t = t
 came_at a k (Some aim) t = record {
@@ -135,14 +142,15 @@ applied a from (Gone h) t = regot a (changed t.seat.got (Gone h)) t
 abbrev pub taken_in : ℕ → ℕ → ℕ → Plain → Turning → Turning
 taken_in a from h v t = if has_row h t.seat.got then t else applied a from (Add h v) t
 
--- the captures of a message go to the object that the observation names
-abbrev pub say_to : Option Reference → List Plain → Plan → Plan
-say_to None cs p = p
-say_to (Some r) cs p = said r.at (Message r.entity (sequence (plains cs))) p
+-- what gets through is said to the object
+abbrev pub say_at : Option Aim → Plan → Plan
+say_at None p = p
+say_at (Some aim) p = said aim.at.at (Message aim.at.entity aim.value) p
 
+-- the captures of a message go to each that observes it
 abbrev pub say_all : List Fanned → Plan → Plan
 say_all [] p = p
-say_all (f ∷ fs) p = say_all fs (say_to (observer_in f.observe) f.captures p)
+say_all (f ∷ fs) p = say_all fs (say_at (aim_for (sequence (plains f.captures)) f.observe) p)
 
 -- a message goes to each observation that it matches, or, where that would be too much, to none
 abbrev pub passed_on : ℕ → Plain → Turning → Turning
@@ -151,16 +159,15 @@ passed_on from v t =
     then spreading (by_message t.plan.table from (fan_weight (values_of t.seat.got) v)) t
     else record t { plan = say_all (fan_of (values_of t.seat.got) v) t.plan }
 
--- a sync is answered by the message `#t` to its peer
-abbrev pub answer_to : Option Reference → Plan → Plan
-answer_to None p = p
-answer_to (Some r) p = said r.at (Message r.entity (boolean true)) p
+-- a sync is answered by the message `#t` through its peer
+abbrev pub answer_to : Plain → Plan → Plan
+answer_to peer p = say_at (aim_at (boolean true) peer) p
 
 abbrev pub turned_by : ℕ → ℕ → Event → Turning → Turning
 turned_by a from (Assert h entity v) t = taken_in a from h v t
 turned_by a from (Retract h entity) t = applied a from (Gone h) t
 turned_by a from (Message entity v) t = passed_on from v t
-turned_by a from (Sync entity peer) t = record t { plan = answer_to (reference_of peer) t.plan }
+turned_by a from (Sync entity peer) t = record t { plan = answer_to peer t.plan }
 
 abbrev pub all_turned : ℕ → ℕ → List Event → Turning → Turning
 all_turned a from [] t = t
@@ -172,7 +179,7 @@ abbrev pub answered : Event → Plan → Plan
 answered (Assert h entity v) p = p
 answered (Retract h entity) p = p
 answered (Message entity v) p = p
-answered (Sync entity peer) p = answer_to (reference_of peer) p
+answered (Sync entity peer) p = answer_to peer p
 
 abbrev pub all_answered : List Event → Plan → Plan
 all_answered [] p = p

@@ -27,8 +27,8 @@ actor_of k = 16 + k
 
 -- ---- the state
 
--- a dataspace: the rows that were delivered to it, a handle and a value each, and for each key that it wants the handle
--- of its own row for it
+-- a dataspace: the rows that were delivered to it, a handle and a value each, and for each key that it wants, and that
+-- its reference's caveats let pass, the handle of its own row for it
 pub record Seat : Type 0 where
   pub got : Rows
   pub met : List (Plain × ℕ)

@@ -6,6 +6,7 @@
 
 mod actors;
 mod acts;
+mod aims;
 mod held;
 mod outboxes;
 mod plans;
@@ -17,6 +18,7 @@ mod turns;
 mod world;
 
 pub use acts::Act;
+pub use aims::Aim;
 pub use held::Held;
 pub use spreads::{Spread, Spreads};
 pub use sums::Load;

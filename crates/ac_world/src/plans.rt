@@ -1,16 +1,17 @@
 //! A turn in the making: rows that come and go, and the events that tell of it.
 ghost use Rattle.std.specs.Prelude.{◌≡◌, ◌≤◌, true, OnOk, IfOk};
+ghost use Rattle.pv_value.specs.Plain.{sequence, plains};
 ghost use Rattle.ac_table.specs.Tables.{is_live};
 ghost use Rattle.ac_world.specs.Outboxes.{plan_over, put, dropped, said, committed, acted};
 ghost use Rattle.ac_world.specs.Outboxes.{all_acted, owns};
-ghost use Rattle.ac_world.specs.Turns.{observer_in, say_to, say_all, answer_to, answered};
+ghost use Rattle.ac_world.specs.Turns.{aim_for, say_at, say_all, answer_to, answered};
 ghost use Rattle.ac_world.specs.Turns.{all_answered};
 
 use crate::acts::Act;
+use crate::aims::{Aim, aim_at, aim_for};
 use crate::outboxes::Outbox;
-use crate::seats::observer_in;
 use ac_table::{Event, Table};
-use ds_space::{FanList, Fanned, Reference, reference_of};
+use ds_space::{FanList, Fanned};
 use pv_value::{NoMemory, Value};
 use std::alloc::Global;
 use std::marker::Model;
@@ -95,54 +96,60 @@ impl Plan {
         self.out.tell(target, event)
     }
 
-    /// A sync's answer, where its peer is a reference.
-    pub fn answer(&mut self, peer: Option<Reference>) -> Result<(), NoMemory>
-        ensures { OnOk result (self.new ≡ answer_to peer self.old) }
+    /// What gets through, to the object at which it aims.
+    fn say_at(&mut self, aim: Option<Aim>) -> Result<(), NoMemory>
+        ensures { OnOk result (self.new ≡ say_at aim self.old) }
     {
-        match peer {
-            Some(peer) => self.say(peer.at, Event::Message(peer.entity, Value::boolean(true))),
+        match aim {
+            Some(Aim { at, value }) => self.say(at.at, Event::Message(at.entity, value)),
             None => Ok(()),
         }
     }
 
-    /// The captures of a message, to the object that the observation names.
-    fn say_to(&mut self, fanned: Fanned) -> Result<(), NoMemory>
-        ensures { OnOk result
-            (self.new ≡ say_to (observer_in fanned.observe) fanned.captures self.old) }
+    /// A sync's answer, as it gets through the peer. Where the peer is no reference nobody is told.
+    pub fn answer(&mut self, alloc: Global, peer: &Value) -> Result<(), NoMemory>
+        ensures { OnOk result (self.new ≡ answer_to peer.now self.old) }
+    {
+        let aim = aim_at(alloc, &Value::boolean(true), peer)?;
+        self.say_at(aim)
+    }
+
+    /// The captures of a message, to the one that observes it.
+    fn say_fanned(&mut self, alloc: Global, fanned: Fanned) -> Result<(), NoMemory>
+        ensures { OnOk result (self.new
+            ≡ say_at (aim_for (sequence (plains fanned.captures)) fanned.observe) self.old) }
     {
         let Fanned { observe, captures } = fanned;
-        match observer_in(&observe) {
-            Some(at) => self.say(at.at, Event::Message(at.entity, Value::sequence(captures))),
-            None => Ok(()),
-        }
+        let aim = aim_for(alloc, &Value::sequence(captures), &observe)?;
+        self.say_at(aim)
     }
 
     /// The captures of a message, to each that observes it.
-    pub fn say_all(&mut self, list: FanList) -> Result<(), NoMemory>
+    pub fn say_all(&mut self, alloc: Global, list: FanList) -> Result<(), NoMemory>
         ensures { OnOk result (self.new ≡ say_all list.items self.old) }
     {
         for fanned in list {
-            self.say_to(fanned)?;
+            self.say_fanned(alloc, fanned)?;
         }
         Ok(())
     }
 
     /// What a system actor that is no dataspace does at an event: it answers a sync.
-    fn answer_event(&mut self, event: &Event) -> Result<(), NoMemory>
+    fn answer_event(&mut self, alloc: Global, event: &Event) -> Result<(), NoMemory>
         ensures { OnOk result (self.new ≡ answered event.now self.old) }
     {
         match event {
-            Event::Sync(_, peer) => self.answer(reference_of(peer)),
+            Event::Sync(_, peer) => self.answer(alloc, peer),
             _ => Ok(()),
         }
     }
 
     /// What it does at the events of a batch.
-    pub fn answer_all(&mut self, events: &[Event]) -> Result<(), NoMemory>
+    pub fn answer_all(&mut self, alloc: Global, events: &[Event]) -> Result<(), NoMemory>
         ensures { OnOk result (self.new ≡ all_answered events.now self.old) }
     {
         for event in events {
-            self.answer_event(event)?;
+            self.answer_event(alloc, event)?;
         }
         Ok(())
     }

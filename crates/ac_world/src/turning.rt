@@ -6,11 +6,12 @@ ghost use Rattle.ac_world.specs.Turns.{left, came, changed_by, all_changed, appl
 ghost use Rattle.ac_world.specs.Turns.{passed_on, turned_by, all_turned};
 
 use crate::actors::{FIRST_CONNECTION, FIRST_OTHER};
+use crate::aims::{Aim, aim_of};
 use crate::plans::Plan;
-use crate::seats::{Seat, aim_of};
+use crate::seats::Seat;
 use crate::spreads::Spreads;
 use ac_table::Event;
-use ds_space::{Applied, Change, Changes, Fan, Space, SpaceEvent, reference_of};
+use ds_space::{Applied, Change, Changes, Fan, Space, SpaceEvent};
 use pv_value::{NoMemory, Value};
 use std::alloc::Global;
 use std::marker::Model;
@@ -46,38 +47,37 @@ impl<S: Space + Drop> Turning<S> {
         }
     }
 
-    /// A key is wanted now.
-    fn come(&mut self, actor: u32, key: Value) -> Result<(), NoMemory>
+    /// A key is wanted now. Where the caveats refuse what is wanted, nothing comes of it.
+    fn come(&mut self, alloc: Global, actor: u32, key: Value) -> Result<(), NoMemory>
         requires { is_live actor self.old.plan.table ≡ true }
         ensures { OnOk result (self.new ≡ came actor key self.old) }
     {
-        let Some((at, value)) = aim_of(&key) else {
+        let Some(Aim { at, value }) = aim_of(alloc, &key)? else {
             return Ok(());
         };
-        let value = value.copy()?;
         let handle = self.plan.put(actor, (at.at, at.entity), value)?;
         self.seat.met.insert(key, handle)?;
         Ok(())
     }
 
     /// One change in what is wanted.
-    fn change(&mut self, actor: u32, change: Change) -> Result<(), NoMemory>
+    fn change(&mut self, alloc: Global, actor: u32, change: Change) -> Result<(), NoMemory>
         requires { is_live actor self.old.plan.table ≡ true }
         ensures { OnOk result (self.new ≡ changed_by actor change self.old) }
     {
         match change {
             Change::Left(key) => self.leave(actor, &key),
-            Change::Came(key) => self.come(actor, key),
+            Change::Came(key) => self.come(alloc, actor, key),
         }
     }
 
     /// What changed in what is wanted.
-    fn change_all(&mut self, actor: u32, changes: Changes) -> Result<(), NoMemory>
+    fn change_all(&mut self, alloc: Global, actor: u32, changes: Changes) -> Result<(), NoMemory>
         requires { is_live actor self.old.plan.table ≡ true }
         ensures { OnOk result (self.new ≡ all_changed actor changes.items self.old) }
     {
         for change in changes {
-            self.change(actor, change)?;
+            self.change(alloc, actor, change)?;
         }
         Ok(())
     }
@@ -108,7 +108,7 @@ impl<S: Space + Drop> Turning<S> {
                     plan,
                     spreads,
                 };
-                turning.change_all(actor, changes)?;
+                turning.change_all(alloc, actor, changes)?;
                 Ok(turning)
             }
             Applied::Over(space, weight) => {
@@ -147,7 +147,7 @@ impl<S: Space + Drop> Turning<S> {
         ensures { OnOk result (self.new ≡ passed_on from message.now self.old) }
     {
         match self.seat.space.fan(alloc, message)? {
-            Fan::Each(list) => self.plan.say_all(list),
+            Fan::Each(list) => self.plan.say_all(alloc, list),
             Fan::Over(weight) => {
                 let ends = from >= FIRST_CONNECTION && self.plan.table.live(from);
                 self.spreads.add(ends, from, weight)
@@ -174,7 +174,7 @@ impl<S: Space + Drop> Turning<S> {
                 Ok(self)
             }
             Event::Sync(_, peer) => {
-                self.plan.answer(reference_of(&peer))?;
+                self.plan.answer(alloc, &peer)?;
                 Ok(self)
             }
         }

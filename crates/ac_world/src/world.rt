@@ -212,7 +212,7 @@ impl<S: Space + Drop> World<S> {
             held,
         } = self;
         let mut plan = Plan::new(alloc, table);
-        plan.answer_all(events)?;
+        plan.answer_all(alloc, events)?;
         let table = plan.commit(actor)?;
         Ok(World {
             opened,

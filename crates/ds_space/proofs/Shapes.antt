@@ -1,16 +1,14 @@
 -- Lists of another length than the one that is looked for.
-use Rattle.std.proofs.Common.{◌≡◌, ℕ, List, [], ◌∷◌, length, pos, None, refl, arith}
+use Rattle.std.proofs.Common.{◌≡◌, ◌<◌, ℕ, List, [], ◌∷◌, length, pos, None, refl, arith}
 use Rattle.pv_value.specs.Plain.{Plain, integer, sequence, symbol, record_of, plains}
 use Rattle.ds_space.specs.References.{reference_of}
 use Rattle.ds_space.specs.Wants.{observer_of, weight_of_key}
 
-pub not_two : (xs : List Plain) → (length xs ≡ 2 → ⊥) → reference_of (sequence (plains xs)) ≡ None
-not_two [] h = refl
-not_two (integer (pos a) ∷ []) h = refl
-not_two (x ∷ []) h = refl
-not_two (x ∷ y ∷ []) h = absurd (h (omega arith))
-not_two (integer (pos a) ∷ integer (pos e) ∷ z ∷ zs) h = refl
-not_two (x ∷ y ∷ z ∷ zs) h = refl
+pub too_short : (xs : List Plain) → length xs < 2 → reference_of (sequence (plains xs)) ≡ None
+too_short [] h = refl
+too_short (integer (pos a) ∷ []) h = refl
+too_short (x ∷ []) h = refl
+too_short (x ∷ y ∷ zs) h = absurd (omega arith)
 
 pub no_key : (xs : List Plain) → (length xs ≡ 2 → ⊥) → weight_of_key (sequence (plains xs)) ≡ 0
 no_key [] h = refl

@@ -1,22 +1,20 @@
--- References as values: `[actor entity]`. Syndicate Protocol, "capabilities".
-use Rattle.std.specs.Prelude.{pos, ◌^◌, ◌==◌, [], ◌∷◌, Bool, false, ◌&&◌, nat_lt, nat_le, Option, Some, None}
+-- References as values: `[actor entity caveat ..]`. Here the object alone is looked at that a reference names; what its
+-- caveats let pass is told where something is sent through it. Syndicate Protocol, "capabilities".
+use Rattle.std.specs.Prelude.{pos, ◌^◌, [], ◌∷◌, Bool, false, ◌&&◌, nat_lt, nat_le, Option, Some, None}
 use Rattle.std.specs.Prelude.{if◌then◌else◌}
-use Rattle.pv_value.specs.Plain.{Plain, integer, sequence, no_more, then_more, plains}
+use Rattle.pv_value.specs.Plain.{Plain, integer, sequence, then_more, plains}
 use Rattle.dp_pattern.specs.Words.{number}
 pub use Rattle.ds_space.specs.declared.references.Reference.{Reference}
 
--- `[a e]`: an actor's number is below 2 ^ 32, and an object's below 2 ^ 63
+-- `[a e ..]`: an actor's number is below 2 ^ 32, and an object's below 2 ^ 63
 abbrev pub reference_of : Plain → Option Reference
-reference_of (sequence (then_more (integer (pos a)) (then_more (integer (pos e)) no_more))) =
+reference_of (sequence (then_more (integer (pos a)) (then_more (integer (pos e)) caveats))) =
     if nat_lt a (2 ^ 32) && nat_lt e (2 ^ 63) then Some (record { at = a; entity = e }) else None
 reference_of v = None
 
--- the value that writes it
+-- the value that writes it, without caveats
 abbrev pub reference_value : Reference → Plain
 reference_value r = sequence (plains (number r.at ∷ number r.entity ∷ []))
-
-abbrev pub is_same : Reference → Reference → Bool
-is_same r x = r.at == x.at && r.entity == x.entity
 
 abbrev pub is_observers : Option Reference → Bool
 is_observers None = false

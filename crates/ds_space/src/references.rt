@@ -6,8 +6,8 @@ use dp_pattern::{number, number_in};
 use pv_value::{Items, NoMemory, Node, Value};
 use std::alloc::Global;
 
-/// An object of an actor. Objects are ordered by their actors, and those of one by their numbers.
-#[derive(Clone, Copy, Debug, PartialEq, Eq, PartialOrd, Ord)]
+/// An object of an actor.
+#[derive(Clone, Copy, Debug, PartialEq, Eq)]
 pub struct Reference {
     pub at: u32,
     pub entity: u64,
@@ -16,18 +16,20 @@ pub struct Reference {
 /// Only objects of the actors from this one on are told: those of watchers and connections.
 const FIRST_OBSERVER: u32 = 9;
 
-/// The reference that a value writes: `[actor entity]`.
+/// The object that a reference names, by its value `[actor entity caveat ..]`. What stands behind
+/// the two numbers isn't looked at.
 pub fn reference_of(value: &Value) -> Option<Reference>
     ensures { result ≡ reference_of value.now }
 {
     let Node::Seq(items) = &value.node else {
         return None;
     };
-    let [at, entity] = items.as_slice() else {
+    let items = items.as_slice();
+    if items.len() < 2 {
         return None;
-    };
-    let at = number_in(at)?;
-    let entity = number_in(entity)?;
+    }
+    let at = number_in(&items[0])?;
+    let entity = number_in(&items[1])?;
     if at >= 1 << 32 {
         return None;
     }
@@ -37,7 +39,7 @@ pub fn reference_of(value: &Value) -> Option<Reference>
     })
 }
 
-/// The value that writes a reference.
+/// The value of the reference to an object that has no caveats.
 pub fn reference_value(alloc: Global, reference: Reference) -> Result<Value, NoMemory>
     ensures { IfOk result (λ v. v ≡ reference_value reference) }
 {

@@ -1,13 +1,12 @@
 //! The machine that a row of steps is tried on.
 ghost use Rattle.std.specs.Prelude.{◌≡◌, None, IfOk};
-ghost use Rattle.hub_machine.specs.State.{State};
-ghost use Rattle.hub_machine.specs.Machine.{IsAllowed};
+ghost use Rattle.hub_machine.specs.Machine.{IsBuilt};
 
 use crate::asking::Asked;
 use crate::replies::{actor_value, holdings_value, reply_value};
 use dp_pattern::number;
 use ds_space::PlainSpace;
-use hub_core::{Hub, Reply, Step, bare};
+use hub_core::{Hub, Reply, Step};
 use pv_value::{NoMemory, Value};
 use rl_packet::{Packet, held};
 use std::alloc::Global;
@@ -31,11 +30,10 @@ pub enum Answer {
 
 /// What a caller of the hub has to see to, where the step lacks it.
 fn unfit(step: &Step) -> Option<&'static str>
-    ensures { result ≡ None → (s : State) → IsAllowed s step.now }
+    ensures { result ≡ None → IsBuilt step.now }
 {
     match step {
         Step::Arrive(space) if *space == 0 => Some("an arrival at the gatekeeper"),
-        Step::Packet(_, turn) if !bare(turn) => Some("a turn that names caveats"),
         _ => None,
     }
 }

@@ -1,7 +1,4 @@
 //! The machine and its values, few and small: what runs through the whole of it is a row.
-ghost use Rattle.std.specs.Prelude.{◌≡◌, true, IfOk};
-ghost use Rattle.hub_machine.specs.Bareness.{are_bare};
-
 use ds_space::PlainSpace;
 use hub_core::{Hub, Reply, Step};
 use pv_value::Value;
@@ -10,9 +7,7 @@ use std::alloc::Global;
 use std::test::Fail;
 
 /// `[[0 <A 5 handle>]]`
-fn five(alloc: Global, handle: u64) -> Result<Turn, Fail>
-    ensures { IfOk result (λ turn. are_bare turn ≡ true) }
-{
+fn five(alloc: Global, handle: u64) -> Result<Turn, Fail> {
     let mut events = Vec::new(alloc);
     let event = Event::Assert(Value::integer(5), handle);
     events.push(TurnEvent { oid: 0, event })?;

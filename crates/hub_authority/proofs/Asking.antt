@@ -1,13 +1,14 @@
 -- The rows after a packet: those that were there and aren't taken back, and then those for which its events ask.
 use Rattle.std.proofs.Common.{◌≡◌, ℕ, ◌+◌, ◌<◌, ◌≤◌, List, [], ◌∷◌, ◌++◌, ◌==◌, ◌&&◌, ◌||◌, Bool, true, false, cond}
-use Rattle.std.proofs.Common.{not, Option, Some, None, refl, ap, sym, ◌∙◌, subst, arith, filter, slice_get, is_some}
+use Rattle.std.proofs.Common.{not, Option, Some, None, refl, ap, sym, ◌∙◌, subst, arith, filter, is_some}
+use Rattle.std.specs.Prelude.{if◌then◌else◌}
 use Rattle.std.proofs.lemmas.Bool.Decides.{nat_tests}
 use Rattle.std.proofs.lemmas.List.{append-nil, append_assoc}
 use Rattle.std.proofs.lemmas.List.Elements.{filter-append}
 use Rattle.std.specs.List.{AllByRecursion, list_any}
 use Rattle.std.specs.Option.{option_or}
 use Rattle.pv_value.specs.Plain.{Plain}
-use Rattle.ds_space.specs.declared.references.Reference.{Reference}
+use Rattle.sr_caveat.specs.declared.caps.Cap.{Cap}
 use Rattle.ac_table.specs.declared.batches.Row.{Row as TableRow}
 use Rattle.ac_table.specs.Tables.{TableState, asserted}
 use Rattle.ac_world.specs.declared.acts.Act.{Act}
@@ -20,14 +21,15 @@ use Rattle.rl_packet.specs.declared.packets.TurnEvent.{TurnEvent}
 use Rattle.rl_packet.specs.Holding.{retracts}
 use Rattle.rl_ports.specs.declared.ports.Inbound.{Inbound}
 use Rattle.rl_ports.specs.declared.ports.Inbound.TheVariants.{Row, Refused}
-use Rattle.rl_ports.specs.Ports.{PortsState, inbound_of, is_in_use, taken_into_use, freed, export_of}
-use Rattle.rl_wire.specs.Crossing.{crossed_in}
+use Rattle.rl_ports.specs.Ports.{PortsState, inbound_of, is_in_use, taken_into_use, freed}
 use Rattle.hub_machine.specs.declared.faults.Fault.{Fault}
 use Rattle.hub_machine.specs.declared.faults.Fault.TheVariants.{HandleInUse}
 use Rattle.hub_machine.specs.Faults.{where_it_is}
-use Rattle.hub_machine.specs.Admission.{Admitting, admitted, cause_of, cause_at, event_cause, after, after_at}
-use Rattle.hub_machine.specs.Admission.{after_event, after_retraction, kept, unless, all_admitted}
-use Rattle.hub_authority.specs.Asked.{takes_back, row_asked, rows_asked, next_after, stands_for, takes_row, rows_left}
+use Rattle.hub_machine.specs.Admission.{Admitting, admitted, cap_at, cause_of, cause_at, event_cause, after, after_at}
+use Rattle.hub_machine.specs.Admission.{after_event, after_assertion, after_message, after_retraction, unless}
+use Rattle.hub_machine.specs.Admission.{all_admitted}
+use Rattle.hub_authority.specs.Asked.{takes_back, cap_under, let_in, row_of, row_asked, rows_asked, next_after}
+use Rattle.hub_authority.specs.Asked.{stands_for, takes_row, rows_left}
 use Rattle.hub_valid.specs.Lemmas.Values.{all_weaker, all_append}
 use Rattle.hub_valid.specs.Lemmas.WorldLists.{all_filter}
 use Rattle.hub_authority.proofs.Entries.{KeysAscend, entry_of_with, entry_of_without, ascend_with, ascend_without}
@@ -128,9 +130,9 @@ all_acted_more a (y ∷ xs) x p = all_acted_more a xs x (acted a y p)
 
 -- ---- a message and a sync
 
-quiet_leads : (k oid : ℕ) (to : Reference) (ev : Event) (es : List TurnEvent) (t : TableState) (next : ℕ)
-    (ports : PortsState) → slice_get ports.exports oid ≡ Some to → row_asked ports.exports k next (Some to) ev es ≡ []
-    → next_after ev next ≡ next → ((n : ℕ) → takes_row ports n ev ≡ false)
+quiet_leads : (k oid : ℕ) (to : Cap) (ev : Event) (es : List TurnEvent) (t : TableState) (next : ℕ)
+    (ports : PortsState) → cap_under ports.exports oid ≡ Some to → row_asked ports.exports k next (Some to) ev es ≡ []
+    → next_after ports.exports k (Some to) ev next ≡ next → ((n : ℕ) → takes_row ports n ev ≡ false)
     → rows_then k t next ports es ≡ rows_then k t next ports (record { oid = oid; event = ev } ∷ es)
 quiet_leads k oid to ev es t next ports found none same silent = λ i. left i ++ asked i
   where
@@ -144,23 +146,23 @@ quiet_leads k oid to ev es t next ports found none same silent = λ i. left i ++
         ≡ rows_asked ports.exports k next (record { oid = oid; event = ev } ∷ es)
     asked =
         sym (λ i. (ap (λ o. row_asked ports.exports k next o ev es) found ∙ none) i
-        ++ rows_asked ports.exports k (same i) es)
+        ++ rows_asked ports.exports k ((ap (λ o. next_after ports.exports k o ev next) found ∙ same) i) es)
 
 -- ---- an assertion
 
-abbrev new_row : ℕ → Reference → Plain → ℕ → TableRow
+abbrev new_row : ℕ → Cap → Plain → ℕ → TableRow
 new_row k to v n = record {
   handle = n;
   owner = actor_of k;
   facet = 0;
-  target = to.at;
+  target = to.actor;
   entity = to.entity;
   value = v;
 }
 
-walked_made : (k h : ℕ) (to : Reference) (v : Plain) (t : TableState) (next : ℕ) (ports : PortsState)
+walked_made : (k h : ℕ) (to : Cap) (v : Plain) (t : TableState) (next : ℕ) (ports : PortsState)
     → IsWalked t next ports
-    → IsWalked (asserted (actor_of k) 0 to.at to.entity v t) (next + 1) (taken_into_use h (Row next) ports)
+    → IsWalked (asserted (actor_of k) 0 to.actor to.entity v t) (next + 1) (taken_into_use h (Row next) ports)
 walked_made k h to v t next ports walked = record {
   next_is = ap (λ n. n + 1) walked.next_is;
   below = all_append _ t.rows (new_row k to v t.next ∷ [])
@@ -177,17 +179,31 @@ walked_made k h to v t next ports walked = record {
     by g n true o found is = let same : next ≡ n = cc in omega (arith, same)
     by g n false o found is = let less = walked.stand g n (found ∙ is) in omega (arith, less)
 
-assert_leads : (k h oid : ℕ) (to : Reference) (v : Plain) (es : List TurnEvent) (t : TableState) (next : ℕ)
-    (ports : PortsState) → slice_get ports.exports oid ≡ Some to → inbound_of h ports ≡ None
-    → IsWalked t next ports
-    → rows_then k (asserted (actor_of k) 0 to.at to.entity (crossed_in ports.exports k v) t) (next + 1)
-    (taken_into_use h (Row next) ports) es
+-- what an assertion asks for, at the reference that is found
+asked_at : (k h oid : ℕ) (to : Cap) (v : Plain) (o : Option Plain) (es : List TurnEvent) (next : ℕ) (ports : PortsState)
+    → cap_under ports.exports oid ≡ Some to → let_in ports.exports k to v ≡ o
+    → rows_asked ports.exports k next (record { oid = oid; event = Assert v h } ∷ es)
+    ≡ row_of k next to (takes_back es h) o
+    ++ rows_asked ports.exports k (if is_some o then next + 1 else next) es
+asked_at k h oid to v o es next ports found is =
+    ap (λ c. row_asked ports.exports k next c (Assert v h) es
+    ++ rows_asked ports.exports k (next_after ports.exports k c (Assert v h) next) es) found
+    ∙ ap (λ p. row_of k next to (takes_back es h) p
+    ++ rows_asked ports.exports k (if is_some p then next + 1 else next) es) is
+
+-- of a value that gets through
+assert_leads : (k h oid : ℕ) (to : Cap) (v u : Plain) (es : List TurnEvent) (t : TableState) (next : ℕ)
+    (ports : PortsState) → cap_under ports.exports oid ≡ Some to → let_in ports.exports k to v ≡ Some u
+    → inbound_of h ports ≡ None → IsWalked t next ports
+    → rows_then k (asserted (actor_of k) 0 to.actor to.entity u t) (next + 1) (taken_into_use h (Row next) ports) es
     ≡ rows_then k t next ports (record { oid = oid; event = Assert v h } ∷ es)
-assert_leads k h oid to v es t next ports found free walked =
+assert_leads k h oid to v u es t next ports found through free walked =
     ap (λ rows. rows ++ later) (filter-append _ t.rows (new t.next ∷ [])
     ∙ (λ i. old i ++ made i))
     ∙ append_assoc (rows_left k ports (record { oid = oid; event = Assert v h } ∷ es) t.rows)
-    (row_asked ports.exports k next (slice_get ports.exports oid) (Assert v h) es) later
+    (row_of k next to (takes_back es h) (Some u)) later
+    ∙ ap (λ rows. rows_left k ports (record { oid = oid; event = Assert v h } ∷ es) t.rows ++ rows)
+    (sym (asked_at k h oid to v (Some u) es next ports found through))
   where
     after_it : PortsState
     after_it = taken_into_use h (Row next) ports
@@ -196,7 +212,7 @@ assert_leads k h oid to v es t next ports found free walked =
     later = rows_asked ports.exports k (next + 1) es
 
     new : ℕ → TableRow
-    new n = new_row k to (crossed_in ports.exports k v) n
+    new n = new_row k to u n
 
     old : rows_left k after_it es t.rows
         ≡ rows_left k ports (record { oid = oid; event = Assert v h } ∷ es) t.rows
@@ -206,30 +222,76 @@ assert_leads k h oid to v es t next ports found free walked =
         (any_same _ _ (λ e. takes_new ports h next r.handle e.event less free) es)) t.rows walked.below)
 
     stays_or_goes : (b c : Bool) → b ≡ true
-        → cond (not (b && c)) (new next ∷ []) [] ≡ cond c [] (new next ∷ [])
+        → cond (not (b && c)) (new next ∷ []) [] ≡ row_of k next to c (Some u)
     stays_or_goes true true is = refl
     stays_or_goes true false is = refl
     stays_or_goes false c is = absurd cc
 
-    made : rows_left k after_it es (new t.next ∷ [])
-        ≡ row_asked ports.exports k next (slice_get ports.exports oid) (Assert v h) es
+    made : rows_left k after_it es (new t.next ∷ []) ≡ row_of k next to (takes_back es h) (Some u)
     made =
         ap (λ n. rows_left k after_it es (new n ∷ [])) walked.next_is
         ∙ ap (λ b. cond (not ((actor_of k == actor_of k) && b)) (new next ∷ []) [])
         (any_same _ _ (λ e. takes_made ports h next e.event walked.stand) es)
         ∙ stays_or_goes (actor_of k == actor_of k) (takes_back es h) (itself (actor_of k))
-        ∙ ap (λ o. row_asked ports.exports k next o (Assert v h) es) (sym found)
+
+-- a handle that comes into use for no row takes no row
+takes_noted : (ports : PortsState) (h n : ℕ) (e : Event) → inbound_of h ports ≡ None
+    → takes_row (taken_into_use h Refused ports) n e ≡ takes_row ports n e
+takes_noted ports h n (Assert v g) free = refl
+takes_noted ports h n (Message v) free = refl
+takes_noted ports h n (Sync peer) free = refl
+takes_noted ports h n (Retract g) free =
+    ap (stands_for n) (entry_of_with g h Refused ports.handles)
+    ∙ by (h == g) (λ is. subst (λ j. inbound_of j ports ≡ None) (one_number h g is) free)
+  where
+    by : (b : Bool) → (b ≡ true → inbound_of g ports ≡ None)
+        → stands_for n (cond b (Some Refused) (inbound_of g ports)) ≡ stands_for n (inbound_of g ports)
+    by true none = sym (ap (stands_for n) (none refl))
+    by false none = refl
+
+-- of one that is refused
+noted_leads : (k h oid : ℕ) (to : Cap) (v : Plain) (es : List TurnEvent) (t : TableState) (next : ℕ)
+    (ports : PortsState) → cap_under ports.exports oid ≡ Some to → let_in ports.exports k to v ≡ None
+    → inbound_of h ports ≡ None
+    → rows_then k t next (taken_into_use h Refused ports) es
+    ≡ rows_then k t next ports (record { oid = oid; event = Assert v h } ∷ es)
+noted_leads k h oid to v es t next ports found refused free =
+    λ i. left i ++ sym (asked_at k h oid to v None es next ports found refused) i
+  where
+    left : rows_left k (taken_into_use h Refused ports) es t.rows
+        ≡ rows_left k ports (record { oid = oid; event = Assert v h } ∷ es) t.rows
+    left =
+        filter_same _ _ t.rows
+        (all_from _ (λ r. ap (λ b. not ((r.owner == actor_of k) && b))
+        (any_same _ _ (λ e. takes_noted ports h r.handle e.event free) es)) t.rows)
+
+walked_noted : (h : ℕ) (t : TableState) (next : ℕ) (ports : PortsState) → IsWalked t next ports
+    → IsWalked t next (taken_into_use h Refused ports)
+walked_noted h t next ports walked = record {
+  next_is = walked.next_is;
+  below = walked.below;
+  once = walked.once;
+  ascend = ascend_with h Refused ports.handles walked.ascend;
+  stand = λ g n is.
+      by g n (h == g) (inbound_of g ports) refl (sym (entry_of_with g h Refused ports.handles) ∙ is);
+}
+  where
+    by : (g n : ℕ) (b : Bool) (o : Option Inbound) → inbound_of g ports ≡ o → cond b (Some Refused) o ≡ Some (Row n)
+        → n < next
+    by g n true o found is = absurd cc
+    by g n false o found is = walked.stand g n (found ∙ is)
 
 -- ---- a retraction
 
 abbrev retraction : ℕ → ℕ → TurnEvent
 retraction oid h = record { oid = oid; event = Retract h }
 
-asked_alike : (k oid h : ℕ) (to : Reference) (es : List TurnEvent) (next : ℕ) (ports : PortsState)
-    → slice_get ports.exports oid ≡ Some to
+asked_alike : (k oid h : ℕ) (to : Cap) (es : List TurnEvent) (next : ℕ) (ports : PortsState)
+    → cap_under ports.exports oid ≡ Some to
     → rows_asked ports.exports k next es ≡ rows_asked ports.exports k next (retraction oid h ∷ es)
 asked_alike k oid h to es next ports found =
-    ap (λ o. row_asked ports.exports k next o (Retract h) es ++ rows_asked ports.exports k next es) (sym found)
+    ap (λ o. row_asked ports.exports k next o (Retract h) es
+    ++ rows_asked ports.exports k (next_after ports.exports k o (Retract h) next) es) (sym found)
 
 -- a row for which the handle doesn't stand is taken back as before
 taken_alike : (ports : PortsState) (h n : ℕ) (es : List TurnEvent) → KeysAscend ports.handles
@@ -255,8 +317,8 @@ walked_freed h t u next ports walked same below once = record {
     by g n false o found is = walked.stand g n (found ∙ is)
 
 -- of a handle that stands for no row
-refused_leads : (k h oid : ℕ) (to : Reference) (es : List TurnEvent) (t : TableState) (next : ℕ) (ports : PortsState)
-    → slice_get ports.exports oid ≡ Some to → inbound_of h ports ≡ Some Refused → IsWalked t next ports
+refused_leads : (k h oid : ℕ) (to : Cap) (es : List TurnEvent) (t : TableState) (next : ℕ) (ports : PortsState)
+    → cap_under ports.exports oid ≡ Some to → inbound_of h ports ≡ Some Refused → IsWalked t next ports
     → rows_then k t next (freed h ports) es ≡ rows_then k t next ports (retraction oid h ∷ es)
 refused_leads k h oid to es t next ports found stood walked =
     λ i. left i ++ asked_alike k oid h to es next ports found i
@@ -268,8 +330,8 @@ refused_leads k h oid to es t next ports found stood walked =
         (taken_alike ports h r.handle es walked.ascend (ap (stands_for r.handle) stood))) t.rows)
 
 -- of one that stands for a row
-taken_leads : (k h m oid : ℕ) (to : Reference) (es : List TurnEvent) (t u : TableState) (next : ℕ) (ports : PortsState)
-    → slice_get ports.exports oid ≡ Some to → inbound_of h ports ≡ Some (Row m) → IsWalked t next ports
+taken_leads : (k h m oid : ℕ) (to : Cap) (es : List TurnEvent) (t u : TableState) (next : ℕ) (ports : PortsState)
+    → cap_under ports.exports oid ≡ Some to → inbound_of h ports ≡ Some (Row m) → IsWalked t next ports
     → u.rows ≡ filter (stays (actor_of k) m) t.rows
     → rows_then k u next (freed h ports) es ≡ rows_then k t next ports (retraction oid h ∷ es)
 taken_leads k h m oid to es t u next ports found stood walked less =
@@ -308,8 +370,8 @@ or_none : (f g : Option Fault) → option_or f g ≡ None → (f ≡ None) × (g
 or_none None g is = (refl, is)
 or_none (Some f) g is = absurd cc
 
-retraction_leads : (k oid h : ℕ) (w : WorldState) (to : Reference) (es : List TurnEvent) (x : Admitting)
-    (o : Option Inbound) → slice_get x.ports.exports oid ≡ Some to → inbound_of h x.ports ≡ o
+retraction_leads : (k oid h : ℕ) (w : WorldState) (to : Cap) (es : List TurnEvent) (x : Admitting)
+    (o : Option Inbound) → cap_under x.ports.exports oid ≡ Some to → inbound_of h x.ports ≡ o
     → IsWalked (plan_of k w x).table x.next x.ports
     → Leads k w (retraction oid h) es x (after_retraction h o w x)
 retraction_leads k oid h w to es x None found stood walked = record {
@@ -349,29 +411,37 @@ free_handle h ports is = by (inbound_of h ports) is
     by None is = refl
     by (Some i) is = absurd cc
 
-event_leads : (k oid : ℕ) (w : WorldState) (to : Reference) (ev : Event) (es : List TurnEvent) (x : Admitting)
-    → slice_get x.ports.exports oid ≡ Some to → event_cause k w to ev x ≡ None
-    → IsWalked (plan_of k w x).table x.next x.ports
-    → Leads k w (record { oid = oid; event = ev }) es x (after_event k w to ev x)
-event_leads k oid w to (Assert v h) es x found none walked =
-    let later : x.next ≤ x.next + 1 = omega arith in
-    let is : (plan_of k w (after_event k w to (Assert v h) x)).table
-    ≡ asserted (actor_of k) 0 to.at to.entity (kept k v x) (plan_of k w x).table =
+assertion_leads : (k oid h : ℕ) (w : WorldState) (to : Cap) (v : Plain) (o : Option Plain) (es : List TurnEvent)
+    (x : Admitting) → cap_under x.ports.exports oid ≡ Some to → let_in x.ports.exports k to v ≡ o
+    → inbound_of h x.ports ≡ None → IsWalked (plan_of k w x).table x.next x.ports
+    → Leads k w (record { oid = oid; event = Assert v h }) es x (after_assertion w to o h x)
+assertion_leads k oid h w to v None es x found through free walked = record {
+  walked = walked_noted h (plan_of k w x).table x.next x.ports walked;
+  later = omega arith;
+  same = noted_leads k h oid to v es (plan_of k w x).table x.next x.ports found through free;
+}
+assertion_leads k oid h w to v (Some u) es x found through free walked =
+    let is : (plan_of k w (after_assertion w to (Some u) h x)).table
+    ≡ asserted (actor_of k) 0 to.actor to.entity u (plan_of k w x).table =
     ap (λ p. p.table) (all_acted_more (actor_of k) x.acts _ (plan_over w.table)) in
-    let free : inbound_of h x.ports ≡ None =
-    free_handle h x.ports
-    (or_none _ _ (or_none _ _ (or_none _ _ (or_none _ _ none).0).0).0).1 in
     record {
       walked = subst (λ t. IsWalked t (x.next + 1) (taken_into_use h (Row x.next) x.ports)) (sym is)
-          (walked_made k h to (kept k v x) (plan_of k w x).table x.next x.ports walked);
-      later = later;
+          (walked_made k h to u (plan_of k w x).table x.next x.ports walked);
+      later = omega arith;
       same = ap (λ t. rows_then k t (x.next + 1) (taken_into_use h (Row x.next) x.ports) es) is
-          ∙ assert_leads k h oid to v es (plan_of k w x).table x.next x.ports found free walked;
+          ∙ assert_leads k h oid to v u es (plan_of k w x).table x.next x.ports found through free walked;
     }
-event_leads k oid w to (Retract h) es x found none walked =
-    retraction_leads k oid h w to es x (inbound_of h x.ports) found refl walked
-event_leads k oid w to (Message v) es x found none walked =
-    let is : (plan_of k w (after_event k w to (Message v) x)).table ≡ (plan_of k w x).table =
+
+message_leads : (k oid : ℕ) (w : WorldState) (to : Cap) (v : Plain) (o : Option Plain) (es : List TurnEvent)
+    (x : Admitting) → cap_under x.ports.exports oid ≡ Some to → IsWalked (plan_of k w x).table x.next x.ports
+    → Leads k w (record { oid = oid; event = Message v }) es x (after_message w to o x)
+message_leads k oid w to v None es x found walked = record {
+  walked = walked;
+  later = omega arith;
+  same = quiet_leads k oid to (Message v) es (plan_of k w x).table x.next x.ports found refl refl (λ n. refl);
+}
+message_leads k oid w to v (Some u) es x found walked =
+    let is : (plan_of k w (after_message w to (Some u) x)).table ≡ (plan_of k w x).table =
     ap (λ p. p.table) (all_acted_more (actor_of k) x.acts _ (plan_over w.table)) in
     record {
       walked = subst (λ t. IsWalked t x.next x.ports) (sym is) walked;
@@ -379,6 +449,18 @@ event_leads k oid w to (Message v) es x found none walked =
       same = ap (λ t. rows_then k t x.next x.ports es) is
           ∙ quiet_leads k oid to (Message v) es (plan_of k w x).table x.next x.ports found refl refl (λ n. refl);
     }
+
+event_leads : (k oid : ℕ) (w : WorldState) (to : Cap) (ev : Event) (es : List TurnEvent) (x : Admitting)
+    → cap_under x.ports.exports oid ≡ Some to → event_cause k w to ev x ≡ None
+    → IsWalked (plan_of k w x).table x.next x.ports
+    → Leads k w (record { oid = oid; event = ev }) es x (after_event k w to ev x)
+event_leads k oid w to (Assert v h) es x found none walked =
+    assertion_leads k oid h w to v (let_in x.ports.exports k to v) es x found refl
+    (free_handle h x.ports (or_none _ _ (or_none _ _ (or_none _ _ none).0).0).1) walked
+event_leads k oid w to (Retract h) es x found none walked =
+    retraction_leads k oid h w to es x (inbound_of h x.ports) found refl walked
+event_leads k oid w to (Message v) es x found none walked =
+    message_leads k oid w to v (let_in x.ports.exports k to v) es x found walked
 event_leads k oid w to (Sync peer) es x found none walked =
     let is : (plan_of k w (after_event k w to (Sync peer) x)).table ≡ (plan_of k w x).table =
     ap (λ p. p.table) (all_acted_more (actor_of k) x.acts _ (plan_over w.table)) in
@@ -418,7 +500,7 @@ all_led k w [] x y walked is =
 all_led k w (e ∷ es) x y walked is =
     by (cause_of k w e x) refl is (λ walked_on later. all_led k w es (after k w e x) y walked_on later)
   where
-    at : (o : Option Reference) → export_of e.oid x.ports ≡ o → cause_at k w o e x ≡ None
+    at : (o : Option Cap) → cap_at e.oid x.ports ≡ o → cause_at k w o e x ≡ None
         → Leads k w e es x (after_at k w o e.event x)
     at None found none = absurd cc
     at (Some to) found none = event_leads k e.oid w to e.event es x found none walked
@@ -428,7 +510,7 @@ all_led k w (e ∷ es) x y walked is =
         → all_admitted k w es (after k w e x) ≡ admitted y → HaveLed k w es (after k w e x) y)
         → HaveLed k w (e ∷ es) x y
     by None none is later =
-        let l = at (export_of e.oid x.ports) refl none in
+        let l = at (cap_at e.oid x.ports) refl none in
         let led = later l.walked is in
         record { walked = led.walked; later = omega (arith, l.later, led.later); rows = led.rows ∙ l.same }
     by (Some f) some is later = absurd cc

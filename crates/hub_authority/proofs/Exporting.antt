@@ -1,10 +1,10 @@
--- A connection's exports are its first object and the objects of others of which it was told.
+-- A connection's exports are its first object and the references of which it was told.
 use Rattle.std.proofs.Common.{◌≡◌, ℕ, ◌+◌, ◌<◌, ◌≤◌, List, [], ◌∷◌, ◌++◌, false}
 use Rattle.std.proofs.Common.{Option, Some, None, ◌⊎◌, inl, inr, refl, ap, sym, ◌∙◌, subst, arith}
 use Rattle.std.proofs.lemmas.List.{append-nil, append_assoc}
 use Rattle.std.specs.List.{flat_map}
 use Rattle.std.specs.Option.{option_or}
-use Rattle.ds_space.specs.declared.references.Reference.{Reference}
+use Rattle.pv_value.specs.Plain.{Plain}
 use Rattle.ac_table.specs.declared.batches.Batch.{Batch}
 use Rattle.ac_table.specs.Tables.{is_live}
 use Rattle.ac_world.specs.Worlds.{actor_of}
@@ -22,8 +22,8 @@ use Rattle.hub_authority.proofs.Lists.{flat_map_append}
 -- ---- one step
 
 -- connection k has come with its first object
-pub record CameWith (k : ℕ) (s : State) (told : List Batch) (first : Option Reference) (p : PortsState) : Type 0 where
-  pub object : Reference
+pub record CameWith (k : ℕ) (s : State) (told : List Batch) (first : Option Plain) (p : PortsState) : Type 0 where
+  pub object : Plain
   pub next : k ≡ s.world.opened + 1
   pub is_first : first ≡ Some object
   pub untold : told ≡ []
@@ -36,7 +36,7 @@ pub record WasTold (k : ℕ) (s : State) (told : List Batch) (p : PortsState) : 
   pub exports : p.exports ≡ all_exported before.exports (flat_map (foreign_to k) told)
 
 -- from s to t, where connection k is told these batches and gets this first object
-pub record Tells (k : ℕ) (s t : State) (told : List Batch) (first : Option Reference) : Type 0 where
+pub record Tells (k : ℕ) (s t : State) (told : List Batch) (first : Option Plain) : Type 0 where
   pub opened : s.world.opened ≤ t.world.opened
   pub live : t.world.opened < k → is_live (actor_of k) s.world.table ≡ false
       → is_live (actor_of k) t.world.table ≡ false
@@ -51,7 +51,7 @@ tells_nothing k s t keeps = record {
   named = λ p is. let h = keeps.named p is in inl (record { before = h.before; there = h.there; exports = h.same });
 }
 
-pub tells_then : (k : ℕ) (s t u : State) (told : List Batch) (first : Option Reference) → Tells k s t told first
+pub tells_then : (k : ℕ) (s t u : State) (told : List Batch) (first : Option Plain) → Tells k s t told first
     → Keeps k t u → Tells k s u told first
 tells_then k s t u told first tells keeps = record {
   opened = subst (λ n. s.world.opened ≤ n) (sym keeps.opened) tells.opened;
@@ -88,7 +88,7 @@ first_more : (k : ℕ) (s : State) (es : List Step) (e : Step) → first_from k 
     ≡ option_or (first_from k s es) (first_by k (run_from s es) e)
 first_more k s [] e = by (first_by k s e)
   where
-    by : (o : Option Reference) → option_or o None ≡ o
+    by : (o : Option Plain) → option_or o None ≡ o
     by None = refl
     by (Some r) = refl
 first_more k s (f ∷ es) e =

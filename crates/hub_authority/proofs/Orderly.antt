@@ -27,6 +27,7 @@ use Rattle.hub_machine.specs.Endings.{nameless, closed, failed, finished}
 use Rattle.hub_machine.specs.Machine.{unchanged, opened, refusal, arrive_unless, accepted, judged, packet_at, bad_at}
 use Rattle.hub_machine.specs.Machine.{close_at, exports_after, exporting, telling_fault, told_unless, tell, fault_for}
 use Rattle.hub_machine.specs.Machine.{tell_fault, after_turn, turn_of, rest, work_by, is_worn, done, step}
+use Rattle.hub_machine.specs.Machine.{actor_reference}
 use Rattle.hub_machine.specs.Replays.{run_from, replay}
 use Rattle.hub_valid.specs.Validity.{IsValid}
 use Rattle.hub_valid.specs.Lemmas.Hubs.{stays_valid}
@@ -90,7 +91,7 @@ arrive_in_order : (o : Option Reply) (space : ℕ) (s : State) → AreInOrder s
 arrive_in_order (Some r) space s all = all
 arrive_in_order None space s all =
     finished_in_order [] (opened space s)
-    (all_with (IsInOrder s.world.table.next) (s.world.opened + 1) (ports_to (record { at = space; entity = 0 }))
+    (all_with (IsInOrder s.world.table.next) (s.world.opened + 1) (ports_to (actor_reference space))
     s.connections (ascend_none, λ h n is. absurd cc) all)
 
 -- ---- packets

@@ -2,9 +2,7 @@
 use Rattle.std.proofs.Common.{◌≡◌, ℕ, List, [], ◌∷◌, ◌==◌, Bool, true, false, cond, Option, Some, None, refl, ◌∙◌}
 use Rattle.std.proofs.Common.{nat_lt}
 use Rattle.std.specs.Map.{values_of}
-use Rattle.pv_value.specs.Plain.{Plain}
-use Rattle.ds_space.specs.declared.references.Reference.{Reference}
-use Rattle.ds_space.specs.References.{reference_of}
+use Rattle.pv_value.specs.Plain.{Plain, boolean, sequence, plains}
 use Rattle.ds_space.specs.Spaces.{Rows, changed, has_row}
 use Rattle.ds_space.specs.declared.space.SpaceEvent.{SpaceEvent}
 use Rattle.ds_space.specs.declared.space.SpaceEvent.TheVariants.{Add, Gone}
@@ -20,10 +18,11 @@ use Rattle.ac_table.specs.Tables.{find_row}
 use Rattle.ac_world.specs.declared.acts.Act.{Act}
 use Rattle.ac_world.specs.declared.acts.Act.TheVariants as act
 use Rattle.ac_world.specs.Outboxes.{Plan, drop_row, drop_own, acted, all_acted}
-use Rattle.ac_world.specs.Turns.{Aim, Turning, aim_of, handle_for, drop_met, came_at, changed_by, all_changed}
+use Rattle.ac_world.specs.declared.aims.Aim.{Aim}
+use Rattle.ac_world.specs.Turns.{Turning, aim_of, handle_for, drop_met, came_at, changed_by, all_changed}
 use Rattle.ac_world.specs.Turns.{changes, with_rows, regot, spreading, by_assertion, by_message, applied, taken_in}
-use Rattle.ac_world.specs.Turns.{observer_in, say_to, say_all, passed_on, answer_to, turned_by, all_turned, answered}
-use Rattle.ac_world.specs.Turns.{all_answered}
+use Rattle.ac_world.specs.Turns.{aim_at, aim_for, say_at, say_all, passed_on, answer_to, turned_by, all_turned}
+use Rattle.ac_world.specs.Turns.{answered, all_answered}
 
 -- ---- what a connection does
 
@@ -87,15 +86,15 @@ actors_taken_in a from h v t = by (has_row h t.seat.got)
     by true = refl
     by false = actors_applied a from (Add h v) t
 
-actors_say_to : (o : Option Reference) (cs : List Plain) (p : Plan) → (say_to o cs p).table.actors ≡ p.table.actors
-actors_say_to None cs p = refl
-actors_say_to (Some r) cs p = refl
+actors_say_at : (o : Option Aim) (p : Plan) → (say_at o p).table.actors ≡ p.table.actors
+actors_say_at None p = refl
+actors_say_at (Some aim) p = refl
 
 actors_say_all : (fs : List Fanned) (p : Plan) → (say_all fs p).table.actors ≡ p.table.actors
 actors_say_all [] p = refl
 actors_say_all (f ∷ fs) p =
-    actors_say_all fs (say_to (observer_in f.observe) f.captures p)
-    ∙ actors_say_to (observer_in f.observe) f.captures p
+    let aim = aim_for (sequence (plains f.captures)) f.observe in
+    actors_say_all fs (say_at aim p) ∙ actors_say_at aim p
 
 actors_passed_on : (from : ℕ) (v : Plain) (t : Turning) → KeepsActors t (passed_on from v t)
 actors_passed_on from v t = by (nat_lt 33554432 (fan_weight (values_of t.seat.got) v))
@@ -106,15 +105,14 @@ actors_passed_on from v t = by (nat_lt 33554432 (fan_weight (values_of t.seat.go
     by true = refl
     by false = actors_say_all (fan_of (values_of t.seat.got) v) t.plan
 
-actors_answer_to : (o : Option Reference) (p : Plan) → (answer_to o p).table.actors ≡ p.table.actors
-actors_answer_to None p = refl
-actors_answer_to (Some r) p = refl
+actors_answer_to : (peer : Plain) (p : Plan) → (answer_to peer p).table.actors ≡ p.table.actors
+actors_answer_to peer p = actors_say_at (aim_at (boolean true) peer) p
 
 actors_turned_by : (a from : ℕ) (e : Event) (t : Turning) → KeepsActors t (turned_by a from e t)
 actors_turned_by a from (event.Assert h entity v) t = actors_taken_in a from h v t
 actors_turned_by a from (event.Retract h entity) t = actors_applied a from (Gone h) t
 actors_turned_by a from (event.Message entity v) t = actors_passed_on from v t
-actors_turned_by a from (event.Sync entity peer) t = actors_answer_to (reference_of peer) t.plan
+actors_turned_by a from (event.Sync entity peer) t = actors_answer_to peer t.plan
 
 pub actors_all_turned : (a from : ℕ) (es : List Event) (t : Turning) → KeepsActors t (all_turned a from es t)
 actors_all_turned a from [] t = refl
@@ -127,7 +125,7 @@ actors_answered : (e : Event) (p : Plan) → (answered e p).table.actors ≡ p.t
 actors_answered (event.Assert h entity v) p = refl
 actors_answered (event.Retract h entity) p = refl
 actors_answered (event.Message entity v) p = refl
-actors_answered (event.Sync entity peer) p = actors_answer_to (reference_of peer) p
+actors_answered (event.Sync entity peer) p = actors_answer_to peer p
 
 pub actors_all_answered : (es : List Event) (p : Plan) → (all_answered es p).table.actors ≡ p.table.actors
 actors_all_answered [] p = refl

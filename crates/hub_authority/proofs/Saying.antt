@@ -1,6 +1,6 @@
 -- The messages that a packet brings to an actor's inbox: those for which its events ask.
 use Rattle.std.proofs.Common.{◌≡◌, ℕ, List, [], ◌∷◌, ◌++◌, ◌==◌, Bool, true, false, cond, Option, Some, None}
-use Rattle.std.proofs.Common.{refl, ap, sym, ◌∙◌, subst, arith, slice_get, Less}
+use Rattle.std.proofs.Common.{refl, ap, sym, ◌∙◌, subst, arith, Less}
 use Rattle.std.proofs.lemmas.Bool.Decides.{nat_tests}
 use Rattle.std.proofs.lemmas.List.{append-nil, append_assoc}
 use Rattle.std.proofs.lemmas.Map.Keys.{sorted_head, sorted_tail}
@@ -9,7 +9,8 @@ use Rattle.std.specs.Prelude.{unwrap_or}
 use Rattle.std.specs.List.{AllByRecursion}
 use Rattle.std.specs.Map.{keys_of}
 use Rattle.std.specs.Ordering.{nat_cmp}
-use Rattle.ds_space.specs.declared.references.Reference.{Reference}
+use Rattle.pv_value.specs.Plain.{Plain}
+use Rattle.sr_caveat.specs.declared.caps.Cap.{Cap}
 use Rattle.ac_table.specs.declared.batches.Batch.{Batch}
 use Rattle.ac_table.specs.declared.batches.Event.{Event as Told}
 use Rattle.ac_table.specs.declared.batches.Event.TheVariants as told_event
@@ -25,11 +26,13 @@ use Rattle.rl_packet.specs.declared.packets.Event.TheVariants.{Assert, Retract, 
 use Rattle.rl_packet.specs.declared.packets.TurnEvent.{TurnEvent}
 use Rattle.rl_ports.specs.declared.ports.Inbound.{Inbound}
 use Rattle.rl_ports.specs.declared.ports.Inbound.TheVariants.{Row, Refused}
-use Rattle.rl_ports.specs.Ports.{inbound_of, export_of}
+use Rattle.rl_ports.specs.Ports.{inbound_of}
 use Rattle.hub_machine.specs.declared.faults.Fault.{Fault}
 use Rattle.hub_machine.specs.Admission.{Admitting, admitted, cause_of, cause_at, after, after_at, after_event}
-use Rattle.hub_machine.specs.Admission.{after_retraction, unless, all_admitted}
-use Rattle.hub_authority.specs.Asked.{message_asked, messages_asked, message_in, messages_in, events_of}
+use Rattle.hub_machine.specs.Admission.{after_assertion, after_message, after_retraction, unless, all_admitted}
+use Rattle.hub_machine.specs.Admission.{cap_at}
+use Rattle.hub_authority.specs.Asked.{cap_under, let_in, message_to, message_asked, messages_asked, message_in}
+use Rattle.hub_authority.specs.Asked.{messages_in, events_of}
 use Rattle.hub_authority.proofs.Asking.{plan_of, all_acted_more}
 use Rattle.hub_authority.proofs.Entries.{KeysAscend, ascend_with, entry_of_with, entry_of_above}
 use Rattle.hub_authority.proofs.Lists.{flat_map_append}
@@ -89,14 +92,28 @@ said_retractions b (r ∷ rs) out =
 
 -- ---- what is said by events
 
+-- an assertion says nothing
+assertion_says : (k b h : ℕ) (w : WorldState) (to : Cap) (o : Option Plain) (x : Admitting)
+    → said_to b (plan_of k w (after_assertion w to o h x)).out ≡ said_to b (plan_of k w x).out
+assertion_says k b h w to None x = refl
+assertion_says k b h w to (Some v) x =
+    ap (λ p. said_to b p.out) (all_acted_more (actor_of k) x.acts _ (plan_over w.table))
+    ∙ said_nothing b to.actor _ (plan_of k w x).out refl
+
+-- a message says what gets through
+message_says : (k b : ℕ) (w : WorldState) (to : Cap) (o : Option Plain) (x : Admitting)
+    → said_to b (plan_of k w (after_message w to o x)).out ≡ said_to b (plan_of k w x).out ++ message_to b to o
+message_says k b w to None x = sym (append-nil (said_to b (plan_of k w x).out))
+message_says k b w to (Some v) x =
+    ap (λ p. said_to b p.out) (all_acted_more (actor_of k) x.acts _ (plan_over w.table))
+    ∙ said_told b to.actor _ (plan_of k w x).out
+
 -- one event of a packet, at an export
-event_says : (k b : ℕ) (w : WorldState) (to : Reference) (ev : Event) (x : Admitting)
+event_says : (k b : ℕ) (w : WorldState) (to : Cap) (ev : Event) (x : Admitting)
     → said_to b (plan_of k w (after_event k w to ev x)).out
     ≡ said_to b (plan_of k w x).out ++ message_asked x.ports.exports k b (Some to) ev
 event_says k b w to (Assert v h) x =
-    ap (λ p. said_to b p.out) (all_acted_more (actor_of k) x.acts _ (plan_over w.table))
-    ∙ said_nothing b to.at _ (plan_of k w x).out refl
-    ∙ sym (append-nil (said_to b (plan_of k w x).out))
+    assertion_says k b h w to (let_in x.ports.exports k to v) x ∙ sym (append-nil (said_to b (plan_of k w x).out))
 event_says k b w to (Retract h) x = by (inbound_of h x.ports) ∙ sym (append-nil (said_to b (plan_of k w x).out))
   where
     by : (o : Option Inbound) → said_to b (plan_of k w (after_retraction h o w x)).out ≡ said_to b (plan_of k w x).out
@@ -105,12 +122,10 @@ event_says k b w to (Retract h) x = by (inbound_of h x.ports) ∙ sym (append-ni
     by (Some (Row n)) =
         ap (λ p. said_to b p.out) (all_acted_more (actor_of k) x.acts (act.Retract n) (plan_over w.table))
         ∙ said_dropped b (actor_of k) n (plan_of k w x)
-event_says k b w to (Message v) x =
-    ap (λ p. said_to b p.out) (all_acted_more (actor_of k) x.acts _ (plan_over w.table))
-    ∙ said_told b to.at _ (plan_of k w x).out
+event_says k b w to (Message v) x = message_says k b w to (let_in x.ports.exports k to v) x
 event_says k b w to (Sync peer) x =
     ap (λ p. said_to b p.out) (all_acted_more (actor_of k) x.acts _ (plan_over w.table))
-    ∙ said_nothing b to.at _ (plan_of k w x).out refl
+    ∙ said_nothing b to.actor _ (plan_of k w x).out refl
     ∙ sym (append-nil (said_to b (plan_of k w x).out))
 
 -- all events of a packet that is admitted
@@ -122,7 +137,7 @@ events_say k b w [] x y is =
 events_say k b w (e ∷ es) x y is =
     by (cause_of k w e x) refl is (λ later. events_say k b w es (after k w e x) y later)
   where
-    at : (o : Option Reference) → cause_at k w o e x ≡ None
+    at : (o : Option Cap) → cause_at k w o e x ≡ None
         → said_to b (plan_of k w (after_at k w o e.event x)).out
         ≡ said_to b (plan_of k w x).out ++ message_asked x.ports.exports k b o e.event
     at None none = absurd cc
@@ -135,9 +150,9 @@ events_say k b w (e ∷ es) x y is =
         ≡ said_to b (plan_of k w x).out ++ messages_asked x.ports.exports k b (e ∷ es)
     by None none is later =
         later is
-        ∙ (λ i. at (export_of e.oid x.ports) none i ++ messages_asked (exports_after k w e x i) k b es)
+        ∙ (λ i. at (cap_at e.oid x.ports) none i ++ messages_asked (exports_after k w e x i) k b es)
         ∙ append_assoc (said_to b (plan_of k w x).out)
-        (message_asked x.ports.exports k b (slice_get x.ports.exports e.oid) e.event)
+        (message_asked x.ports.exports k b (cap_under x.ports.exports e.oid) e.event)
         (messages_asked x.ports.exports k b es)
     by (Some f) some is later = absurd cc
 

@@ -1,9 +1,9 @@
 -- A packet that is taken makes the rows and brings the messages for which its events ask.
 use Rattle.std.proofs.Common.{◌≡◌, ℕ, List, [], ◌∷◌, ◌++◌, Bool, true, false, cond, Option, Some, None}
-use Rattle.std.proofs.Common.{refl, ap, sym, ◌∙◌, subst, filter, length, slice_get}
+use Rattle.std.proofs.Common.{refl, ap, sym, ◌∙◌, subst, filter, length}
 use Rattle.std.specs.List.{AllByRecursion}
-use Rattle.ds_space.specs.declared.references.Reference.{Reference}
-use Rattle.ac_table.specs.declared.batches.Row.{Row as TableRow}
+use Rattle.pv_value.specs.Plain.{Plain}
+use Rattle.sr_caveat.specs.declared.caps.Cap.{Cap}
 use Rattle.ac_table.specs.Tables.{Actor, IsTable, find_actor, is_live}
 use Rattle.ac_world.specs.Outboxes.{Plan, plan_over, told_to}
 use Rattle.ac_world.specs.Worlds.{actor_of}
@@ -22,7 +22,8 @@ use Rattle.hub_machine.specs.declared.steps.Reply.TheVariants.{Worn, Taken}
 use Rattle.hub_valid.specs.Lemmas.Values.{all_weaker, all_append}
 use Rattle.hub_valid.specs.Lemmas.WorldLists.{all_filter}
 use Rattle.hub_laws.proofs.Steps.{named_of}
-use Rattle.hub_authority.specs.Asked.{takes_back, row_asked, next_after, rows_asked, rows_left, messages_asked}
+use Rattle.hub_authority.specs.Asked.{takes_back, cap_under, let_in, row_of, row_asked, next_after, rows_asked}
+use Rattle.hub_authority.specs.Asked.{rows_left, messages_asked}
 use Rattle.hub_authority.specs.Asked.{messages_in, events_of}
 use Rattle.hub_authority.specs.Laws.{DoesWhatIsAsked}
 use Rattle.hub_authority.proofs.Actors.{live_committed, rows_posted}
@@ -57,26 +58,28 @@ walked_from s ports orderly = record {
 
 -- ---- whose the rows are
 
-row_owned : (exports : List Reference) (k next : ℕ) (o : Option Reference) (e : Event) (later : List TurnEvent)
-    → AllByRecursion (λ r. r.owner ≡ actor_of k) (row_asked exports k next o e later)
-row_owned exports k next None e later = tt
-row_owned exports k next (Some to) (Retract h) later = tt
-row_owned exports k next (Some to) (Message v) later = tt
-row_owned exports k next (Some to) (Sync peer) later = tt
-row_owned exports k next (Some to) (Assert v h) later = by (takes_back later h) _ refl
-  where
-    by : (b : Bool) (r : TableRow) → r.owner ≡ actor_of k
-        → AllByRecursion (λ r. r.owner ≡ actor_of k) (cond b [] (r ∷ []))
-    by true r own = tt
-    by false r own = (own, tt)
+row_owned : (k next : ℕ) (to : Cap) (gone : Bool) (o : Option Plain)
+    → AllByRecursion (λ r. r.owner ≡ actor_of k) (row_of k next to gone o)
+row_owned k next to gone None = tt
+row_owned k next to true (Some v) = tt
+row_owned k next to false (Some v) = (refl, tt)
 
-rows_owned : (exports : List Reference) (k next : ℕ) (es : List TurnEvent)
+asked_owned : (exports : List Plain) (k next : ℕ) (o : Option Cap) (e : Event) (later : List TurnEvent)
+    → AllByRecursion (λ r. r.owner ≡ actor_of k) (row_asked exports k next o e later)
+asked_owned exports k next None e later = tt
+asked_owned exports k next (Some to) (Retract h) later = tt
+asked_owned exports k next (Some to) (Message v) later = tt
+asked_owned exports k next (Some to) (Sync peer) later = tt
+asked_owned exports k next (Some to) (Assert v h) later =
+    row_owned k next to (takes_back later h) (let_in exports k to v)
+
+rows_owned : (exports : List Plain) (k next : ℕ) (es : List TurnEvent)
     → AllByRecursion (λ r. r.owner ≡ actor_of k) (rows_asked exports k next es)
 rows_owned exports k next [] = tt
 rows_owned exports k next (e ∷ es) =
-    all_append _ (row_asked exports k next (slice_get exports e.oid) e.event es) _
-    (row_owned exports k next (slice_get exports e.oid) e.event es)
-    (rows_owned exports k (next_after e.event next) es)
+    let to = cap_under exports e.oid in
+    all_append _ (row_asked exports k next to e.event es) _ (asked_owned exports k next to e.event es)
+    (rows_owned exports k (next_after exports k to e.event next) es)
 
 -- ---- a packet that is admitted
 

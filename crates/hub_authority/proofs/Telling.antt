@@ -6,7 +6,8 @@ use Rattle.std.specs.Prelude.{nat_le}
 use Rattle.std.specs.List.{flat_map}
 use Rattle.std.proofs.lemmas.Bool.Decides.{nat_tests}
 use Rattle.std.proofs.lemmas.List.{append-nil}
-use Rattle.ds_space.specs.declared.references.Reference.{Reference}
+use Rattle.pv_value.specs.Plain.{Plain}
+use Rattle.sr_caveat.specs.declared.caps.Cap.{Cap}
 use Rattle.ac_table.specs.declared.batches.Batch.{Batch}
 use Rattle.ac_table.specs.Tables.{Actor, TableState, is_live, first_batch, first_in, find_actor, popped, lowest}
 use Rattle.ac_world.specs.declared.turns.Turned.TheVariants as turned
@@ -19,18 +20,19 @@ use Rattle.rl_packet.specs.declared.packets.Event.TheVariants.{Assert, Retract, 
 use Rattle.rl_packet.specs.declared.packets.TurnEvent.{TurnEvent}
 use Rattle.rl_ports.specs.declared.ports.Inbound.{Inbound}
 use Rattle.rl_ports.specs.declared.ports.Inbound.TheVariants.{Row, Refused as Without}
-use Rattle.rl_ports.specs.Ports.{PortsState, ports_to, with_exports, inbound_of, export_of}
+use Rattle.rl_ports.specs.Ports.{PortsState, ports_to, with_exports, inbound_of}
 use Rattle.rl_wire.specs.Crossing.{all_exported}
 use Rattle.hub_machine.specs.declared.faults.Fault.{Fault}
 use Rattle.hub_machine.specs.Faults.{over, error_of}
 use Rattle.hub_machine.specs.State.{State, ports_of}
 use Rattle.hub_machine.specs.Admission.{Admitting, Admitted, refused, admitted, before_all, cause_of, after, after_at}
-use Rattle.hub_machine.specs.Admission.{after_event, after_retraction, unless, all_admitted, admission}
+use Rattle.hub_machine.specs.Admission.{after_event, after_assertion, after_message, after_retraction, unless}
+use Rattle.hub_machine.specs.Admission.{let_through, kept, cap_at, all_admitted, admission}
 use Rattle.hub_machine.specs.Endings.{nameless, failed, closed}
 use Rattle.hub_machine.specs.Machine.{After, step, done, is_worn, unchanged, ends, opened, refusal, arrive_unless}
 use Rattle.hub_machine.specs.Machine.{accepted, judged, packet_at, bad_at, close_at, foreign_to, telling_fault}
 use Rattle.hub_machine.specs.Machine.{exporting, told_unless, tell, fault_for, tell_fault, after_turn, turn_of, rest}
-use Rattle.hub_machine.specs.Machine.{work_by, exports_after as exports_after_turn}
+use Rattle.hub_machine.specs.Machine.{work_by, actor_reference, exports_after as exports_after_turn}
 use Rattle.hub_machine.specs.declared.steps.Step.{Step}
 use Rattle.hub_machine.specs.declared.steps.Step.TheVariants.{Arrive, Packet, Bad, Close, Turn, Work, Stop}
 use Rattle.hub_machine.specs.declared.steps.Reply.{Reply}
@@ -72,7 +74,7 @@ same_names : (b c : Bool) (o q : Option PortsState) → b ≡ c → o ≡ q → 
 same_names b c o q live found = sym (λ i. cond (live i) (found i) None)
 
 arrival_tells : (k space : ℕ) (s : State)
-    → Tells k s (opened space s) [] (cond (s.world.opened + 1 == k) (Some (record { at = space; entity = 0 })) None)
+    → Tells k s (opened space s) [] (cond (s.world.opened + 1 == k) (Some (actor_reference space)) None)
 arrival_tells k space s = record {
   opened = omega arith;
   live = λ l is. live_placed (actor_of k) _ s.world.table.actors (λ same. omega (arith, l, same)) ∙ is;
@@ -80,8 +82,8 @@ arrival_tells k space s = record {
   named = λ p is. by (s.world.opened + 1 == k) refl p is;
 }
   where
-    first : Reference
-    first = record { at = space; entity = 0 }
+    first : Plain
+    first = actor_reference space
 
     later : s.world.opened + 1 < k → (s.world.opened + 1 == k) ≡ false
     later l = grind (arith, nat_tests, l)
@@ -152,18 +154,28 @@ exports_retraction h None w x = refl
 exports_retraction h (Some Without) w x = refl
 exports_retraction h (Some (Row n)) w x = refl
 
-exports_event : (k : ℕ) (w : WorldState) (to : Reference) (e : Event) (x : Admitting)
+exports_assertion : (w : WorldState) (to : Cap) (o : Option Plain) (h : ℕ) (x : Admitting)
+    → (after_assertion w to o h x).ports.exports ≡ x.ports.exports
+exports_assertion w to None h x = refl
+exports_assertion w to (Some v) h x = refl
+
+exports_message : (w : WorldState) (to : Cap) (o : Option Plain) (x : Admitting)
+    → (after_message w to o x).ports.exports ≡ x.ports.exports
+exports_message w to None x = refl
+exports_message w to (Some v) x = refl
+
+exports_event : (k : ℕ) (w : WorldState) (to : Cap) (e : Event) (x : Admitting)
     → (after_event k w to e x).ports.exports ≡ x.ports.exports
-exports_event k w to (Assert v h) x = refl
+exports_event k w to (Assert v h) x = exports_assertion w to (let_through to (kept k v x)) h x
 exports_event k w to (Retract h) x = exports_retraction h (inbound_of h x.ports) w x
-exports_event k w to (Message v) x = refl
+exports_event k w to (Message v) x = exports_message w to (let_through to (kept k v x)) x
 exports_event k w to (Sync peer) x = refl
 
 pub exports_after : (k : ℕ) (w : WorldState) (e : TurnEvent) (x : Admitting)
     → (after k w e x).ports.exports ≡ x.ports.exports
-exports_after k w e x = by (export_of e.oid x.ports)
+exports_after k w e x = by (cap_at e.oid x.ports)
   where
-    by : (o : Option Reference) → (after_at k w o e.event x).ports.exports ≡ x.ports.exports
+    by : (o : Option Cap) → (after_at k w o e.event x).ports.exports ≡ x.ports.exports
     by None = refl
     by (Some to) = exports_event k w to e.event x
 

@@ -1,5 +1,6 @@
--- Authority: a packet that is taken does exactly what its events ask for at the connection's exports, and these are its
--- first object and the objects of others of which it was told. Syndicate Protocol, "capabilities".
+-- Authority: a packet that is taken does exactly what its events ask for at the connection's exports, as their caveats
+-- let it pass, and these are its first object and the references of which it was told. Syndicate Protocol,
+-- "capabilities".
 use Rattle.std.specs.Prelude.{◌≡◌, ℕ, ◌++◌, List, Some, filter}
 use Rattle.ac_table.specs.declared.batches.Row.{Row as TableRow}
 use Rattle.ac_table.specs.Tables.{Actor, find_actor, is_live}

@@ -1,15 +1,16 @@
--- What a connection can name: its first object, and the objects of others of which it was told.
+-- What a connection can name: its first object, and the references of which it was told, those to its own objects
+-- without caveats excepted.
 use Rattle.std.specs.Prelude.{◌≡◌, ℕ, ◌==◌, List, [], ◌∷◌, ◌++◌, Option, Some, None, if◌then◌else◌}
 use Rattle.std.specs.List.{flat_map}
 use Rattle.std.specs.Option.{option_or}
-use Rattle.ds_space.specs.declared.references.Reference.{Reference}
+use Rattle.pv_value.specs.Plain.{Plain}
 use Rattle.ac_table.specs.declared.batches.Batch.{Batch}
 use Rattle.ac_table.specs.Tables.{first_batch}
 use Rattle.ac_world.specs.Worlds.{actor_of}
 use Rattle.rl_packet.specs.declared.packets.Packet.TheVariants as packet
 use Rattle.rl_wire.specs.Crossing.{all_exported}
 use Rattle.hub_machine.specs.State.{State, opening}
-use Rattle.hub_machine.specs.Machine.{step, foreign_to}
+use Rattle.hub_machine.specs.Machine.{step, foreign_to, actor_reference}
 use Rattle.hub_machine.specs.declared.steps.Step.{Step}
 use Rattle.hub_machine.specs.declared.steps.Step.TheVariants.{Arrive, Turn}
 use Rattle.hub_machine.specs.declared.steps.Reply.{Reply}
@@ -34,25 +35,25 @@ told_from k s (e ∷ es) = told_by k s e ++ told_from k (step s e).state es
 
 -- ---- its first object
 
-abbrev pub opened_as : ℕ → ℕ → Reply → Option Reference
-opened_as k space (Opened n) = if n == k then Some (record { at = space; entity = 0 }) else None
+abbrev pub opened_as : ℕ → ℕ → Reply → Option Plain
+opened_as k space (Opened n) = if n == k then Some (actor_reference space) else None
 opened_as k space r = None
 
 -- the object 0 that an arrival gives to connection k
-abbrev pub first_by : ℕ → State → Step → Option Reference
+abbrev pub first_by : ℕ → State → Step → Option Plain
 first_by k s (Arrive space) = opened_as k space (step s (Arrive space)).reply
 first_by k s e = None
 
-abbrev pub first_from : ℕ → State → List Step → Option Reference
+abbrev pub first_from : ℕ → State → List Step → Option Plain
 first_from k s [] = None
 first_from k s (e ∷ es) = option_or (first_by k s e) (first_from k (step s e).state es)
 
--- the objects of others of which connection k was told, in order
-abbrev pub objects_told : ℕ → List Step → List Reference
+-- the references of which connection k was told, those to its own objects excepted, in order
+abbrev pub objects_told : ℕ → List Step → List Plain
 objects_told k steps = flat_map (foreign_to k) (told_from k opening steps)
 
 -- its first object, and then each of these once, in order of first use
-abbrev pub AreItsOwn : ℕ → List Step → List Reference → Type 0
+abbrev pub AreItsOwn : ℕ → List Step → List Plain → Type 0
 AreItsOwn k steps exports =
-    (first : Reference) × (first_from k opening steps ≡ Some first)
+    (first : Plain) × (first_from k opening steps ≡ Some first)
     × (exports ≡ all_exported (first ∷ []) (objects_told k steps))

@@ -4,10 +4,12 @@ use Rattle.std.specs.Prelude.{IfSome}
 use Rattle.std.specs.BTreeMap.{insert_entry, is_at}
 use Rattle.std.specs.Map.{remove_entry}
 use Rattle.std.specs.Ordering.{nat_cmp}
+use Rattle.pv_value.specs.Plain.{Plain}
 use Rattle.ac_world.specs.Worlds.{WorldState, arrived, ended_of, actor_of, entry_of}
 use Rattle.ac_world.specs.Turns.{turn}
 use Rattle.rl_ports.specs.Ports.{PortsState, ports_to}
 use Rattle.hub_machine.specs.declared.faults.Fault.{Fault}
+use Rattle.hub_machine.specs.Machine.{actor_reference}
 use Rattle.hub_valid.specs.Validity.{AreValid, IsValidEntry}
 use Rattle.hub_valid.specs.Lemmas.Hubs.{opened_is_valid, nameless_is_valid, departed_is_valid, turned_is_valid}
 use Rattle.hub_core.proofs.Small.{AreSmall, small_with, small_without, entry_at}
@@ -49,12 +51,12 @@ kept_turned a w world names faults is kept =
       turned_is_valid a (record { world = w; connections = names; faults = []; stopped = false }) kept.2,
     )
 
-pub opened_valid : (space number at : ℕ) (w world : WorldState) (names : List (ℕ × PortsState)) (p : PortsState)
-    → space ≤ 8 → w.opened < 2 ^ 31 → world ≡ arrived w → number ≡ w.opened + 1 → at ≡ space
-    → p ≡ ports_to (record { at = at; entity = 0 }) → AreValid w names
+pub opened_valid : (space number at : ℕ) (first : Plain) (w world : WorldState) (names : List (ℕ × PortsState))
+    (p : PortsState) → space ≤ 8 → w.opened < 2 ^ 31 → world ≡ arrived w → number ≡ w.opened + 1 → at ≡ space
+    → first ≡ actor_reference at → p ≡ ports_to first → AreValid w names
     → AreValid world (insert_entry nat_cmp names number p)
-opened_valid space number at w world names p l few world_is number_is at_is p_is valid =
-    rw (world_is, number_is, p_is, at_is)
+opened_valid space number at first w world names p l few world_is number_is at_is first_is p_is valid =
+    rw (world_is, number_is, p_is, first_is, at_is)
     (opened_is_valid space (record { world = w; connections = names; faults = []; stopped = false }) (omega (arith, l))
     few valid)
 

@@ -8,7 +8,6 @@ use Rattle.std.specs.List.Sorted.{IsStrictlySortedBy}
 use Rattle.std.specs.Map.{keys_of}
 use Rattle.std.specs.Ordering.{nat_cmp}
 use Rattle.pv_value.specs.Plain.{Plain, embedded}
-use Rattle.ds_space.specs.declared.references.Reference.{Reference}
 use Rattle.ac_table.specs.declared.batches.Batch.{Batch}
 use Rattle.ac_table.specs.declared.batches.Event.{Event as Told}
 use Rattle.ac_table.specs.declared.batches.Event.TheVariants.{Assert, Retract, Message, Sync}
@@ -34,14 +33,14 @@ use Rattle.hub_core.proofs.Places.{put_back}
 
 -- ---- one event
 
-value_later : (k : ℕ) (v : Plain) (exports more : List Reference)
+value_later : (k : ℕ) (v : Plain) (exports more : List Plain)
     → crossed_out (all_exported exports (foreign_in k v)) k v
     ≡ crossed_out (all_exported (all_exported exports (foreign_in k v)) more) k v
 value_later k v exports more =
     sym (crossed_out_later (all_exported exports (foreign_in k v)) more k v (are_exported exports (foreign_in k v)))
 
 -- once more is exported, it is told the same
-pub told_later : (k : ℕ) (e : Told) (exports more : List Reference)
+pub told_later : (k : ℕ) (e : Told) (exports more : List Plain)
     → sent_event (all_exported exports (foreign_told k (told_value e))) k e
     ≡ sent_event (all_exported (all_exported exports (foreign_told k (told_value e))) more) k e
 told_later k (Assert h entity v) exports more =
@@ -76,15 +75,15 @@ one_told k old all ports ports1 sent e rest t told now free is =
     let later = foreign_among k rest in
     let now_exports : ports1.exports ≡ all_exported ports.exports here = ap (λ (p : PortsState). p.exports) now in
     let exports : all_exported ports1.exports later ≡ all_exported old.exports (foreign_among k all) =
-    ap (λ (xs : List Reference). all_exported xs later) now_exports
+    ap (λ (xs : List Plain). all_exported xs later) now_exports
     ∙ sym (all_exported-more ports.exports here later) ∙ told.exports in
     let same : t ≡ sent_event (all_exported old.exports (foreign_among k all)) k e =
-    is ∙ ap (λ (xs : List Reference). sent_event xs k e) now_exports ∙ told_later k e ports.exports later
-    ∙ ap (λ (xs : List Reference). sent_event xs k e)
-    (ap (λ (xs : List Reference). all_exported xs later) (sym now_exports) ∙ exports) in
+    is ∙ ap (λ (xs : List Plain). sent_event xs k e) now_exports ∙ told_later k e ports.exports later
+    ∙ ap (λ (xs : List Plain). sent_event xs k e)
+    (ap (λ (xs : List Plain). all_exported xs later) (sym now_exports) ∙ exports) in
     record {
       exports = exports;
-      faults = ap (λ (xs : List Reference). fault_out xs later) now_exports
+      faults = ap (λ (xs : List Plain). fault_out xs later) now_exports
           ∙ sym (fault_out-more ports.exports here later
           ∙ ap (λ (o : Option PortsFault). option_or o (fault_out (all_exported ports.exports here) later)) free)
           ∙ told.faults;
@@ -118,7 +117,7 @@ pub all_told : (k : ℕ) (old : PortsState) (all : List Told) (ports : PortsStat
     → (sent ≡ map (sent_event ports.exports k) all) × (ports ≡ ports_after (foreign_among k all) old)
     × (fault_out old.exports (foreign_among k all) ≡ None)
 all_told k old all ports sent told = (
-  sym (append-nil sent) ∙ told.events ∙ ap (λ (xs : List Reference). map (sent_event xs k) all) (sym told.exports),
+  sym (append-nil sent) ∙ told.events ∙ ap (λ (xs : List Plain). map (sent_event xs k) all) (sym told.exports),
   λ i. record { exports = told.exports i; handles = told.handles i },
   sym told.faults,
 )

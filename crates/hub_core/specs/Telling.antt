@@ -1,7 +1,7 @@
 -- What is told of events, one after another.
 use Rattle.std.specs.Prelude.{ℕ, ◌+◌, ◌^◌, ◌≤◌, List, [], Option, Some, None, option_and_then}
 use Rattle.std.specs.List.{flat_map}
-use Rattle.ds_space.specs.declared.references.Reference.{Reference}
+use Rattle.pv_value.specs.Plain.{Plain}
 use Rattle.ac_table.specs.declared.batches.Batch.{Batch}
 use Rattle.ac_table.specs.declared.batches.Event.{Event as Told}
 use Rattle.ac_world.specs.declared.turns.Turned.{Turned}
@@ -16,19 +16,19 @@ use Rattle.hub_machine.specs.Machine.{packet_to}
 use Rattle.hub_machine.specs.declared.steps.Reply.TheVariants.{Refused}
 use Rattle.hub_valid.specs.Validity.{IsValidBatch}
 
--- the objects of others of which connection k is told
-abbrev pub foreign_among : ℕ → List Told → List Reference
+-- the references of which connection k is told, those to its own objects excepted
+abbrev pub foreign_among : ℕ → List Told → List Plain
 foreign_among k es = flat_map (λ e. foreign_told k (told_value e)) es
 
--- the names once these objects are exported
-abbrev pub ports_after : List Reference → PortsState → PortsState
+-- the names once these references are exported
+abbrev pub ports_after : List Plain → PortsState → PortsState
 ports_after rs ports = with_exports (all_exported ports.exports rs) ports
 
 -- why they can't all be
-abbrev pub export_cause : List Reference → PortsState → Option Fault
+abbrev pub export_cause : List Plain → PortsState → Option Fault
 export_cause rs ports = option_and_then overrun_by (fault_out ports.exports rs)
 
--- a batch that a turn took names objects, and its handles can stand in a packet
+-- a batch that a turn took holds references, and its handles can stand in a packet
 abbrev pub IsToldSoundly : Turned → State → Type 0
 IsToldSoundly (Taken b) s =
     (s.world.table.next ≤ 2 ^ 63) × IsValidBatch (16 + s.world.opened) s.world.table.next b

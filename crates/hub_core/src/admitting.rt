@@ -3,23 +3,26 @@ ghost use Rattle.std.specs.Prelude.{◌≡◌, ◌<◌, ◌≤◌, ◌+◌, ◌^
 ghost use Rattle.std.specs.Prelude.{IfOk, IfErr, OnOk};
 ghost use Rattle.rl_ports.specs.Ports.{inbound_of};
 ghost use Rattle.hub_machine.specs.Admission.{before_all, weighed, rows_with, load_with, waits_at};
-ghost use Rattle.hub_machine.specs.Admission.{inside, kept, value_cause, load_cause, handle_cause};
+ghost use Rattle.hub_machine.specs.Admission.{inside, kept, let_through, cap_at, value_cause};
+ghost use Rattle.hub_machine.specs.Admission.{load_cause, handle_cause, row_cause, said_cause};
 ghost use Rattle.hub_machine.specs.Admission.{retraction_cause, event_cause, cause_of, row_weighs};
 ghost use Rattle.hub_machine.specs.Admission.{after_assertion, after_retraction, after_message};
 ghost use Rattle.hub_machine.specs.Admission.{after_sync, after_event, after, all_admitted};
 ghost use Rattle.hub_machine.specs.Admission.{admitted};
+ghost use Rattle.hub_machine.specs.Faults.{◌<|>◌};
 ghost use Rattle.hub_core.specs.Refusals.{IsWhyRefused, IsRefusedFor};
-ghost use Rattle.hub_core.specs.Counting.{counted_cause};
+ghost use Rattle.hub_core.specs.Counting.{taking_cause, counted_cause};
 
 use crate::hub::FIRST_CONNECTION;
 use crate::refusals::{Refusal, refuse_for};
 use ac_world::{Act, Load, World};
-use ds_space::{Reference, Space};
+use ds_space::Space;
 use hub_machine::{BACKLOG, BACKLOG_WEIGHT, Fault, HANDLES, ROWS_WEIGHT, over};
 use pv_value::{NoMemory, Node, Value, weight};
 use rl_packet::{Event, TurnEvent};
 use rl_ports::{Inbound, Ports};
 use rl_wire::wire_in;
+use sr_caveat::{Cap, NoNames, pass};
 use std::alloc::Global;
 use std::collections::BTreeMap;
 use std::marker::Model;
@@ -78,10 +81,17 @@ fn inside(value: &Value) -> &Value
 }
 
 /// Whether events at an object wait for one of the system's actors.
-fn waits_at<S: Space + Drop>(to: Reference, world: &World<S>) -> bool
-    ensures { result ≡ waits_at to world.now }
+fn waits_at<S: Space + Drop>(to: &Cap, world: &World<S>) -> bool
+    ensures { result ≡ waits_at to.now world.now }
 {
-    to.at < FIRST_CONNECTION && world.live(to.at)
+    to.actor < FIRST_CONNECTION && world.live(to.actor)
+}
+
+/// What the caveats of a reference let pass of a value that is sent through it.
+fn let_through(alloc: Global, to: &Cap, value: &Value) -> Result<Option<Value>, NoMemory>
+    ensures { IfOk result (λ w. w ≡ let_through to.now value.now) }
+{
+    pass(alloc, to.caveats.as_slice(), value, &NoNames)
 }
 
 impl Admitting {
@@ -123,13 +133,23 @@ impl Admitting {
     }
 
     /// What waits, with one event more at an object.
-    fn load_with<S: Space + Drop>(&self, to: Reference, weight: u64, world: &World<S>) -> Load
-        ensures { result ≡ load_with world.now to weight self.now }
+    fn load_with<S: Space + Drop>(&self, to: &Cap, weight: u64, world: &World<S>) -> Load
+        ensures { result ≡ load_with world.now to.now weight self.now }
     {
         if waits_at(to, world) {
             self.load.and(Load { count: 1, weight })
         } else {
             self.load
+        }
+    }
+
+    /// The reference that an export of this number is.
+    fn cap_at(&self, alloc: Global, oid: u64) -> Result<Option<Cap>, NoMemory>
+        ensures { IfOk result (λ c. c ≡ cap_at oid self.now.ports) }
+    {
+        match self.ports.cap_of(oid) {
+            Some(value) => Cap::of_value(alloc, value),
+            None => Ok(None),
         }
     }
 
@@ -153,61 +173,113 @@ impl Admitting {
         }
     }
 
-    /// What is counted for an assertion, with which so much would wait, is looked at.
-    fn check_counts(&self, handle: u64, weight: u64, load: Load) -> Result<(), Refusal>
-        ensures free { OnOk result (counted_cause handle weight load self.now ≡ None) }
+    /// The handle of an assertion is looked at, and how many are in use with it.
+    fn check_handle(&self, handle: u64) -> Result<(), Refusal>
+        ensures free { OnOk result (taking_cause handle self.now ≡ None) }
         ensures unused { OnOk result (inbound_of handle self.now.ports ≡ None) }
-        ensures cause { IfErr result (IsWhyRefused (counted_cause handle weight load self.now)) }
+        ensures cause { IfErr result (IsWhyRefused (taking_cause handle self.now)) }
     {
         let in_use = self.handle_cause(handle);
         let handles = over(HANDLES, 4, (self.ports.in_use() as u64).saturating_add(1));
+        refuse_for(in_use.or(handles))
+    }
+
+    /// What is counted for a row is looked at, with which so much would wait.
+    fn check_row(&self, weight: u64, load: Load) -> Result<(), Refusal>
+        ensures free { OnOk result (counted_cause weight load self.now ≡ None) }
+        ensures cause { IfErr result (IsWhyRefused (counted_cause weight load self.now)) }
+    {
         let rows = over(ROWS_WEIGHT, 5, self.rows_with(weight));
-        let waits = load_cause(load);
-        refuse_for(in_use.or(handles).or(rows).or(waits))
+        refuse_for(rows.or(load_cause(load)))
     }
 
     /// An assertion is done: its row gets the next handle.
     fn assert_value<S: Space + Drop>(
         &mut self,
-        to: Reference,
+        to: &Cap,
         value: Value,
         handle: u64,
         world: &World<S>,
     ) -> Result<(), NoMemory>
         requires next { self.old.next < 2 ^ 63 }
         requires unused { inbound_of handle self.old.ports ≡ None }
-        ensures { OnOk result (self.new ≡ after_assertion world.now to value handle self.old) }
+        ensures { OnOk result
+            (self.new ≡ after_assertion world.now to.now (Some value) handle self.old) }
     {
         let weight = weight(&value);
         self.rows = self.rows_with(weight);
         self.load = self.load_with(to, weight, world);
-        self.acts.push(Act::Assert(to.at, to.entity, value))?;
+        self.acts.push(Act::Assert(to.actor, to.entity, value))?;
         self.made.insert(self.next, weight)?;
         self.ports.take_handle(handle, Inbound::Row(self.next))?;
         self.next += 1;
         Ok(())
     }
 
-    /// A value is asserted, where nothing refuses it.
-    fn admit_assertion<S: Space + Drop>(
+    /// A value that got through is asserted, where nothing refuses it.
+    fn admit_row<S: Space + Drop>(
         &mut self,
-        to: Reference,
+        to: &Cap,
         value: Value,
         handle: u64,
         world: &World<S>,
     ) -> Result<(), Refusal>
-        requires { self.old.next < 2 ^ 63 }
-        ensures free { OnOk result (counted_cause handle (weighed value)
-            (load_with world.now to (weighed value) self.old) self.old ≡ None) }
-        ensures cause { IfErr result (IsWhyRefused (counted_cause handle (weighed value)
-            (load_with world.now to (weighed value) self.old) self.old)) }
+        requires next { self.old.next < 2 ^ 63 }
+        requires unused { inbound_of handle self.old.ports ≡ None }
+        ensures free { OnOk result (row_cause world.now to.now (Some value) self.old ≡ None) }
+        ensures cause { IfErr result
+            (IsWhyRefused (row_cause world.now to.now (Some value) self.old)) }
         ensures after { OnOk result
-            (self.new ≡ after_assertion world.now to value handle self.old) }
+            (self.new ≡ after_assertion world.now to.now (Some value) handle self.old) }
     {
         let weight = weight(&value);
-        self.check_counts(handle, weight, self.load_with(to, weight, world))?;
+        self.check_row(weight, self.load_with(to, weight, world))?;
         self.assert_value(to, value, handle, world)?;
         Ok(())
+    }
+
+    /// What got through is asserted; of a value that was refused the handle is noted.
+    fn admit_passed<S: Space + Drop>(
+        &mut self,
+        to: &Cap,
+        passed: Option<Value>,
+        handle: u64,
+        world: &World<S>,
+    ) -> Result<(), Refusal>
+        requires next { self.old.next < 2 ^ 63 }
+        requires unused { inbound_of handle self.old.ports ≡ None }
+        ensures free { OnOk result (row_cause world.now to.now passed self.old ≡ None) }
+        ensures cause { IfErr result
+            (IsWhyRefused (row_cause world.now to.now passed self.old)) }
+        ensures after { OnOk result
+            (self.new ≡ after_assertion world.now to.now passed handle self.old) }
+    {
+        match passed {
+            Some(value) => self.admit_row(to, value, handle, world),
+            None => Ok(self.ports.take_handle(handle, Inbound::Refused)?),
+        }
+    }
+
+    /// A value is asserted, where nothing refuses it.
+    fn admit_assertion<S: Space + Drop>(
+        &mut self,
+        alloc: Global,
+        to: &Cap,
+        value: &Value,
+        handle: u64,
+        world: &World<S>,
+    ) -> Result<(), Refusal>
+        requires { self.old.next < 2 ^ 63 }
+        ensures free { OnOk result ((taking_cause handle self.old
+            <|> row_cause world.now to.now (let_through to.now value.now) self.old) ≡ None) }
+        ensures cause { IfErr result (IsWhyRefused (taking_cause handle self.old
+            <|> row_cause world.now to.now (let_through to.now value.now) self.old)) }
+        ensures after { OnOk result (self.new
+            ≡ after_assertion world.now to.now (let_through to.now value.now) handle self.old) }
+    {
+        self.check_handle(handle)?;
+        let passed = let_through(alloc, to, value)?;
+        self.admit_passed(to, passed, handle, world)
     }
 
     /// How much the row of a handle weighs.
@@ -258,43 +330,65 @@ impl Admitting {
         }
     }
 
-    /// A value is said, where nothing refuses it.
-    fn admit_message<S: Space + Drop>(
+    /// A value that got through is said, where nothing refuses it.
+    fn say<S: Space + Drop>(
         &mut self,
-        to: Reference,
+        to: &Cap,
         value: Value,
         world: &World<S>,
     ) -> Result<(), Refusal>
-        ensures free { OnOk result
-            (load_cause (load_with world.now to (weighed value) self.old) ≡ None) }
+        ensures free { OnOk result (said_cause world.now to.now (Some value) self.old ≡ None) }
         ensures cause { IfErr result
-            (IsWhyRefused (load_cause (load_with world.now to (weighed value) self.old))) }
-        ensures after { OnOk result (self.new ≡ after_message world.now to value self.old) }
+            (IsWhyRefused (said_cause world.now to.now (Some value) self.old)) }
+        ensures after { OnOk result
+            (self.new ≡ after_message world.now to.now (Some value) self.old) }
     {
         let load = self.load_with(to, weight(&value), world);
         refuse_for(load_cause(load))?;
         self.load = load;
-        self.acts.push(Act::Message(to.at, to.entity, value))?;
+        self.acts.push(Act::Message(to.actor, to.entity, value))?;
         Ok(())
+    }
+
+    /// A value is said, where nothing refuses it; one that doesn't get through is dropped.
+    fn admit_message<S: Space + Drop>(
+        &mut self,
+        alloc: Global,
+        to: &Cap,
+        value: &Value,
+        world: &World<S>,
+    ) -> Result<(), Refusal>
+        ensures free { OnOk result
+            (said_cause world.now to.now (let_through to.now value.now) self.old ≡ None) }
+        ensures cause { IfErr result (IsWhyRefused
+            (said_cause world.now to.now (let_through to.now value.now) self.old)) }
+        ensures after { OnOk result
+            (self.new ≡ after_message world.now to.now (let_through to.now value.now) self.old) }
+    {
+        match let_through(alloc, to, value)? {
+            Some(value) => self.say(to, value, world),
+            None => Ok(()),
+        }
     }
 
     /// A peer asks for an answer, where nothing refuses it.
     fn admit_sync<S: Space + Drop>(
         &mut self,
-        to: Reference,
+        to: &Cap,
         peer: &Value,
         world: &World<S>,
     ) -> Result<(), Refusal>
         ensures free { OnOk result
-            (load_cause (load_with world.now to (weighed peer.now) self.old) ≡ None) }
-        ensures cause { IfErr result
-            (IsWhyRefused (load_cause (load_with world.now to (weighed peer.now) self.old))) }
-        ensures after { OnOk result (self.new ≡ after_sync world.now to peer.now self.old) }
+            (load_cause (load_with world.now to.now (weighed peer.now) self.old) ≡ None) }
+        ensures cause { IfErr result (IsWhyRefused
+            (load_cause (load_with world.now to.now (weighed peer.now) self.old))) }
+        ensures after { OnOk result (self.new ≡ after_sync world.now to.now peer.now self.old) }
     {
         let load = self.load_with(to, weight(peer), world);
         refuse_for(load_cause(load))?;
         self.load = load;
-        self.acts.push(Act::Sync(to.at, to.entity, peer.copy()?))?;
+        self.acts
+            .push(Act::Sync(to.actor, to.entity, peer.copy()?))?;
         Ok(())
     }
 
@@ -303,28 +397,28 @@ impl Admitting {
         &mut self,
         alloc: Global,
         connection: u32,
-        to: Reference,
+        to: &Cap,
         event: &Event,
         world: &World<S>,
     ) -> Result<(), Refusal>
         requires small { connection ≤ 2 ^ 31 }
         requires next { self.old.next < 2 ^ 63 }
         ensures free { OnOk result
-            (event_cause connection world.now to event.now self.old ≡ None) }
+            (event_cause connection world.now to.now event.now self.old ≡ None) }
         ensures cause { IfErr result
-            (IsWhyRefused (event_cause connection world.now to event.now self.old)) }
+            (IsWhyRefused (event_cause connection world.now to.now event.now self.old)) }
         ensures after { OnOk result
-            (self.new ≡ after_event connection world.now to event.now self.old) }
+            (self.new ≡ after_event connection world.now to.now event.now self.old) }
     {
         match event {
             Event::Assert(value, handle) => {
                 let value = self.kept(alloc, connection, value)?;
-                self.admit_assertion(to, value, *handle, world)
+                self.admit_assertion(alloc, to, &value, *handle, world)
             }
             Event::Retract(handle) => self.admit_retraction(*handle, world),
             Event::Message(value) => {
                 let value = self.kept(alloc, connection, value)?;
-                self.admit_message(to, value, world)
+                self.admit_message(alloc, to, &value, world)
             }
             Event::Sync(peer) => {
                 let peer = self.kept(alloc, connection, peer)?;
@@ -348,8 +442,8 @@ impl Admitting {
             (IsWhyRefused (cause_of connection world.now event.now self.old)) }
         ensures after { OnOk result (self.new ≡ after connection world.now event.now self.old) }
     {
-        match self.ports.cap_of(event.oid) {
-            Some(to) => self.admit_event(alloc, connection, to, &event.event, world),
+        match self.cap_at(alloc, event.oid)? {
+            Some(to) => self.admit_event(alloc, connection, &to, &event.event, world),
             None => Err(Refusal::Cause(Fault::UnknownOid(event.oid))),
         }
     }

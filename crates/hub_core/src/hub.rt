@@ -6,14 +6,14 @@ ghost use Rattle.hub_machine.specs.declared.steps.Reply.TheVariants as reply;
 ghost use Rattle.hub_machine.specs.State.{opening, ports_of, is_there};
 ghost use Rattle.hub_machine.specs.Endings.{finished};
 ghost use Rattle.hub_machine.specs.Machine.{step as step_of, is_worn, refusal, arrive_unless};
-ghost use Rattle.hub_machine.specs.Machine.{opened, IsAllowed};
+ghost use Rattle.hub_machine.specs.Machine.{opened, actor_reference, IsBuilt};
 ghost use Rattle.hub_machine.specs.Completeness.{IsComplete};
 ghost use Rattle.hub_machine.specs.Replays.{pending, lowest, first_failed, least};
 
 use ac_world::World;
-use ds_space::{Reference, Space};
+use ds_space::{Reference, Space, reference_value};
 use hub_machine::{CONNECTIONS, DATASPACES, Fault, Reply, Step, WORN_CONNECTIONS, WORN_HANDLE};
-use pv_value::NoMemory;
+use pv_value::{NoMemory, Value};
 use rl_ports::Ports;
 use std::alloc::Global;
 use std::collections::BTreeMap;
@@ -64,6 +64,17 @@ fn least(first: Option<u32>, second: Option<u32>) -> Option<u32>
         (Some(m), Some(n)) => Some(m.min(n)),
         (first, second) => first.or(second),
     }
+}
+
+/// The value of the reference to an actor itself.
+fn actor_reference(alloc: Global, actor: u32) -> Result<Value, NoMemory>
+    ensures { IfOk result (λ v. v ≡ actor_reference actor) }
+{
+    let reference = Reference {
+        at: actor,
+        entity: 0,
+    };
+    reference_value(alloc, reference)
 }
 
 impl<S: Space + Drop> Hub<S> {
@@ -156,10 +167,7 @@ impl<S: Space + Drop> Hub<S> {
             stopped,
         } = self;
         let (world, number) = world.arrive()?;
-        let first = Reference {
-            at: u32::from(space),
-            entity: 0,
-        };
+        let first = actor_reference(alloc, u32::from(space))?;
         connections.insert(number, Ports::new(alloc, first)?)?;
         let hub = Hub {
             world,
@@ -214,7 +222,7 @@ impl<S: Space + Drop> Hub<S> {
 
     /// A step that may be done.
     fn machine_step(self, alloc: Global, event: Step) -> Result<(Hub<S>, Reply), NoMemory>
-        requires { IsAllowed self event }
+        requires { IsBuilt event }
         ensures state { IfOk result (λ done. done.0 ≡ (step_of self event).state) }
         ensures reply { IfOk result (λ done. done.1 ≡ (step_of self event).reply) }
     {
@@ -234,7 +242,7 @@ impl<S: Space + Drop> Hub<S> {
 
     /// The state after a step, and what is answered to it. For want of memory the state is gone.
     pub fn step(self, alloc: Global, event: Step) -> Result<(Hub<S>, Reply), NoMemory>
-        requires { IsAllowed self event }
+        requires { IsBuilt event }
         ensures state { IfOk result (λ done. done.0 ≡ (step_of self event).state) }
         ensures reply { IfOk result (λ done. done.1 ≡ (step_of self event).reply) }
         ensures complete { IfOk result (λ done. IsComplete self event done.1) }

@@ -6,7 +6,6 @@
 #![tactic(auto)]
 
 mod admitting;
-mod bareness;
 mod endings;
 mod hub;
 mod packets;
@@ -14,7 +13,6 @@ mod refusals;
 mod telling;
 mod turns;
 
-pub use bareness::bare;
 pub use hub::Hub;
 pub use hub_machine::{
     BACKLOG, BACKLOG_WEIGHT, CONNECTIONS, DATASPACES, DELIVERIES, DELIVERIES_WEIGHT, Fault,

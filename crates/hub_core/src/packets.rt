@@ -8,7 +8,6 @@ ghost use Rattle.std.specs.Ordering.{nat_cmp};
 ghost use Rattle.ac_table.specs.Tables.{is_live};
 ghost use Rattle.ac_world.specs.Worlds.{actor_of};
 ghost use Rattle.hub_machine.specs.State.{ports_of};
-ghost use Rattle.hub_machine.specs.Bareness.{are_bare};
 ghost use Rattle.hub_machine.specs.Admission.{admission, admitted};
 ghost use Rattle.hub_machine.specs.Endings.{nameless, departed_for, finished};
 ghost use Rattle.hub_machine.specs.Machine.{judged, accepted, packet_at, bad_at, close_at};
@@ -134,7 +133,6 @@ impl<S: Space + Drop> Hub<S> {
     ) -> Result<(Hub<S>, Reply), NoMemory>
         requires live { is_live (actor_of connection) self.world.table ≡ true }
         requires small { connection ≤ 2 ^ 31 }
-        requires bare { are_bare turn.now ≡ true }
         requires next { self.world.table.next < 2 ^ 62 }
         requires valid { IsValidEntry self.world.opened (connection, ports) }
         ensures state { IfOk result (λ done. done.0
@@ -144,6 +142,7 @@ impl<S: Space + Drop> Hub<S> {
     {
         match self.admission(alloc, connection, ports, turn) {
             Ok(admitting) => {
+                let _wired = turn.as_slice();
                 let hub = self.accept(alloc, connection, admitting)?;
                 hub.ends(alloc, &[], Reply::Taken)
             }
@@ -158,7 +157,6 @@ impl<S: Space + Drop> Hub<S> {
         connection: u32,
         turn: &Turn,
     ) -> Result<(Hub<S>, Reply), NoMemory>
-        requires bare { are_bare turn.now ≡ true }
         requires next { self.world.table.next < 2 ^ 62 }
         ensures state { IfOk result (λ done. done.0
             ≡ (packet_at connection (ports_of connection self) turn.now self).state) }

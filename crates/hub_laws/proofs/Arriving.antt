@@ -12,7 +12,7 @@ use Rattle.ac_table.specs.Tables.{Actor, find_actor, is_live}
 use Rattle.ac_world.specs.Worlds.{WorldState, Deliveries, seat_of, held_by, entry_of, is_space, actor_of, arrived}
 use Rattle.rl_ports.specs.Ports.{PortsState, ports_to}
 use Rattle.hub_machine.specs.State.{State}
-use Rattle.hub_machine.specs.Machine.{opened}
+use Rattle.hub_machine.specs.Machine.{opened, actor_reference}
 use Rattle.hub_laws.specs.Standing.{stands, value_alone, at_object}
 use Rattle.hub_laws.proofs.Entries.{put_found, put_other}
 use Rattle.hub_laws.proofs.Joining.{above_is_new, joined_is_table, joined_new, joined_other, joined_live}
@@ -118,7 +118,7 @@ other_number j k ne same = ne (omega (arith, same))
 pub opened_hub : (space : ℕ) (s : State) → IsHub [] s → IsHub [] (opened space s)
 opened_hub space s h =
     let new : ℕ = s.world.opened + 1 in
-    let ports : PortsState = ports_to (record { at = space; entity = 0 }) in
+    let ports : PortsState = ports_to (actor_reference space) in
     record {
       sound = arrived_sound s.world h.sound;
       named = λ j live. elim (one_or_not j new) [

@@ -13,7 +13,6 @@ use Rattle.std.proofs.lemmas.Map.Keys.{IsDistinct-from_sorted}
 use Rattle.pv_value.specs.Plain.{Plain}
 use Rattle.pv_value.specs.Order.{order}
 use Rattle.dp_pattern.specs.Matching.{same}
-use Rattle.ds_space.specs.declared.references.Reference.{Reference}
 use Rattle.ds_space.specs.Wants.{wants}
 use Rattle.ds_space.specs.Lemmas.Lists.{wants_ascend}
 use Rattle.rl_packet.specs.Holding.{holdings_in_order, insert_holding, is_before}
@@ -30,6 +29,7 @@ use Rattle.hub_laws.specs.Laws.{AreAllowed, Holdings, SettledHoldings}
 use Rattle.hub_laws.specs.Scratch.{Pair, asserted_at, pair_at, told_over, told_directly, dataspaces, scratch_at}
 use Rattle.hub_laws.specs.Scratch.{scratch, exports_of}
 use Rattle.hub_laws.specs.Settled.{holding_of, pair_of}
+use Rattle.hub_laws.specs.Wanting.{passing}
 use Rattle.hub_laws.specs.Standing.{stands, took_all, events_of, value_alone, at_object}
 use Rattle.hub_laws.proofs.Bags.{map_flat, permutation_flat, filter_alike, filter_filter, by_number}
 use Rattle.hub_laws.proofs.Finding.{all_from_found, found_owner}
@@ -37,7 +37,8 @@ use Rattle.hub_laws.proofs.Kept.{IsNear, IsServedBy, IsServed, IsSound, IsHub}
 use Rattle.hub_laws.proofs.Lists.{all_weaker, near_exact, kept_of, entry_of-stands}
 use Rattle.hub_laws.proofs.OwnRows.{pair_of_row, own_are_meant}
 use Rattle.hub_laws.proofs.Owned.{rows_of_met}
-use Rattle.hub_laws.proofs.Told.{goes_to, pair_by, wants_are_told}
+use Rattle.hub_laws.proofs.Told.{goes_to, goes_passing, pair_by, wants_are_told}
+use Rattle.hub_laws.proofs.Passing.{passing_ascends}
 
 -- ---- where nothing waits, what stands is what was got
 
@@ -81,7 +82,7 @@ stands_map f g h each a (r ∷ rs) = by (r.target == a) refl (stands_map f g h e
     by false other rest = rw other rest
 
 -- n is the number of a connection, which has these exports
-abbrev pub pair_held : List Reference → ℕ → ℕ × Held → Pair
+abbrev pub pair_held : List Plain → ℕ → ℕ × Held → Pair
 pair_held exports n e = pair_at exports n e.1.entity e.1.value
 
 -- an owner is a dataspace or a connection
@@ -108,7 +109,7 @@ is_direct r = not (list_any (λ d. r.owner == d) dataspaces)
 
 -- ---- a sound world in which nothing waits
 
-module _ (exports : List Reference) (w : WorldState) (s : IsSound [] w) (quiet : waiting_in w.table.actors ≡ 0) where
+module _ (exports : List Plain) (w : WorldState) (s : IsSound [] w) (quiet : waiting_in w.table.actors ≡ 0) where
   abbrev rows : List Row
   rows = w.table.rows
 
@@ -140,17 +141,19 @@ module _ (exports : List Reference) (w : WorldState) (s : IsSound [] w) (quiet :
       (told_over exports n (asserted_at d rows))
   space_tells n d space live =
       let met = s.met d space in
-      let wanted : keys_of (seat_of d w).met ≡ wants (asserted_at d rows) =
-      met.keys ∙ ap wants (got_asserted d space live) in
+      let wanted : keys_of (seat_of d w).met ≡ passing (wants (asserted_at d rows)) =
+      met.keys ∙ ap (λ vs. passing (wants vs)) (got_asserted d space live) in
       let apart : IsDistinct same (keys_of (seat_of d w).met) =
-      subst (IsDistinct same) (sym wanted) (IsDistinct-from_sorted order _ (wants_ascend (asserted_at d rows))) in
+      subst (IsDistinct same) (sym wanted)
+      (IsDistinct-from_sorted order _ (passing_ascends _ (wants_ascend (asserted_at d rows)))) in
+      let meant : filter (goes_to (actor_of n)) (keys_of (seat_of d w).met)
+      ≡ filter (goes_to (actor_of n)) (wants (asserted_at d rows)) =
+      ap (filter (goes_to (actor_of n))) wanted ∙ goes_passing (actor_of n) (wants (asserted_at d rows)) in
       IsPermutation-trans _ _ _
       (own_are_meant exports n d (seat_of d w).met rows s.table.rows_ascend apart
       (rows_of_met d (seat_of d w) rows met))
-      (subst
-      (λ ks. IsPermutation (map (pair_by exports n) (filter (goes_to (actor_of n)) ks))
-      (told_over exports n (asserted_at d rows)))
-      (sym wanted) (wants_are_told exports n (asserted_at d rows)))
+      (subst (λ ks. IsPermutation (map (pair_by exports n) ks) (told_over exports n (asserted_at d rows)))
+      (sym meant) (wants_are_told exports n (asserted_at d rows)))
 
   -- the others are a connection's
   owned_directly : AllByRecursion (λ r. is_direct r ≡ nat_le 17 r.owner) rows
@@ -234,7 +237,7 @@ in_order_permutes (x ∷ xs) =
     IsPermutation-trans (x ∷ xs) (x ∷ holdings_in_order xs) (insert_holding x (holdings_in_order xs))
     (IsPermutation-cons x xs (holdings_in_order xs) (in_order_permutes xs)) (inserted x (holdings_in_order xs))
 
-pairs_of_holdings : (exports : List Reference) (n : ℕ) (es : List (ℕ × Held))
+pairs_of_holdings : (exports : List Plain) (n : ℕ) (es : List (ℕ × Held))
     → map pair_of (map (holding_of exports n) es) ≡ map (pair_held exports n) es
 pairs_of_holdings exports n [] = refl
 pairs_of_holdings exports n (e ∷ es) = ap (λ l. pair_held exports n e ∷ l) (pairs_of_holdings exports n es)
@@ -246,7 +249,7 @@ pub settled_from : Holdings → ((steps : List Step) → AreAllowed opening step
 settled_from holdings hubs k steps allowed settled live =
     let a = actor_of k in
     let s = replay steps in
-    let exports : List Reference = exports_of k s in
+    let exports : List Plain = exports_of k s in
     let got : List Holding = map (holding_of exports k) (held_by a s.world) in
     subst (λ hs. IsPermutation (map pair_of hs) (scratch k s)) (sym (holdings k steps allowed live).0)
     (IsPermutation-trans (map pair_of (holdings_in_order got)) (map pair_of got) (scratch k s)

@@ -6,8 +6,6 @@ use Rattle.std.specs.List.{AllByRecursion}
 use Rattle.std.specs.List.Sorted.{IsStrictlySortedBy}
 use Rattle.std.specs.Ordering.{nat_cmp}
 use Rattle.pv_value.specs.Plain.{boolean}
-use Rattle.ds_space.specs.declared.references.Reference.{Reference}
-use Rattle.ds_space.specs.References.{reference_of}
 use Rattle.ac_table.specs.declared.batches.Row.{Row}
 use Rattle.ac_table.specs.declared.batches.Event.{Event}
 use Rattle.ac_table.specs.declared.batches.Event.TheVariants.{Assert, Retract, Message, Sync}
@@ -18,7 +16,8 @@ use Rattle.ac_world.specs.declared.acts.Act.TheVariants as act
 use Rattle.ac_world.specs.declared.turns.Turned.TheVariants.{Gone}
 use Rattle.ac_world.specs.Outboxes.{Outbox, Plan, plan_over, told, told_to, posted, retractions, acted, all_acted}
 use Rattle.ac_world.specs.Turns.{After as TurnOf, space_turn, plain_turn, connection_turn, turn_with, turn_first, turn}
-use Rattle.ac_world.specs.Turns.{deliver, answer_to, answered, all_answered}
+use Rattle.ac_world.specs.declared.aims.Aim.{Aim}
+use Rattle.ac_world.specs.Turns.{aim_at, say_at, deliver, answered, all_answered}
 use Rattle.ac_world.specs.Worlds.{WorldState, held_by, without_entry, is_space, is_system, actor_of, all_delivered}
 use Rattle.ac_world.specs.Worlds.{arrived, sent, gone, ended_of}
 use Rattle.hub_laws.proofs.Committing.{done_in}
@@ -182,15 +181,15 @@ deliver_grows a b es w apart =
     grows_alike b w (deliver a es (without_first a w)) (omega arith) refl (found-popped_other a b w.table apart)
     (ap (λ o. unwrap_or o []) (put_other a b (all_delivered es (held_by a w)) w.held apart))
 
-answer_moves : (a : ℕ) (t : TableState) (o : Option Reference) (p : Plan) → Moves a t p → Moves a t (answer_to o p)
-answer_moves a t None p m = m
-answer_moves a t (Some r) p m = said_moves a t p m r.at (Message r.entity (boolean true)) tt
+said_at_moves : (a : ℕ) (t : TableState) (o : Option Aim) (p : Plan) → Moves a t p → Moves a t (say_at o p)
+said_at_moves a t None p m = m
+said_at_moves a t (Some aim) p m = said_moves a t p m aim.at.at (Message aim.at.entity aim.value) tt
 
 answered_moves : (a : ℕ) (t : TableState) (e : Event) (p : Plan) → Moves a t p → Moves a t (answered e p)
 answered_moves a t (Assert h entity v) p m = m
 answered_moves a t (Retract h entity) p m = m
 answered_moves a t (Message entity v) p m = m
-answered_moves a t (Sync entity peer) p m = answer_moves a t (reference_of peer) p m
+answered_moves a t (Sync entity peer) p m = said_at_moves a t (aim_at (boolean true) peer) p m
 
 all_answered_moves : (a : ℕ) (t : TableState) (es : List Event) (p : Plan) → Moves a t p
     → Moves a t (all_answered es p)

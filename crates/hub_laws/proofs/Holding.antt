@@ -9,7 +9,7 @@ use Rattle.std.proofs.lemmas.Bool.Decides.{nat_tests}
 use Rattle.std.proofs.lemmas.List.{map-append}
 use Rattle.std.proofs.lemmas.List.Elements.{filter-append}
 use Rattle.std.proofs.lemmas.Map.Keys.{sorted_head, sorted_tail}
-use Rattle.ds_space.specs.declared.references.Reference.{Reference}
+use Rattle.pv_value.specs.Plain.{Plain}
 use Rattle.ac_table.specs.declared.batches.Event.{Event}
 use Rattle.ac_table.specs.declared.batches.Event.TheVariants.{Assert, Retract, Message, Sync}
 use Rattle.ac_world.specs.Worlds.{with_entry, without_entry}
@@ -61,7 +61,7 @@ below_next (k ∷ ks) h rest s =
     (grind (arith, nat_tests, before), below_next ks h rest (sorted_tail nat_cmp _ _ s))
 
 -- what was got before, where it lasts, and then what the events leave
-kept_took : (exports : List Reference) (k : ℕ) (es : List Event) (got : List (ℕ × Held))
+kept_took : (exports : List Plain) (k : ℕ) (es : List Event) (got : List (ℕ × Held))
     → IsStrictlySortedBy nat_cmp (keys_of got ++ made_in es)
     → map (holding_of exports k) (took_all at_object es got)
     ≡ map (holding_of exports k) (lasting (map (sent_event exports k) es) got)
@@ -92,6 +92,6 @@ kept_took exports k (Message entity v ∷ es) got s = kept_took exports k es got
 kept_took exports k (Sync entity peer ∷ es) got s = kept_took exports k es got s
 
 -- where each handle is made once, ascending, what is held by the events is what was taken of them
-pub kept_is_taken : (exports : List Reference) (k : ℕ) (es : List Event) → IsStrictlySortedBy nat_cmp (made_in es)
+pub kept_is_taken : (exports : List Plain) (k : ℕ) (es : List Event) → IsStrictlySortedBy nat_cmp (made_in es)
     → all_kept (map (sent_event exports k) es) ≡ map (holding_of exports k) (took_all at_object es [])
 kept_is_taken exports k es s = sym (kept_took exports k es [] s)

@@ -7,7 +7,8 @@ use Rattle.std.specs.List.Sorted.{IsStrictlySortedBy}
 use Rattle.std.specs.Map.{keys_of, values_of}
 use Rattle.std.specs.Ordering.{nat_cmp}
 use Rattle.pv_value.specs.Plain.{Plain}
-use Rattle.ds_space.specs.declared.references.Reference.{Reference}
+use Rattle.sr_caveat.specs.declared.caps.Cap.{Cap}
+use Rattle.sr_caveat.specs.Caps.{cap_of}
 use Rattle.ds_space.specs.Spaces.{Rows}
 use Rattle.ac_table.specs.declared.batches.Row.{Row}
 use Rattle.ac_table.specs.declared.batches.Event.{Event}
@@ -66,7 +67,7 @@ pub record IsNear {X : Type 0} (ends : List ℕ) (rows : List Row) (should kept 
 
 -- an observation's observer was live
 abbrev pub IsKnown : ℕ → Plain → Type 0
-IsKnown n v = IfSome (observer_in v) (λ (r : Reference). r.at ≤ n)
+IsKnown n v = IfSome (observer_in v) (λ r. IfSome (cap_of r) (λ (c : Cap). c.actor ≤ n))
 
 -- a dataspace makes no row at a dataspace; each target was live; and so was each observer at a dataspace
 pub record IsGood (n : ℕ) (r : Row) : Type 0 where

@@ -2,8 +2,8 @@
 use Rattle.std.proofs.Common.{ℕ, ◌≤◌, List, [], ◌∷◌, Option, Some, None, arith}
 use Rattle.std.specs.Prelude.{IfSome, IsSomeAnd}
 use Rattle.pv_value.specs.Plain.{Plain, record_of, embedded, no_more, then_more}
-use Rattle.ds_space.specs.declared.references.Reference.{Reference}
-use Rattle.ds_space.specs.References.{reference_of}
+use Rattle.sr_caveat.specs.declared.caps.Cap.{Cap}
+use Rattle.sr_caveat.specs.Caps.{cap_of}
 use Rattle.ac_table.specs.declared.batches.Row.{Row}
 use Rattle.ac_table.specs.declared.batches.Event.{Event}
 use Rattle.ac_table.specs.declared.batches.Event.TheVariants.{Assert, Retract, Message, Sync}
@@ -15,12 +15,12 @@ use Rattle.hub_laws.proofs.Kept.{IsKnown, IsGood, FitsEvent}
 
 -- ---- the observer of an observation that holds objects
 
-known_object : (n : ℕ) (x : Plain) → IsObjectValue n x → IfSome (reference_of x) (λ (r : Reference). r.at ≤ n)
-known_object n x is = by (reference_of x) is
+known_object : (n : ℕ) (x : Plain) → IsObjectValue n x → IfSome (cap_of x) (λ (c : Cap). c.actor ≤ n)
+known_object n x is = by (cap_of x) is
   where
-    by : (o : Option Reference) → IsSomeAnd o (IsObject n) → IfSome o (λ (r : Reference). r.at ≤ n)
+    by : (o : Option Cap) → IsSomeAnd o (IsObject n) → IfSome o (λ (c : Cap). c.actor ≤ n)
     by None is = tt
-    by (Some r) is = is.0
+    by (Some c) is = is.0
 
 pub known_objects : (n : ℕ) (v : Plain) → HoldsObjects n v → IsKnown n v
 known_objects n (record_of l (then_more p (then_more (embedded x) no_more))) all =
@@ -34,9 +34,14 @@ known_objects n v all = tt
 pub known_more : (m n : ℕ) (v : Plain) → m ≤ n → IsKnown m v → IsKnown n v
 known_more m n v l k = by (observer_in v) k
   where
-    by : (o : Option Reference) → IfSome o (λ (r : Reference). r.at ≤ m) → IfSome o (λ (r : Reference). r.at ≤ n)
+    at : (o : Option Cap) → IfSome o (λ (c : Cap). c.actor ≤ m) → IfSome o (λ (c : Cap). c.actor ≤ n)
+    at None k = tt
+    at (Some c) k = omega (arith, k, l)
+
+    by : (o : Option Plain) → IfSome o (λ r. IfSome (cap_of r) (λ (c : Cap). c.actor ≤ m))
+        → IfSome o (λ r. IfSome (cap_of r) (λ (c : Cap). c.actor ≤ n))
     by None k = tt
-    by (Some r) k = omega (arith, k, l)
+    by (Some r) k = at (cap_of r) k
 
 pub good_more : (m n : ℕ) (r : Row) → m ≤ n → IsGood m r → IsGood n r
 good_more m n r l g = record {

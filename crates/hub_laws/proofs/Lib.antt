@@ -27,6 +27,7 @@ pub mod OtherTurns
 pub mod OwnRows
 pub mod Owned
 pub mod Packets
+pub mod Passing
 pub mod Posting
 pub mod Promised
 pub mod Saying

@@ -1,5 +1,5 @@
 -- A dataspace's rows follow its wants.
-use Rattle.std.proofs.Common.{◌≡◌, ℕ, ◌<◌, ◌==◌, List, [], ◌∷◌, ◌++◌, map, Bool, true, false, cond, ◌&&◌, ◌||◌}
+use Rattle.std.proofs.Common.{◌≡◌, ℕ, ◌<◌, ◌≤◌, ◌==◌, List, [], ◌∷◌, ◌++◌, map, Bool, true, false, cond, ◌&&◌, ◌||◌}
 use Rattle.std.proofs.Common.{not, Option, Some, None, is_some, refl, ap, sym, ◌∙◌, subst, arith}
 use Rattle.std.specs.List.{AllByRecursion, IsDistinct}
 use Rattle.std.specs.Map.{keys_of, values_of}
@@ -25,9 +25,10 @@ use Rattle.ds_space.specs.Lemmas.Lists.{unique, wants_ascend}
 use Rattle.ac_table.specs.declared.batches.Row.{Row}
 use Rattle.ac_table.specs.Tables.{TableState, find_row, is_live, without_row}
 use Rattle.ac_world.specs.Outboxes.{Plan, dropped, drop_own, drop_row}
-use Rattle.ac_world.specs.Turns.{Turning, Aim, aim_of, handle_for, drop_met, left, came, came_at, changed_by}
+use Rattle.ac_world.specs.declared.aims.Aim.{Aim}
+use Rattle.ac_world.specs.Turns.{Turning, aim_of, handle_for, drop_met, left, came, came_at, changed_by}
 use Rattle.ac_world.specs.Turns.{all_changed, changes, with_rows, regot}
-use Rattle.hub_laws.specs.Wanting.{IsMet}
+use Rattle.hub_laws.specs.Wanting.{passing, IsMet}
 use Rattle.hub_laws.proofs.Kept.{Moves, AreGood}
 use Rattle.hub_laws.proofs.Promised.{RegotMet}
 use Rattle.hub_laws.proofs.Finding.{found_handle, find_row-without, find_row-asserted, none_from_next, row_next}
@@ -36,6 +37,7 @@ use Rattle.hub_laws.proofs.Keys.{lookup-insert_entry, lookup-without_entry, inse
 use Rattle.hub_laws.proofs.Moving.{put_moves, dropped_moves}
 use Rattle.hub_laws.proofs.Owned.{HasRows, rows_of_met, met_of_rows, rows_same, rows_less, rows_more}
 use Rattle.hub_laws.proofs.Wanted.{IsAimed, came_aimed, without_ascends, among_without}
+use Rattle.hub_laws.proofs.Passing.{among_passing, passing_ascends}
 
 -- ---- what the changes leave as it is
 
@@ -166,16 +168,17 @@ none_from None e = refl
 none_from (Some x) e = absurd cc
 
 module _ (n a : ℕ) (t : TableState) (low : a < 9) (live : is_live a t ≡ true) where
-  module _ (k : Plain) (u : Turning) (m : Meets n a t u) (g : IsAimed n k) where
+  module _ (k : Plain) (u : Turning) (m : Meets n a t u) (known : IsAimed n k) (aim : Aim)
+      (aimed : aim_of k ≡ Some aim) where
     placed_found : (q : Plain)
-        → handle_for q (came_at a k (Some g.aim) u).seat.met
+        → handle_for q (came_at a k (Some aim) u).seat.met
         ≡ cond (same k q) (Some u.plan.table.next) (handle_for q u.seat.met)
     placed_found q = lookup-insert_entry order_total order_same q k u.plan.table.next u.seat.met
 
     came_key : (q : Plain) → has_key q (came a k u) ≡ (same q k || has_key q u)
     came_key q =
-        ap (λ o. has_key q (came_at a k o u)) g.aimed
-        ∙ among_found q (came_at a k (Some g.aim) u).seat.met
+        ap (λ o. has_key q (came_at a k o u)) aimed
+        ∙ among_found q (came_at a k (Some aim) u).seat.met
         ∙ ap is_some (placed_found q) ∙ by (same k q) (handle_for q u.seat.met)
         ∙ (λ i. same_turns k q i || sym (among_found q u.seat.met) i)
       where
@@ -184,58 +187,52 @@ module _ (n a : ℕ) (t : TableState) (low : a < 9) (live : is_live a t ≡ true
         by false o = refl
 
     came_meets : has_key k u ≡ false → Meets n a t (came a k u)
-    came_meets new = subst (λ o. Meets n a t (came_at a k o u)) (sym g.aimed) placed
+    came_meets new = subst (λ o. Meets n a t (came_at a k o u)) (sym aimed) placed
       where
-        placed : Meets n a t (came_at a k (Some g.aim) u)
+        goes : (9 ≤ aim.at.at) × (aim.at.at ≤ n)
+        goes = known aim aimed
+
+        placed : Meets n a t (came_at a k (Some aim) u)
         placed = record {
-          moves = put_moves a t u.plan m.moves live g.aim.at.at g.aim.at.entity g.aim.value;
+          moves = put_moves a t u.plan m.moves live aim.at.at aim.at.entity aim.value;
           good =
-              put_good n a t u.plan m.moves m.good g.aim.at.at g.aim.at.entity g.aim.value (λ l. g.far) g.known
-              (λ l. absurd (let f = g.far in omega arith));
+              put_good n a t u.plan m.moves m.good aim.at.at aim.at.entity aim.value (λ l. goes.0) goes.1
+              (λ l. absurd (let f = goes.0 in omega arith));
           ascend = insert_entry_ascends order_total order_same k u.plan.table.next u.seat.met m.ascend;
           rows =
               rows_more a u.seat.met u.plan.table.rows m.rows k u.plan.table.next
-              (row_next a 0 g.aim.at.at g.aim.at.entity g.aim.value u.plan.table)
+              (row_next a 0 aim.at.at aim.at.entity aim.value u.plan.table)
               (none_from (handle_for k u.seat.met) (sym (among_found k u.seat.met) ∙ new))
               (none_from_next u.plan.table.next u.plan.table m.moves.table (omega arith))
               (record {
-                aim = g.aim;
-                aimed = g.aimed;
+                aim = aim;
+                aimed = aimed;
                 owner = refl;
                 target = refl;
                 entity = refl;
                 value = refl;
               })
-              (came_at a k (Some g.aim) u).seat.met (came_at a k (Some g.aim) u).plan.table.rows placed_found
-              (λ h. find_row-asserted h a 0 g.aim.at.at g.aim.at.entity g.aim.value u.plan.table m.moves.table);
+              (came_at a k (Some aim) u).seat.met (came_at a k (Some aim) u).plan.table.rows placed_found
+              (λ h. find_row-asserted h a 0 aim.at.at aim.at.entity aim.value u.plan.table m.moves.table);
         }
 
-  -- and all that come
+  -- and all that come, of which those have a row that pass
   record HaveCome (ks : List Plain) (u v : Turning) : Type 1 where
     pub meets : Meets n a t v
-    pub keys : (q : Plain) → has_key q v ≡ (among q ks || has_key q u)
+    pub keys : (q : Plain) → has_key q v ≡ (among q (passing ks) || has_key q u)
 
   all_came : (ks : List Plain) (u : Turning) → IsDistinct (eq_by_cmp order) ks → AllByRecursion (IsAimed n) ks
       → ((q : Plain) → among q ks ≡ true → has_key q u ≡ false) → Meets n a t u
       → HaveCome ks u (all_changed a (map Came ks) u)
   all_came [] u d aimed fresh m = record { meets = m; keys = λ q. refl }
   all_came (k ∷ ks) u d aimed fresh m =
-      let one = came_meets k u m aimed.0 (fresh k (first (same k k) (same_self k))) in
-      let rest =
-      all_came ks (came a k u) (IsDistinct-tail (eq_by_cmp order) k ks d) aimed.1
-      (λ q e. later q e (same q k) refl) one in
-      record {
-        meets = rest.meets;
-        keys = λ q.
-            rest.keys q ∙ ap (λ b. among q ks || b) (came_key k u m aimed.0 q)
-            ∙ by (among q ks) (same q k) (has_key q u);
-      }
+      by (aim_of k) refl (λ v. all_came ks v (IsDistinct-tail (eq_by_cmp order) k ks d) aimed.1)
     where
-      by : (r s b : Bool) → (r || (s || b)) ≡ ((s || r) || b)
-      by true true b = refl
-      by true false b = refl
-      by false true b = refl
-      by false false b = refl
+      rows : (r s b : Bool) → (r || (s || b)) ≡ ((s || r) || b)
+      rows true true b = refl
+      rows true false b = refl
+      rows false true b = refl
+      rows false false b = refl
 
       first : (b : Bool) → b ≡ true → (b || among k ks) ≡ true
       first true e = refl
@@ -250,26 +247,57 @@ module _ (n a : ℕ) (t : TableState) (low : a < 9) (live : is_live a t ≡ true
           list_any_none (same k) ks
           (All-from_recursion (λ y. same k y ≡ false) ks (IsDistinct-head (eq_by_cmp order) k ks d))
 
-      later : (q : Plain) → among q ks ≡ true → (b : Bool) → same q k ≡ b → has_key q (came a k u) ≡ false
-      later q e true s =
-          let clash : true ≡ false = sym e ∙ ap (λ z. among z ks) (same_is q k s) ∙ apart in
-          absurd cc
-      later q e false s =
-          came_key k u m aimed.0 q ∙ ap (λ b. b || has_key q u) s
-          ∙ fresh q (behind (same q k) (among q ks) e)
+      refused : aim_of k ≡ None → passing (k ∷ ks) ≡ passing ks
+      refused is = ap (λ (o : Option Aim). cond (is_some o) (k ∷ passing ks) (passing ks)) is
+
+      through : (aim : Aim) → aim_of k ≡ Some aim → passing (k ∷ ks) ≡ k ∷ passing ks
+      through aim is = ap (λ (o : Option Aim). cond (is_some o) (k ∷ passing ks) (passing ks)) is
+
+      by : (o : Option Aim) → aim_of k ≡ o
+          → ((v : Turning) → ((q : Plain) → among q ks ≡ true → has_key q v ≡ false) → Meets n a t v
+          → HaveCome ks v (all_changed a (map Came ks) v))
+          → HaveCome (k ∷ ks) u (all_changed a (map Came (k ∷ ks)) u)
+      by None is others =
+          let same_turn : came a k u ≡ u = ap (λ o. came_at a k o u) is in
+          let rest = others u (λ q e. fresh q (behind (same q k) (among q ks) e)) m in
+          subst (λ (v : Turning). HaveCome (k ∷ ks) u (all_changed a (map Came ks) v)) (sym same_turn) (record {
+            meets = rest.meets;
+            keys = λ q. rest.keys q ∙ ap (λ xs. among q xs || has_key q u) (sym (refused is));
+          })
+      by (Some aim) is others =
+          let one = came_meets k u m aimed.0 aim is (fresh k (first (same k k) (same_self k))) in
+          let rest = others (came a k u) (λ q e. later q e (same q k) refl) one in
+          record {
+            meets = rest.meets;
+            keys = λ q.
+                rest.keys q ∙ ap (λ b. among q (passing ks) || b) (came_key k u m aimed.0 aim is q)
+                ∙ rows (among q (passing ks)) (same q k) (has_key q u)
+                ∙ ap (λ xs. among q xs || has_key q u) (sym (through aim is));
+          }
+        where
+          later : (q : Plain) → among q ks ≡ true → (b : Bool) → same q k ≡ b → has_key q (came a k u) ≡ false
+          later q e true s =
+              let clash : true ≡ false = sym e ∙ ap (λ z. among z ks) (same_is q k s) ∙ apart in
+              absurd cc
+          later q e false s =
+              came_key k u m aimed.0 aim is q ∙ ap (λ b. b || has_key q u) s
+              ∙ fresh q (behind (same q k) (among q ks) e)
 
 -- ---- all the changes
 
--- where the keys of the one list that aren't in the other have left, and those the other way round have come
-exchanged : (b a : Bool) → ((not b && a) || (b && not (not a && b))) ≡ a
-exchanged true true = refl
-exchanged true false = refl
-exchanged false true = refl
-exchanged false false = refl
+-- where the keys of the one list that aren't in the other have left, and those the other way round have come, of those
+-- that pass
+exchanged : (p b a : Bool) → ((p && (not b && a)) || ((p && b) && not (not a && b))) ≡ (p && a)
+exchanged false b a = refl
+exchanged true true true = refl
+exchanged true true false = refl
+exchanged true false true = refl
+exchanged true false false = refl
 
-absent : (b a x : Bool) → (not b && a) ≡ true → (b && x) ≡ false
-absent true a x e = absurd cc
-absent false a x e = refl
+absent : (p b a x : Bool) → (not b && a) ≡ true → ((p && b) && x) ≡ false
+absent false b a x e = refl
+absent true true a x e = absurd cc
+absent true false a x e = refl
 
 pub regot_met : RegotMet
 regot_met a n t u rows low nine live moves good met known =
@@ -282,16 +310,19 @@ regot_met a n t u rows low nine live moves good met known =
     let begun : Meets n a t (with_rows rows u) = record {
       moves = moves;
       good = good;
-      ascend = subst Ascend (sym met.keys) rise;
+      ascend = subst Ascend (sym met.keys) (passing_ascends before rise);
       rows = rows_of_met a u.seat u.plan.table.rows met;
     } in
-    let had : (q : Plain) → has_key q (with_rows rows u) ≡ among q before = λ q. ap (among q) met.keys in
+    let passes : Plain → Bool = λ q. is_some (aim_of q) in
+    let had : (q : Plain) → has_key q (with_rows rows u) ≡ (passes q && among q before) =
+    λ q. ap (among q) met.keys ∙ among_passing q before in
     let l = all_left n a t gone (with_rows rows u) begun in
     let mid = all_changed a (map Left gone) (with_rows rows u) in
-    let mid_keys : (q : Plain) → has_key q mid ≡ (among q before && not (not (among q after) && among q before)) =
+    let mid_keys : (q : Plain)
+    → has_key q mid ≡ ((passes q && among q before) && not (not (among q after) && among q before)) =
     λ q. l.keys q ∙ (λ i. had q i && not (among_without q before after i)) in
     let fresh : (q : Plain) → among q new ≡ true → has_key q mid ≡ false =
-    λ q e. mid_keys q ∙ absent (among q before) (among q after) _ (sym (among_without q after before) ∙ e) in
+    λ q e. mid_keys q ∙ absent (passes q) (among q before) (among q after) _ (sym (among_without q after before) ∙ e) in
     let c =
     all_came n a t low live new mid
     (IsDistinct-from_sorted order new (without_ascends after before rise_after rise))
@@ -300,13 +331,16 @@ regot_met a n t u rows low nine live moves good met known =
     let kept = all_changed_keeps a (changes before after) (with_rows rows u) in
     let steps : regot a rows u ≡ last =
     all_changed-append a (map Left gone) (map Came new) (with_rows rows u) in
-    let keys : keys_of last.seat.met ≡ after =
-    unique (keys_of last.seat.met) after c.meets.ascend rise_after
-    (λ q. c.keys q ∙ (λ i. among_without q after before i || mid_keys q i)
-    ∙ exchanged (among q before) (among q after)) in
+    let keys : keys_of last.seat.met ≡ passing after =
+    unique (keys_of last.seat.met) (passing after) c.meets.ascend (passing_ascends after rise_after)
+    (λ q. c.keys q
+    ∙ (λ i. (among_passing q new ∙ ap (λ b. passes q && b) (among_without q after before)) i || mid_keys q i)
+    ∙ exchanged (passes q) (among q before) (among q after)
+    ∙ sym (among_passing q after)) in
     let is_met : IsMet a last.seat last.plan.table.rows =
     met_of_rows a last.seat last.plan.table.rows
-    (keys ∙ ap (λ (r : Rows). wants (values_of r)) (sym (ap (λ (v : Turning). v.seat.got) (sym steps) ∙ kept.0)))
+    (keys ∙ ap (λ (r : Rows). passing (wants (values_of r)))
+    (sym (ap (λ (v : Turning). v.seat.got) (sym steps) ∙ kept.0)))
     c.meets.rows in
     subst (λ (v : Turning). Moves a t v.plan × AreGood n a v.plan × IsMet a v.seat v.plan.table.rows
     × (v.seat.got ≡ rows) × (v.spreads ≡ u.spreads)) (sym steps) (

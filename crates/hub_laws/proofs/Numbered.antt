@@ -6,7 +6,7 @@ use Rattle.std.specs.BTreeMap.{insert_entry, is_at}
 use Rattle.std.specs.Ordering.{nat_cmp, match_ordering}
 use Rattle.std.specs.declared.cmp.Ordering.{Ordering}
 use Rattle.std.specs.declared.cmp.Ordering.TheVariants.{Less, Equal, Greater}
-use Rattle.ds_space.specs.declared.references.Reference.{Reference}
+use Rattle.pv_value.specs.Plain.{Plain}
 use Rattle.ac_table.specs.declared.batches.Event.{Event}
 use Rattle.ac_table.specs.declared.batches.Event.TheVariants.{Assert, Retract, Message, Sync}
 use Rattle.ac_world.specs.declared.held.Held.{Held}
@@ -43,10 +43,10 @@ entries_without {X = X} P test (e ∷ es) all = by (test e.0) (entries_without P
 
 -- ---- what was got
 
-abbrev AreKnown : List Reference → ℕ → Held → Type 0
+abbrev AreKnown : List Plain → ℕ → Held → Type 0
 AreKnown exports k d = AllByRecursion (IsExported exports) (foreign_in k d.value)
 
-pub numbered : (exports : List Reference) (k : ℕ) (es : List Event) (got : List (ℕ × Held))
+pub numbered : (exports : List Plain) (k : ℕ) (es : List Event) (got : List (ℕ × Held))
     → AllByRecursion (HasNumbers exports k) got
     → AllByRecursion (IsExported exports) (flat_map (λ e. foreign_told k (told_value e)) es)
     → AllByRecursion (HasNumbers exports k) (took_all at_object es got)

@@ -11,7 +11,6 @@ use Rattle.std.proofs.lemmas.Map.Keys.{IsDistinct-head, IsDistinct-tail, IsDisti
 use Rattle.std.proofs.lemmas.Map.Made.{IsDistinct-keys_filter}
 use Rattle.pv_value.specs.Plain.{Plain, boolean}
 use Rattle.dp_pattern.specs.Matching.{same}
-use Rattle.ds_space.specs.declared.references.Reference.{Reference}
 use Rattle.ds_space.specs.Lemmas.Keys.{same_is, same_self, same_turns}
 use Rattle.ac_table.specs.declared.batches.Row.{Row}
 use Rattle.ac_table.specs.Tables.{find_row, handles}
@@ -22,7 +21,7 @@ use Rattle.hub_laws.proofs.Distinct.{distinct_none, same_members}
 use Rattle.hub_laws.proofs.Finding.{Ascend, found_handle, all_from_found, ascend_filter}
 use Rattle.hub_laws.proofs.Lists.{all_filter, all_weaker}
 use Rattle.hub_laws.proofs.Owned.{HasRows}
-use Rattle.hub_laws.proofs.Told.{is_at_actor, goes_to, pair_aimed, pair_by, any_map}
+use Rattle.hub_laws.proofs.Told.{is_at_actor, goes_to, pair_or, pair_by, any_map}
 
 -- ---- tests
 
@@ -160,14 +159,14 @@ values_apart met (e ∷ es) apart d found =
 
 -- ---- the rows of dataspace d at connection n, which has these exports
 
-abbrev pub pair_of_row : List Reference → ℕ → Row → Pair
+abbrev pub pair_of_row : List Plain → ℕ → Row → Pair
 pair_of_row exports n r = pair_at exports n r.entity r.value
 
-abbrev pair_found : List Reference → ℕ → Option Row → Pair
+abbrev pair_found : List Plain → ℕ → Option Row → Pair
 pair_found exports n None = record { oid = 0; value = boolean false }
 pair_found exports n (Some r) = pair_of_row exports n r
 
-module _ (exports : List Reference) (n d : ℕ) (met : List (Plain × ℕ)) (rows : List Row) (rise : Ascend rows)
+module _ (exports : List Plain) (n d : ℕ) (met : List (Plain × ℕ)) (rows : List Row) (rise : Ascend rows)
     (keys : IsDistinct same (keys_of met)) (has : HasRows d met rows) where
   abbrev is_own : Row → Bool
   is_own r = (r.target == actor_of n) && (r.owner == d)
@@ -210,7 +209,7 @@ module _ (exports : List Reference) (n d : ℕ) (met : List (Plain × ℕ)) (row
   one_pair e is =
       let m = has.stand e.0 e.1 is.0 in
       ap (pair_found exports n) m.stands ∙ (λ i. pair_at exports n (m.fits.entity i) (m.fits.value i))
-      ∙ ap (pair_aimed exports n e.0) (sym m.fits.aimed)
+      ∙ ap (pair_or exports n e.0) (sym m.fits.aimed)
 
   meant_pairs : map pair_under (values_of meant) ≡ map (pair_by exports n) (filter (goes_to (actor_of n)) (keys_of met))
   meant_pairs =

@@ -11,7 +11,7 @@ use Rattle.ac_table.specs.declared.batches.Row.{Row}
 use Rattle.ac_table.specs.Tables.{find_row}
 use Rattle.ac_world.specs.Turns.{handle_for}
 use Rattle.ac_world.specs.Worlds.{Seat, no_seat}
-use Rattle.hub_laws.specs.Wanting.{IsMet, IsMetBy, IsRowFor}
+use Rattle.hub_laws.specs.Wanting.{passing, IsMet, IsMetBy, IsRowFor}
 
 -- under the handle of each key stands a row for it, no two keys have one handle, and the actor has no other row
 pub record HasRows (a : ℕ) (met : List (Plain × ℕ)) (rows : List Row) : Type 0 where
@@ -23,7 +23,7 @@ pub record HasRows (a : ℕ) (met : List (Plain × ℕ)) (rows : List Row) : Typ
 pub rows_of_met : (a : ℕ) (seat : Seat) (rows : List Row) → IsMet a seat rows → HasRows a seat.met rows
 rows_of_met a seat rows m = record { stand = m.rows_stand; apart = m.apart; no_other = m.no_other }
 
-pub met_of_rows : (a : ℕ) (seat : Seat) (rows : List Row) → keys_of seat.met ≡ wants (values_of seat.got)
+pub met_of_rows : (a : ℕ) (seat : Seat) (rows : List Row) → keys_of seat.met ≡ passing (wants (values_of seat.got))
     → HasRows a seat.met rows → IsMet a seat rows
 met_of_rows a seat rows keys r = record {
   keys = keys;

@@ -2,14 +2,13 @@
 use Rattle.std.proofs.Common.{◌≡◌, ℕ, true, List, [], ◌∷◌, Option, Some, None, refl, ◌∙◌}
 use Rattle.std.specs.List.{AllByRecursion}
 use Rattle.pv_value.specs.Plain.{Plain, sequence, plains, boolean}
-use Rattle.ds_space.specs.declared.references.Reference.{Reference}
 use Rattle.ds_space.specs.declared.space.Fanned.{Fanned}
-use Rattle.ds_space.specs.References.{reference_of}
 use Rattle.ac_table.specs.declared.batches.Event.{Event}
 use Rattle.ac_table.specs.declared.batches.Event.TheVariants.{Assert, Retract, Message, Sync}
 use Rattle.ac_table.specs.Tables.{TableState, IsTable}
 use Rattle.ac_world.specs.Outboxes.{Plan, plan_over, said}
-use Rattle.ac_world.specs.Turns.{observer_in, say_to, say_all, answer_to, answered, all_answered}
+use Rattle.ac_world.specs.declared.aims.Aim.{Aim}
+use Rattle.ac_world.specs.Turns.{aim_at, aim_for, say_at, say_all, answer_to, answered, all_answered}
 use Rattle.hub_laws.proofs.Kept.{IsGood, Moves, AreGood}
 use Rattle.hub_laws.proofs.Good.{begin_good, said_good}
 use Rattle.hub_laws.proofs.Moving.{begin_moves, said_moves}
@@ -28,24 +27,22 @@ said_only n a t p target entity v m g = record {
   same = refl;
 }
 
-pub answer_only : (n a : ℕ) (t : TableState) (p : Plan) (r : Option Reference) → Moves a t p
-    → AreGood n a p → OnlySays n a t p (answer_to r p)
-answer_only n a t p None m g = record { moves = m; good = g; same = refl }
-answer_only n a t p (Some r) m g =
-    said_only n a t p r.at r.entity (boolean true) m g
+say_at_only : (n a : ℕ) (t : TableState) (p : Plan) (o : Option Aim) → Moves a t p → AreGood n a p
+    → OnlySays n a t p (say_at o p)
+say_at_only n a t p None m g = record { moves = m; good = g; same = refl }
+say_at_only n a t p (Some aim) m g = said_only n a t p aim.at.at aim.at.entity aim.value m g
 
-say_to_only : (n a : ℕ) (t : TableState) (p : Plan) (r : Option Reference) (cs : List Plain)
-    → Moves a t p → AreGood n a p → OnlySays n a t p (say_to r cs p)
-say_to_only n a t p None cs m g = record { moves = m; good = g; same = refl }
-say_to_only n a t p (Some r) cs m g =
-    said_only n a t p r.at r.entity (sequence (plains cs)) m g
+pub answer_only : (n a : ℕ) (t : TableState) (p : Plan) (peer : Plain) → Moves a t p
+    → AreGood n a p → OnlySays n a t p (answer_to peer p)
+answer_only n a t p peer m g = say_at_only n a t p (aim_at (boolean true) peer) m g
 
 pub say_all_only : (n a : ℕ) (t : TableState) (p : Plan) (fs : List Fanned) → Moves a t p
     → AreGood n a p → OnlySays n a t p (say_all fs p)
 say_all_only n a t p [] m g = record { moves = m; good = g; same = refl }
 say_all_only n a t p (f ∷ fs) m g =
-    let one = say_to_only n a t p (observer_in f.observe) f.captures m g in
-    let next : Plan = say_to (observer_in f.observe) f.captures p in
+    let aim : Option Aim = aim_for (sequence (plains f.captures)) f.observe in
+    let one = say_at_only n a t p aim m g in
+    let next : Plan = say_at aim p in
     let rest = say_all_only n a t next fs one.moves one.good in
     record { moves = rest.moves; good = rest.good; same = rest.same ∙ one.same }
 
@@ -56,7 +53,7 @@ answered_only n a t p (Assert h entity v) m g = record { moves = m; good = g; sa
 answered_only n a t p (Retract h entity) m g = record { moves = m; good = g; same = refl }
 answered_only n a t p (Message entity v) m g = record { moves = m; good = g; same = refl }
 answered_only n a t p (Sync entity peer) m g =
-    answer_only n a t p (reference_of peer) m g
+    answer_only n a t p peer m g
 
 all_answered_only : (n a : ℕ) (t : TableState) (p : Plan) (es : List Event) → Moves a t p
     → AreGood n a p → OnlySays n a t p (all_answered es p)

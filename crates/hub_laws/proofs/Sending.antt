@@ -8,7 +8,7 @@ use Rattle.std.proofs.lemmas.Bool.Decides.{nat_tests}
 use Rattle.std.proofs.lemmas.Grind.{flat_map-append}
 use Rattle.std.proofs.lemmas.List.{map-append}
 use Rattle.pv_value.specs.Plain.{embedded}
-use Rattle.ds_space.specs.declared.references.Reference.{Reference}
+use Rattle.pv_value.specs.Plain.{Plain}
 use Rattle.ac_table.specs.declared.batches.Event.{Event}
 use Rattle.ac_table.specs.declared.batches.Event.TheVariants.{Assert, Retract, Message, Sync}
 use Rattle.ac_table.specs.declared.batches.Batch.{Batch}
@@ -30,6 +30,7 @@ use Rattle.hub_machine.specs.declared.faults.Fault.TheVariants as fault
 use Rattle.hub_machine.specs.Machine.{After, unchanged, told_value, foreign_told, foreign_to, sent_event, packet_to}
 use Rattle.hub_machine.specs.Machine.{exports_after, exporting, telling_fault, told_unless, tell, opened, refusal}
 use Rattle.hub_machine.specs.Machine.{arrive_unless, fault_for, tell_fault, after_turn, turn_of, is_worn, done, step}
+use Rattle.hub_machine.specs.Machine.{actor_reference}
 use Rattle.hub_machine.specs.Replays.{run_from, replay, packet_in, sent_by, sent_from, sent_to}
 use Rattle.hub_machine.specs.State.{State, opening, ports_of}
 use Rattle.hub_machine.specs.declared.steps.Step.{Step}
@@ -60,14 +61,14 @@ use Rattle.hub_laws.proofs.Turns.{without_first, ascend_before}
 -- ---- what a connection is told, by its exports
 
 -- the objects of others that events tell connection k of
-abbrev pub foreign_in_all : ℕ → List Event → List Reference
+abbrev pub foreign_in_all : ℕ → List Event → List Plain
 foreign_in_all k es = flat_map (λ e. foreign_told k (told_value e)) es
 
-abbrev pub AreExported : List Reference → List Reference → Type 0
+abbrev pub AreExported : List Plain → List Plain → Type 0
 AreExported exports rs = AllByRecursion (IsExported exports) rs
 
 -- an event of which all is exported is told the same by later exports
-event_later : (exports more : List Reference) (k : ℕ) (e : Event)
+event_later : (exports more : List Plain) (k : ℕ) (e : Event)
     → AreExported exports (foreign_told k (told_value e))
     → sent_event (all_exported exports more) k e ≡ sent_event exports k e
 event_later exports more k (Assert h entity v) there =
@@ -78,7 +79,7 @@ event_later exports more k (Message entity v) there =
 event_later exports more k (Sync entity peer) there =
     ap (λ x. record { oid = entity; event = wire.Sync x }) (crossed_out_later exports more k (embedded peer) there)
 
-events_later : (exports more : List Reference) (k : ℕ) (es : List Event) → AreExported exports (foreign_in_all k es)
+events_later : (exports more : List Plain) (k : ℕ) (es : List Event) → AreExported exports (foreign_in_all k es)
     → map (sent_event (all_exported exports more) k) es ≡ map (sent_event exports k) es
 events_later exports more k [] there = refl
 events_later exports more k (e ∷ es) there =
@@ -88,7 +89,7 @@ events_later exports more k (e ∷ es) there =
 
 -- The events es that connection k, which has these exports, was sent are those that its actor took since it came. All
 -- that they tell of is exported, and their handles, and then those of its inbox, ascend.
-pub record IsTold (k : ℕ) (exports : List Reference) (es : List TurnEvent) (w : WorldState) (inbox : List Batch)
+pub record IsTold (k : ℕ) (exports : List Plain) (es : List TurnEvent) (w : WorldState) (inbox : List Batch)
     : Type 0 where
   pub taken : List Event
   pub sent : es ≡ map (sent_event exports k) taken
@@ -126,7 +127,7 @@ sent_nothing k es ds s t none stays sent =
 
 -- ---- a connection comes
 
-told_first : (exports : List Reference) (w : WorldState) (x : Actor)
+told_first : (exports : List Plain) (w : WorldState) (x : Actor)
     → is_live (actor_of (w.opened + 1)) w.table ≡ false → IsSound [] w
     → find_actor (actor_of (w.opened + 1)) (arrived w).table.actors ≡ Some x
     → IsTold (w.opened + 1) exports [] (arrived w) x.inbox
@@ -144,7 +145,7 @@ told_first exports w x dead sound is =
 
 opened_stays : (k space : ℕ) (s : State) → actor_of k ≢ actor_of (s.world.opened + 1) → Stays k s (opened space s)
 opened_stays k space s apart =
-    let ports : PortsState = ports_to (record { at = space; entity = 0 }) in
+    let ports : PortsState = ports_to (actor_reference space) in
     let t : State = record s { world = arrived s.world } in
     stays_on k s t (opened space s) (world_stays k s (arrived s.world) (arrived_grows (actor_of k) s.world apart))
     (other_stays k (s.world.opened + 1) ports t (λ same. apart (ap actor_of same)))
@@ -201,7 +202,7 @@ fault_tells k a (Some f) s = none_by k a (Sent (error_of f)) (ap (λ es. es ++ [
 other_tells : (k a : ℕ) (r : Reply) → actor_of k ≢ a → events_by k (Turn a) r ≡ []
 other_tells k a r apart = let other : (a == actor_of k) ≡ false = grind (arith, nat_tests, apart) in rw other refl
 
-own_tells : (k : ℕ) (exports : List Reference) (b : Batch)
+own_tells : (k : ℕ) (exports : List Plain) (b : Batch)
     → events_by k (Turn (actor_of k)) (packet_to exports k b) ≡ map (sent_event exports k) b.events
 own_tells k exports b =
     let own : (actor_of k == actor_of k) ≡ true = grind (arith, nat_tests) in
@@ -229,7 +230,7 @@ module _ (k : ℕ) (es : List TurnEvent) (s : State) (hub : IsHub [] s) (sent : 
     abbrev ports : PortsState
     ports = (hub.named k lives).0
 
-    abbrev now : List Reference
+    abbrev now : List Plain
     now = exports_after k b ports
 
     told_more : (inbox : List Batch) → IsTold k ports.exports es s.world (b ∷ inbox)

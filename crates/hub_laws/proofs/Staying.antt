@@ -3,7 +3,8 @@ use Rattle.std.proofs.Common.{◌≡◌, ◌≢◌, ℕ, ◌-◌, ◌≤◌, leb
 use Rattle.std.proofs.Common.{Option, Some, None, is_some, inl, inr, refl, sym, ap, ◌∙◌, arith}
 use Rattle.std.specs.Map.{keys_of}
 use Rattle.std.proofs.lemmas.Bool.Decides.{nat_tests}
-use Rattle.ds_space.specs.declared.references.Reference.{Reference}
+use Rattle.pv_value.specs.Plain.{Plain}
+use Rattle.sr_caveat.specs.declared.caps.Cap.{Cap}
 use Rattle.ac_table.specs.declared.batches.Batch.{Batch}
 use Rattle.ac_table.specs.Tables.{Actor, IsTable, find_actor, is_live, rows_of, ended, first_batch}
 use Rattle.ac_world.specs.declared.spreads.Spread.{Spread as SpreadOf}
@@ -18,12 +19,13 @@ use Rattle.rl_packet.specs.declared.packets.Event.TheVariants.{Assert, Retract, 
 use Rattle.rl_packet.specs.declared.packets.TurnEvent.{TurnEvent}
 use Rattle.rl_ports.specs.declared.ports.Inbound.{Inbound}
 use Rattle.rl_ports.specs.declared.ports.Inbound.TheVariants.{Row, Refused}
-use Rattle.rl_ports.specs.Ports.{PortsState, inbound_of, export_of}
+use Rattle.rl_ports.specs.Ports.{PortsState, inbound_of}
 use Rattle.hub_machine.specs.declared.faults.Fault.{Fault}
 use Rattle.hub_machine.specs.declared.faults.Fault.TheVariants.{Spread}
 use Rattle.hub_machine.specs.State.{State, is_there, ports_of}
 use Rattle.hub_machine.specs.Admission.{Admitting, Admitted, refused, admitted, before_all, cause_of, after_retraction}
-use Rattle.hub_machine.specs.Admission.{after_event, after_at, after, unless, all_admitted, admission}
+use Rattle.hub_machine.specs.Admission.{let_through, kept, cap_at, after_assertion, after_message, after_event}
+use Rattle.hub_machine.specs.Admission.{after_at, after, unless, all_admitted, admission}
 use Rattle.hub_machine.specs.Endings.{nameless, closed, failed, failed_where, spread_out, all_spread_out}
 use Rattle.hub_machine.specs.Endings.{overrun_of, all_overrun, finished}
 use Rattle.hub_machine.specs.Machine.{unchanged, accepted, judged, packet_at, bad_at, close_at, telling_fault}
@@ -40,7 +42,7 @@ use Rattle.hub_laws.proofs.Posting.{posted_to}
 use Rattle.hub_laws.proofs.Steps.{IsNamed, named_of}
 
 -- the exports that are kept for a connection
-abbrev pub exports_kept : ℕ → State → List Reference
+abbrev pub exports_kept : ℕ → State → List Plain
 exports_kept k s = exports_in (entry_of k s.connections)
 
 -- Connection k, found in the later state, was there in the earlier one. It has taken nothing since, and its exports are
@@ -150,14 +152,24 @@ retraction_exports h None w x = refl
 retraction_exports h (Some Refused) w x = refl
 retraction_exports h (Some (Row n)) w x = refl
 
-event_exports : (j : ℕ) (w : WorldState) (to : Reference) (e : Event) (x : Admitting)
+assertion_exports : (w : WorldState) (to : Cap) (o : Option Plain) (h : ℕ) (x : Admitting)
+    → (after_assertion w to o h x).ports.exports ≡ x.ports.exports
+assertion_exports w to None h x = refl
+assertion_exports w to (Some v) h x = refl
+
+message_exports : (w : WorldState) (to : Cap) (o : Option Plain) (x : Admitting)
+    → (after_message w to o x).ports.exports ≡ x.ports.exports
+message_exports w to None x = refl
+message_exports w to (Some v) x = refl
+
+event_exports : (j : ℕ) (w : WorldState) (to : Cap) (e : Event) (x : Admitting)
     → (after_event j w to e x).ports.exports ≡ x.ports.exports
-event_exports j w to (Assert v h) x = refl
+event_exports j w to (Assert v h) x = assertion_exports w to (let_through to (kept j v x)) h x
 event_exports j w to (Retract h) x = retraction_exports h (inbound_of h x.ports) w x
-event_exports j w to (Message v) x = refl
+event_exports j w to (Message v) x = message_exports w to (let_through to (kept j v x)) x
 event_exports j w to (Sync peer) x = refl
 
-at_exports : (j : ℕ) (w : WorldState) (o : Option Reference) (e : Event) (x : Admitting)
+at_exports : (j : ℕ) (w : WorldState) (o : Option Cap) (e : Event) (x : Admitting)
     → (after_at j w o e x).ports.exports ≡ x.ports.exports
 at_exports j w None e x = refl
 at_exports j w (Some to) e x = event_exports j w to e x
@@ -167,7 +179,7 @@ all_exports : (j : ℕ) (w : WorldState) (es : List TurnEvent) (x y : Admitting)
 all_exports j w [] x y is = let same : x ≡ y = cc in ap (λ (z : Admitting). z.ports.exports) (sym same)
 all_exports j w (e ∷ es) x y is =
     by (cause_of j w e x) is (all_exports j w es (after j w e x) y)
-    ∙ at_exports j w (export_of e.oid x.ports) e.event x
+    ∙ at_exports j w (cap_at e.oid x.ports) e.event x
   where
     by : (c : Option Fault) → unless c (all_admitted j w es (after j w e x)) ≡ admitted y
         → (all_admitted j w es (after j w e x) ≡ admitted y → y.ports.exports ≡ (after j w e x).ports.exports)

@@ -15,7 +15,7 @@ use Rattle.hub_machine.specs.declared.steps.Reply.{Reply}
 use Rattle.hub_machine.specs.declared.steps.Reply.TheVariants.{Worn, Halted, Idle}
 use Rattle.hub_machine.specs.declared.steps.Step.{Step}
 use Rattle.hub_machine.specs.declared.steps.Step.TheVariants.{Arrive, Packet, Bad, Close, Turn, Work, Stop}
-use Rattle.hub_machine.specs.Bareness.{are_bare}
+use Rattle.rl_packet.specs.Wired.{IsTurnEvent}
 use Rattle.hub_machine.specs.State.{State, ports_of}
 use Rattle.hub_machine.specs.Admission.{Admitted, refused, admitted, admission}
 use Rattle.hub_machine.specs.Endings.{nameless, departed_for, closed, failed, finished}
@@ -79,20 +79,22 @@ far_actor : (k : ℕ) → 9 ≤ actor_of k
 far_actor k = omega arith
 
 judged_hub : (k : ℕ) (p : PortsState) (es : List TurnEvent) (d : Admitted) (s : State) → IsValid s → IsHub [] s
-    → IsNamed k p s → are_bare es ≡ true → admission k p s.world es ≡ d → IsHub [] (judged k d (nameless k s)).state
-judged_hub k p es (refused f) s valid h n bare is =
+    → IsNamed k p s → AllByRecursion IsTurnEvent es → admission k p s.world es ≡ d
+    → IsHub [] (judged k d (nameless k s)).state
+judged_hub k p es (refused f) s valid h n wired is =
     ended_well (departed_for k f (nameless k s)) (failed_hub endings [] k f s h)
-judged_hub k p es (admitted x) s valid h n bare is =
+judged_hub k p es (admitted x) s valid h n wired is =
     ended_well _
     (accepted_hub still_met k x s (far_actor k) n.live
-    (acts_are_valid k p es x s valid (all_found (IsValidEntry s.world.opened) k p s.connections valid.named n.kept) bare
+    (acts_are_valid k p es x s valid
+    (all_found (IsValidEntry s.world.opened) k p s.connections valid.named n.kept) wired
     is) h)
 
 packet_hub : (k : ℕ) (o : Option PortsState) (es : List TurnEvent) (s : State) → IsValid s → IsHub [] s
-    → ports_of k s ≡ o → are_bare es ≡ true → IsHub [] (packet_at k o es s).state
-packet_hub k None es s valid h is bare = h
-packet_hub k (Some p) es s valid h is bare =
-    judged_hub k p es (admission k p s.world es) s valid h (named_of k p s is) bare refl
+    → ports_of k s ≡ o → AllByRecursion IsTurnEvent es → IsHub [] (packet_at k o es s).state
+packet_hub k None es s valid h is wired = h
+packet_hub k (Some p) es s valid h is wired =
+    judged_hub k p es (admission k p s.world es) s valid h (named_of k p s is) wired refl
 
 bad_hub : (k : ℕ) (o : Option PortsState) (f : Fault) (s : State) → IsHub [] s → IsHub [] (bad_at k o f s).state
 bad_hub k None f s h = h

@@ -1,6 +1,7 @@
 -- What a dataspace tells a connection from scratch is, as a bag, what is wanted there: one pair for each key.
-use Rattle.std.proofs.Common.{◌≡◌, ℕ, List, [], ◌∷◌, map, Bool, true, false, cond, not, ◌&&◌, ◌||◌, ◌==◌, filter}
-use Rattle.std.proofs.Common.{flat_map, Option, Some, None, option_and_then, refl, ap, sym, ◌∙◌, subst, IsPermutation}
+use Rattle.std.proofs.Common.{◌≡◌, ℕ, List, [], ◌∷◌, ◌++◌, map, Bool, true, false, cond, not, ◌&&◌, ◌||◌, ◌==◌, filter}
+use Rattle.std.proofs.Common.{flat_map, Option, Some, None, is_some, option_and_then, refl, ap, sym, ◌∙◌, subst}
+use Rattle.std.proofs.Common.{IsPermutation}
 use Rattle.std.specs.Cmp.{eq_by_cmp_equiv}
 use Rattle.std.specs.List.{AllByRecursion, IsDistinct, list_any}
 use Rattle.std.proofs.lemmas.List.Sorted.{IsPermutation-map}
@@ -11,14 +12,15 @@ use Rattle.pv_value.specs.Order.{order}
 use Rattle.pv_value.specs.Lemmas.OrderLaws.{order_total}
 use Rattle.dp_pattern.specs.Patterns.{Pattern}
 use Rattle.dp_pattern.specs.Matching.{same, matched}
-use Rattle.ds_space.specs.declared.references.Reference.{Reference}
 use Rattle.ds_space.specs.Changes.{among}
 use Rattle.ds_space.specs.Wants.{observer_of, captured, key_of, is_key, gives, wants}
 use Rattle.ds_space.specs.Lemmas.Keys.{same_is, same_self, or_false, any_same, any_flat, any_none}
 use Rattle.ds_space.specs.Lemmas.Lists.{wants_ascend, among_wants}
-use Rattle.ac_world.specs.Turns.{Aim, observer_in, aim_at, aim_of}
+use Rattle.ac_world.specs.declared.aims.Aim.{Aim}
+use Rattle.ac_world.specs.Turns.{observer_in, aim_at, aim_of}
 use Rattle.ac_world.specs.Worlds.{actor_of}
-use Rattle.hub_laws.specs.Scratch.{Pair, distinct, as_sequence, captures_by, pair_at, told_by, told_over}
+use Rattle.hub_laws.specs.Wanting.{passing}
+use Rattle.hub_laws.specs.Scratch.{Pair, distinct, as_sequence, captures_by, pair_at, pair_aimed, told_by, told_over}
 use Rattle.hub_laws.proofs.Bags.{map_flat, flat_alike}
 use Rattle.hub_laws.proofs.Distinct.{distinct_none, distinct_filter, distinct_map, distinct_flat, same_members}
 
@@ -32,14 +34,27 @@ is_at_actor a (Some aim) = aim.at.at == a
 abbrev pub goes_to : ℕ → Plain → Bool
 goes_to a k = is_at_actor a (aim_of k)
 
+-- what goes to an actor gets through
+pub goes_passing : (a : ℕ) (ks : List Plain) → filter (goes_to a) (passing ks) ≡ filter (goes_to a) ks
+goes_passing a [] = refl
+goes_passing a (k ∷ ks) = by (aim_of k) refl (goes_passing a ks)
+  where
+    by : (o : Option Aim) → aim_of k ≡ o → filter (goes_to a) (passing ks) ≡ filter (goes_to a) ks
+        → filter (goes_to a) (cond (is_some o) (k ∷ passing ks) (passing ks))
+        ≡ cond (is_at_actor a o) (k ∷ filter (goes_to a) ks) (filter (goes_to a) ks)
+    by None is rest = rest
+    by (Some aim) is rest =
+        ap (λ q. cond (is_at_actor a q) (k ∷ filter (goes_to a) (passing ks)) (filter (goes_to a) (passing ks))) is
+        ∙ ap (λ l. cond (aim.at.at == a) (k ∷ l) l) rest
+
 -- n is the number of a connection, which has these exports
-abbrev pub pair_aimed : List Reference → ℕ → Plain → Option Aim → Pair
-pair_aimed exports n k None = record { oid = 0; value = k }
-pair_aimed exports n k (Some aim) = pair_at exports n aim.at.entity aim.value
+abbrev pub pair_or : List Plain → ℕ → Plain → Option Aim → Pair
+pair_or exports n k None = record { oid = 0; value = k }
+pair_or exports n k (Some aim) = pair_at exports n aim.at.entity aim.value
 
 -- what the connection holds by the key
-abbrev pub pair_by : List Reference → ℕ → Plain → Pair
-pair_by exports n k = pair_aimed exports n k (aim_of k)
+abbrev pub pair_by : List Plain → ℕ → Plain → Pair
+pair_by exports n k = pair_or exports n k (aim_of k)
 
 -- ---- each value once
 
@@ -80,8 +95,12 @@ distinct_any p (v ∷ vs) = by (p v) refl (distinct_any p vs)
 abbrev key_with : Plain → Plain → Plain
 key_with o c = sequence (plains (o ∷ c ∷ []))
 
-abbrev keys_told : ℕ → List Plain → Plain → Option Reference → Option Pattern → List Plain
-keys_told a vs o (Some r) (Some p) = cond (r.at == a) (map (key_with o) (distinct (captures_by p vs))) []
+-- whether a list of captures gets through a reference to an object of actor a
+abbrev gets_to : ℕ → Plain → Plain → Bool
+gets_to a r c = is_at_actor a (aim_at c r)
+
+abbrev keys_told : ℕ → List Plain → Plain → Option Plain → Option Pattern → List Plain
+keys_told a vs o (Some r) (Some p) = map (key_with o) (filter (gets_to a r) (distinct (captures_by p vs)))
 keys_told a vs o (Some r) None = []
 keys_told a vs o None p = []
 
@@ -91,26 +110,49 @@ told_of a vs o = keys_told a vs o (observer_in o) (observer_of o)
 abbrev all_told : ℕ → List Plain → List Plain
 all_told a vs = flat_map (told_of a vs) (distinct vs)
 
+-- the keys of these lists of captures are told as the pairs of what gets through
+abbrev AreTold : List Plain → ℕ → Plain → Plain → List Plain → Type 0
+AreTold exports n o r cs = map (pair_by exports n) (map (key_with o) (filter (gets_to (actor_of n) r) cs))
+    ≡ flat_map (λ c. pair_aimed exports n (aim_at c r)) cs
+
 -- each is told as its pair
-pairs_told : (exports : List Reference) (n : ℕ) (vs : List Plain) (o : Plain)
+pairs_told : (exports : List Plain) (n : ℕ) (vs : List Plain) (o : Plain)
     → map (pair_by exports n) (told_of (actor_of n) vs o) ≡ told_by exports n vs (observer_in o) (observer_of o)
 pairs_told exports n vs o = by (observer_in o) (observer_of o) refl
   where
-    each : (r : Reference) (cs : List Plain) → observer_in o ≡ Some r
-        → map (pair_by exports n) (map (key_with o) cs) ≡ map (pair_at exports n r.entity) cs
+    -- the key of a list of captures, where it gets through
+    key_pair : (r c : Plain) (aim : Aim) → observer_in o ≡ Some r → aim_at c r ≡ Some aim
+        → pair_by exports n (key_with o c) ≡ pair_at exports n aim.at.entity aim.value
+    key_pair r c aim is gets =
+        ap (pair_or exports n (key_with o c)) (ap (λ q. option_and_then (aim_at c) q) is ∙ gets)
+
+    here : (r c : Plain) (cs : List Plain) (aim : Aim) (b : Bool) → observer_in o ≡ Some r → aim_at c r ≡ Some aim
+        → AreTold exports n o r cs
+        → map (pair_by exports n) (map (key_with o)
+        (cond b (c ∷ filter (gets_to (actor_of n) r) cs) (filter (gets_to (actor_of n) r) cs)))
+        ≡ cond b (pair_at exports n aim.at.entity aim.value ∷ []) []
+        ++ flat_map (λ c. pair_aimed exports n (aim_at c r)) cs
+    here r c cs aim true is gets rest = λ i. key_pair r c aim is gets i ∷ rest i
+    here r c cs aim false is gets rest = rest
+
+    aimed : (r c : Plain) (cs : List Plain) (q : Option Aim) → observer_in o ≡ Some r → aim_at c r ≡ q
+        → AreTold exports n o r cs
+        → map (pair_by exports n) (map (key_with o)
+        (cond (is_at_actor (actor_of n) q) (c ∷ filter (gets_to (actor_of n) r) cs)
+        (filter (gets_to (actor_of n) r) cs)))
+        ≡ pair_aimed exports n q ++ flat_map (λ c. pair_aimed exports n (aim_at c r)) cs
+    aimed r c cs None is gets rest = rest
+    aimed r c cs (Some aim) is gets rest = here r c cs aim (aim.at.at == actor_of n) is gets rest
+
+    each : (r : Plain) (cs : List Plain) → observer_in o ≡ Some r → AreTold exports n o r cs
     each r [] is = refl
-    each r (c ∷ cs) is = λ i. pair_aimed exports n (key_with o c) (aim_at (is i) c) ∷ each r cs is i
+    each r (c ∷ cs) is = aimed r c cs (aim_at c r) is refl (each r cs is)
 
-    if_here : (r : Reference) (cs : List Plain) (b : Bool) → observer_in o ≡ Some r
-        → map (pair_by exports n) (cond b (map (key_with o) cs) []) ≡ cond b (map (pair_at exports n r.entity) cs) []
-    if_here r cs true is = each r cs is
-    if_here r cs false is = refl
-
-    by : (r : Option Reference) (p : Option Pattern) → observer_in o ≡ r
+    by : (r : Option Plain) (p : Option Pattern) → observer_in o ≡ r
         → map (pair_by exports n) (keys_told (actor_of n) vs o r p) ≡ told_by exports n vs r p
     by None p is = refl
     by (Some r) None is = refl
-    by (Some r) (Some p) is = if_here r (distinct (captures_by p vs)) (r.at == actor_of n) is
+    by (Some r) (Some p) is = each r (distinct (captures_by p vs)) is
 
 -- none is told twice
 told_apart : (a : ℕ) (vs : List Plain) → IsDistinct same (all_told a vs)
@@ -129,16 +171,13 @@ told_apart a vs =
         let yes : same c d ≡ true = subst (λ z. same c z ≡ true) one (same_self c) in
         absurd cc
 
-    parts : (o : Plain) (r : Option Reference) (p : Option Pattern) → IsDistinct same (keys_told a vs o r p)
+    parts : (o : Plain) (r : Option Plain) (p : Option Pattern) → IsDistinct same (keys_told a vs o r p)
     parts o None p = distinct_none same
     parts o (Some r) None = distinct_none same
-    parts o (Some r) (Some p) = by (r.at == a)
-      where
-        by : (b : Bool) → IsDistinct same (cond b (map (key_with o) (distinct (captures_by p vs))) [])
-        by true =
-            distinct_map same same (key_with o) (λ c d other. other_key o c d other _ refl)
-            (distinct (captures_by p vs)) (distinct_apart (captures_by p vs))
-        by false = distinct_none same
+    parts o (Some r) (Some p) =
+        distinct_map same same (key_with o) (λ c d other. other_key o c d other _ refl)
+        (filter (gets_to a r) (distinct (captures_by p vs)))
+        (distinct_filter same (gets_to a r) (distinct (captures_by p vs)) (distinct_apart (captures_by p vs)))
 
     some_key : (o k : Plain) (cs : List Plain) → among k (map (key_with o) cs) ≡ true
         → (c : Plain) × (k ≡ key_with o c)
@@ -151,16 +190,11 @@ told_apart a vs =
         by true here is later = (c, same_is k (key_with o c) here)
         by false here is later = later is
 
-    names : (o k : Plain) (r : Option Reference) (p : Option Pattern) → among k (keys_told a vs o r p) ≡ true
+    names : (o k : Plain) (r : Option Plain) (p : Option Pattern) → among k (keys_told a vs o r p) ≡ true
         → (c : Plain) × (k ≡ key_with o c)
     names o k None p is = absurd cc
     names o k (Some r) None is = absurd cc
-    names o k (Some r) (Some p) is = by (r.at == a) is
-      where
-        by : (b : Bool) → among k (cond b (map (key_with o) (distinct (captures_by p vs))) []) ≡ true
-            → (c : Plain) × (k ≡ key_with o c)
-        by true is = some_key o k (distinct (captures_by p vs)) is
-        by false is = absurd cc
+    names o k (Some r) (Some p) is = some_key o k (filter (gets_to a r) (distinct (captures_by p vs))) is
 
     one_observation : (o q k : Plain) → (c : Plain) × (k ≡ key_with o c) → (c : Plain) × (k ≡ key_with q c)
         → same o q ≡ true
@@ -171,29 +205,37 @@ told_apart a vs =
 
 -- ---- they are those that are wanted at the actor
 
-abbrev observes_at : ℕ → Option Reference → Bool
-observes_at a None = false
-observes_at a (Some r) = r.at == a
-
-aimed_at : (a : ℕ) (c : Plain) (r : Option Reference) → is_at_actor a (aim_at r c) ≡ observes_at a r
-aimed_at a c None = refl
-aimed_at a c (Some r) = refl
-
 and_false : (b : Bool) → (b && false) ≡ false
 and_false true = refl
 and_false false = refl
 
--- a key that an observation gives goes where the observation says
-goes_where : (a : ℕ) (k o : Plain) (found : Option (List Plain))
-    → (goes_to a k && is_key k o found) ≡ (observes_at a (observer_in o) && is_key k o found)
-goes_where a k o None = and_false (goes_to a k) ∙ sym (and_false (observes_at a (observer_in o)))
-goes_where a k o (Some cs) = by (same k (key_of o cs)) refl
+-- a key that is given by what observes nothing goes nowhere
+goes_nowhere : (a : ℕ) (k o : Plain) (found : Option (List Plain)) → observer_in o ≡ None
+    → (goes_to a k && is_key k o found) ≡ false
+goes_nowhere a k o None none = and_false (goes_to a k)
+goes_nowhere a k o (Some cs) none = by (same k (key_of o cs)) refl
   where
-    by : (b : Bool) → same k (key_of o cs) ≡ b → (goes_to a k && b) ≡ (observes_at a (observer_in o) && b)
+    by : (b : Bool) → same k (key_of o cs) ≡ b → (goes_to a k && b) ≡ false
     by true is =
         ap (λ z. goes_to a z && true) (same_is k (key_of o cs) is)
-        ∙ ap (λ z. z && true) (aimed_at a (sequence (plains cs)) (observer_in o))
-    by false is = and_false (goes_to a k) ∙ sym (and_false (observes_at a (observer_in o)))
+        ∙ ap (λ q. is_at_actor a (option_and_then (aim_at (sequence (plains cs))) q) && true) none
+    by false is = and_false (goes_to a k)
+
+-- of an observation's keys those are told that go to the actor
+told_keys : (a : ℕ) (o r : Plain) (cs : List Plain) → observer_in o ≡ Some r
+    → map (key_with o) (filter (gets_to a r) cs) ≡ filter (goes_to a) (map (key_with o) cs)
+told_keys a o r [] is = refl
+told_keys a o r (c ∷ cs) is = by (gets_to a r c) goes (told_keys a o r cs is)
+  where
+    goes : goes_to a (key_with o c) ≡ gets_to a r c
+    goes = ap (λ q. is_at_actor a (option_and_then (aim_at c) q)) is
+
+    by : (b : Bool) → goes_to a (key_with o c) ≡ b
+        → map (key_with o) (filter (gets_to a r) cs) ≡ filter (goes_to a) (map (key_with o) cs)
+        → map (key_with o) (cond b (c ∷ filter (gets_to a r) cs) (filter (gets_to a r) cs))
+        ≡ filter (goes_to a) (key_with o c ∷ map (key_with o) cs)
+    by true here rest = rw here (ap (λ l. key_with o c ∷ l) rest)
+    by false here rest = rw here rest
 
 any_and : {X : Type 0} (b : Bool) (p : X → Bool) (xs : List X) → list_any (λ x. b && p x) xs ≡ (b && list_any p xs)
 any_and true p xs = refl
@@ -221,27 +263,24 @@ captures_give vs o k p is =
 
 told_where : (a : ℕ) (vs : List Plain) (o k : Plain)
     → among k (told_of a vs o) ≡ (goes_to a k && list_any (gives k o) vs)
-told_where a vs o k =
-    by (observer_in o) (observer_of o) refl
-    ∙ sym (any_and (observes_at a (observer_in o)) (gives k o) vs)
-    ∙ any_same _ _ vs (λ v. sym (goes_where a k o (captured o v)))
-    ∙ any_and (goes_to a k) (gives k o) vs
+told_where a vs o k = by (observer_in o) (observer_of o) refl refl
   where
-    if_here : (b : Bool) (p : Pattern) → observer_of o ≡ Some p
-        → among k (cond b (map (key_with o) (distinct (captures_by p vs))) []) ≡ (b && list_any (gives k o) vs)
-    if_here true p is = captures_give vs o k p is
-    if_here false p is = refl
-
     none : observer_of o ≡ None → list_any (gives k o) vs ≡ false
     none is =
         any_none (gives k o) vs
         (λ v. ap (λ (q : Option Pattern). is_key k o (option_and_then (λ p. matched p v) q)) is)
 
-    by : (r : Option Reference) (p : Option Pattern) → observer_of o ≡ p
-        → among k (keys_told a vs o r p) ≡ (observes_at a r && list_any (gives k o) vs)
-    by None p is = refl
-    by (Some r) None is = sym (ap (λ b. (r.at == a) && b) (none is) ∙ and_false (r.at == a))
-    by (Some r) (Some p) is = if_here (r.at == a) p is
+    by : (r : Option Plain) (p : Option Pattern) → observer_in o ≡ r → observer_of o ≡ p
+        → among k (keys_told a vs o r p) ≡ (goes_to a k && list_any (gives k o) vs)
+    by None p nobody is =
+        sym (sym (any_and (goes_to a k) (gives k o) vs)
+        ∙ any_none _ vs (λ v. goes_nowhere a k o (captured o v) nobody))
+    by (Some r) None there is = sym (ap (λ b. goes_to a k && b) (none is) ∙ and_false (goes_to a k))
+    by (Some r) (Some p) there is =
+        ap (among k) (told_keys a o r (distinct (captures_by p vs)) there)
+        ∙ any-filter_same (same k) (goes_to a) (goes_to a k) (λ q e. ap (goes_to a) (sym (same_is k q e)))
+        (map (key_with o) (distinct (captures_by p vs)))
+        ∙ ap (λ b. goes_to a k && b) (captures_give vs o k p is)
 
 -- the keys that are wanted at the actor are those that are told
 told_wanted : (a : ℕ) (vs : List Plain) (k : Plain)
@@ -254,7 +293,7 @@ told_wanted a vs k =
     ∙ any_same _ _ vs (λ o. told_where a vs o k)
     ∙ any_and (goes_to a k) (λ o. list_any (gives k o) vs) vs)
 
-pub wants_are_told : (exports : List Reference) (n : ℕ) (vs : List Plain)
+pub wants_are_told : (exports : List Plain) (n : ℕ) (vs : List Plain)
     → IsPermutation (map (pair_by exports n) (filter (goes_to (actor_of n)) (wants vs))) (told_over exports n vs)
 wants_are_told exports n vs =
     subst (IsPermutation (map (pair_by exports n) (filter (goes_to (actor_of n)) (wants vs))))

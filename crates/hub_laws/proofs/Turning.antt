@@ -10,7 +10,6 @@ use Rattle.std.specs.Map.{keys_of, values_of}
 use Rattle.std.specs.Ordering.{nat_cmp, match_ordering}
 use Rattle.std.proofs.lemmas.Bool.Decides.{nat_tests}
 use Rattle.pv_value.specs.Plain.{Plain}
-use Rattle.ds_space.specs.References.{reference_of}
 use Rattle.ds_space.specs.Spaces.{Rows, has_row}
 use Rattle.ds_space.specs.Fans.{fan_of}
 use Rattle.ac_table.specs.declared.batches.Row.{Row}
@@ -310,7 +309,7 @@ turned_by_runs n a from t full u (Message entity v) rest set fits s r =
     (says_runs n a t full u _
     (say_all_only n a t u.plan (fan_of (values_of u.seat.got) v) r.moves r.good) r)
 turned_by_runs n a from t full u (Sync entity peer) rest set fits s r =
-    says_runs n a t full u _ (answer_only n a t u.plan (reference_of peer) r.moves r.good) r
+    says_runs n a t full u _ (answer_only n a t u.plan peer r.moves r.good) r
 
 all_turned_runs : (n a from : ℕ) (t : TableState) (full : Rows) (u : Turning)
     (es : List Event) → IsSet n a from t → AllByRecursion (FitsEvent n t.rows a from) es

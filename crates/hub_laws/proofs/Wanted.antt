@@ -1,6 +1,8 @@
--- The keys that are wanted: each aims at an actor numbered 9 or more that was live, and those that leave or come are
--- what the one list has and the other hasn't.
-use Rattle.std.proofs.Common.{◌≡◌, ℕ, ◌≤◌, List, Bool, true, false, cond, ◌&&◌, not, Option, Some, None}
+-- The keys that are wanted: each that passes aims at an actor numbered 9 or more that was live, and those that leave or
+-- come are what the one list has and the other hasn't.
+use Rattle.std.proofs.Common.{◌≡◌, ℕ, ◌<◌, ◌≤◌, ◌^◌, nat_lt, nat_le, List, Bool, true, false, cond, ◌&&◌, not, Option}
+use Rattle.std.proofs.Common.{Some, None, option_map, option_and_then}
+use Rattle.std.specs.Prelude.{IfSome}
 use Rattle.std.proofs.Common.{Contains, refl, ap, sym, ◌∙◌, subst, arith}
 use Rattle.std.specs.List.{AllByRecursion}
 use Rattle.std.specs.Cmp.{eq_by_cmp_equiv}
@@ -14,29 +16,60 @@ use Rattle.dp_pattern.specs.Patterns.{Pattern}
 use Rattle.dp_pattern.specs.Matching.{same}
 use Rattle.ds_space.specs.declared.references.Reference.{Reference}
 use Rattle.ds_space.specs.References.{reference_of, is_observers}
+use Rattle.sr_caveat.specs.declared.caps.Cap.{Cap}
+use Rattle.sr_caveat.specs.Caps.{cap_of}
+use Rattle.sr_caveat.specs.Passing.{passed, no_names}
+use Rattle.sr_caveat.specs.Lemmas.Capped.{cap_is, cap_sound}
 use Rattle.ds_space.specs.Wants.{is_observer, observer_of, key_of, wants}
 use Rattle.ds_space.specs.Changes.{among, without}
 use Rattle.ds_space.specs.Lemmas.Keys.{same_is}
 use Rattle.ds_space.specs.Lemmas.Lists.{of_the_rule}
 use Rattle.ds_space.specs.Lemmas.Walks.{lacking_ascends}
 use Rattle.ds_space.specs.Lemmas.Exact.{without_is}
-use Rattle.ac_world.specs.Turns.{Aim, observer_in, aim_at, aim_of}
+use Rattle.ac_world.specs.declared.aims.Aim.{Aim}
+use Rattle.ac_world.specs.Turns.{aim_by, aim_at, observer_in, aim_of}
 use Rattle.hub_laws.proofs.Kept.{IsKnown}
 
--- what the key wants goes to an object of an actor numbered 9 or more, and n or less
-pub record IsAimed (n : ℕ) (k : Plain) : Type 0 where
-  pub aim : Aim
-  pub aimed : aim_of k ≡ Some aim
-  pub far : 9 ≤ aim.at.at
-  pub known : aim.at.at ≤ n
+-- what the key wants, where it gets through, goes to an object of an actor numbered 9 or more, and n or less
+abbrev pub IsAimed : ℕ → Plain → Type 0
+IsAimed n k = (aim : Aim) → aim_of k ≡ Some aim → (9 ≤ aim.at.at) × (aim.at.at ≤ n)
 
--- ---- each key has an aim
+-- ---- the aim of each key
+
+-- a reference names the object of its value
+reference_is : (x : Plain) (c : Cap) → cap_of x ≡ Some c
+    → reference_of x ≡ Some (record { at = c.actor; entity = c.entity })
+reference_is x c is =
+    let sound = cap_sound x c is in
+    ap reference_of (cap_is x c is) ∙ ap (λ b. cond {A = Option Reference} b
+    (Some (record { at = c.actor; entity = c.entity })) None) (within c.actor c.entity sound.0 sound.1)
+  where
+    within : (a e : ℕ) → a < 2 ^ 32 → e < 2 ^ 63 → (nat_lt a (2 ^ 32) && nat_lt e (2 ^ 63)) ≡ true
+    within a e low small = grind (arith, nat_tests, low, small)
+
+-- what gets through a reference goes to its actor
+aim_from : (v r : Plain) (aim : Aim) → aim_at v r ≡ Some aim
+    → (c : Cap) × (cap_of r ≡ Some c) × (aim.at.at ≡ c.actor)
+aim_from v r aim is = by (cap_of r) refl is
+  where
+    at : (c : Cap) (o : Option Plain) → cap_of r ≡ Some c
+        → option_map (λ w. record { at = record { at = c.actor; entity = c.entity }; value = w }) o ≡ Some aim
+        → (c : Cap) × (cap_of r ≡ Some c) × (aim.at.at ≡ c.actor)
+    at c None there is = absurd cc
+    at c (Some w) there is =
+        let one : record { at = record { at = c.actor; entity = c.entity }; value = w } ≡ aim = cc in
+        (c, there, ap (λ (a : Aim). a.at.at) (sym one))
+
+    by : (o : Option Cap) → cap_of r ≡ o → option_and_then (aim_by v) o ≡ Some aim
+        → (c : Cap) × (cap_of r ≡ Some c) × (aim.at.at ≡ c.actor)
+    by None there is = absurd cc
+    by (Some c) there is = at c (passed no_names c.caveats v) there is
 
 -- the observer of an observation, numbered 9 or more
 record Observes (o : Plain) : Type 0 where
-  pub observer : Reference
+  pub observer : Plain
   pub names : observer_in o ≡ Some observer
-  pub far : 9 ≤ observer.at
+  pub far : (c : Cap) → cap_of observer ≡ Some c → 9 ≤ c.actor
 
 second : {X : Type 0} (a b : Bool) (o : Option X) (x : X) → cond (a && b) o None ≡ Some x → b ≡ true
 second true true o x e = refl
@@ -44,12 +77,15 @@ second true false o x e = absurd cc
 second false b o x e = absurd cc
 
 named : (l p r : Plain) → is_observer r ≡ true → Observes (record_of l (then_more p (then_more r no_more)))
-named l p (embedded x) e = by (reference_of x) refl e
+named l p (embedded x) e = record {
+  observer = x;
+  names = refl;
+  far = λ c is. at c (sym (ap is_observers
+      (reference_is x c is)) ∙ e);
+}
   where
-    by : (o : Option Reference) → reference_of x ≡ o → is_observers o ≡ true
-        → Observes (record_of l (then_more p (then_more (embedded x) no_more)))
-    by None is e = absurd cc
-    by (Some r) is e = record { observer = r; names = is; far = grind (arith, nat_tests) }
+    at : (c : Cap) → nat_le 9 c.actor ≡ true → 9 ≤ c.actor
+    at c is = grind (arith, nat_tests, is)
 named l p r e = absurd cc
 
 observes : (o : Plain) (p : Pattern) → observer_of o ≡ Some p → Observes o
@@ -57,13 +93,20 @@ observes (record_of (symbol s) (then_more q (then_more r no_more))) p e =
     named (symbol s) q r (second _ (is_observer r) _ p e)
 observes o p e = absurd cc
 
+-- an observation has an observer
+pub observer_there : (o : Plain) (p : Pattern) → observer_in o ≡ None → observer_of o ≡ Some p → ⊥
+observer_there o p none is = let by = observes o p is in let clash : None ≡ Some by.observer = sym none ∙ by.names in cc
+
 aimed_key : (n : ℕ) (k o : Plain) (cs : List Plain) → Observes o → IsKnown n o → k ≡ key_of o cs → IsAimed n k
-aimed_key n k o cs by known is = record {
-  aim = record { at = by.observer; value = sequence (plains cs) };
-  aimed = ap aim_of is ∙ ap (λ r. aim_at r (sequence (plains cs))) by.names;
-  far = by.far;
-  known = rw by.names at known;
-}
+aimed_key n k o cs by known is aim aims =
+    let v = sequence (plains cs) in
+    let here : aim_at v by.observer ≡ Some aim =
+    ap (option_and_then (aim_at v)) (sym by.names) ∙ sym (ap aim_of is) ∙ aims in
+    let c = aim_from v by.observer aim here in
+    let low : IfSome (cap_of by.observer) (λ (d : Cap). d.actor ≤ n) =
+    subst (λ q. IfSome q (λ r. IfSome (cap_of r) (λ (d : Cap). d.actor ≤ n))) by.names known in
+    let under : c.0.actor ≤ n = subst (λ q. IfSome q (λ (d : Cap). d.actor ≤ n)) c.1 low in
+    (subst (λ m. 9 ≤ m) (sym c.2) (by.far c.0 c.1), subst (λ m. m ≤ n) (sym c.2) under)
 
 -- over values whose observers were live
 pub wanted_aimed : (n : ℕ) (vs : List Plain) (k : Plain) → AllByRecursion (IsKnown n) vs → Contains (wants vs) k

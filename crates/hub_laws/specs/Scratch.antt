@@ -1,15 +1,16 @@
 -- What a live connection holds once nothing is pending, from the rows and its exports alone. Syndicate Protocol,
--- "dataspaces": each observer is told of each distinct list of captures of its observation, once.
+-- "dataspaces": each observer is told of each distinct list of captures of its observation, once, unless the caveats of
+-- its reference refuse it.
 use Rattle.std.specs.Prelude.{ℕ, List, [], ◌∷◌, ◌++◌, map, not, ◌==◌, ◌&&◌, nat_le, Option, Some, None, filter}
 use Rattle.std.specs.Prelude.{if◌then◌else◌}
 use Rattle.std.specs.List.{flat_map}
 use Rattle.pv_value.specs.Plain.{Plain, sequence, plains}
 use Rattle.dp_pattern.specs.Patterns.{Pattern}
 use Rattle.dp_pattern.specs.Matching.{same, matched}
-use Rattle.ds_space.specs.declared.references.Reference.{Reference}
 use Rattle.ds_space.specs.Wants.{observer_of}
 use Rattle.ac_table.specs.declared.batches.Row.{Row}
-use Rattle.ac_world.specs.Turns.{observer_in}
+use Rattle.ac_world.specs.declared.aims.Aim.{Aim}
+use Rattle.ac_world.specs.Turns.{aim_at, observer_in}
 use Rattle.ac_world.specs.Worlds.{actor_of}
 use Rattle.rl_ports.specs.Ports.{PortsState}
 use Rattle.rl_wire.specs.Crossing.{crossed_out}
@@ -38,22 +39,28 @@ abbrev pub captures_by : Pattern → List Plain → List Plain
 captures_by p vs = flat_map (λ v. as_sequence (matched p v)) vs
 
 -- a value at an object of connection k, which has these exports
-abbrev pub pair_at : List Reference → ℕ → ℕ → Plain → Pair
+abbrev pub pair_at : List Plain → ℕ → ℕ → Plain → Pair
 pair_at exports k entity v = record { oid = entity; value = crossed_out exports k v }
 
--- an observer that is an object of connection k holds each distinct list of captures
-abbrev pub told_by : List Reference → ℕ → List Plain → Option Reference → Option Pattern → List Pair
+-- what gets through to an object, where it is one of connection k's
+abbrev pub pair_aimed : List Plain → ℕ → Option Aim → List Pair
+pair_aimed exports k None = []
+pair_aimed exports k (Some aim) =
+    if aim.at.at == actor_of k then pair_at exports k aim.at.entity aim.value ∷ [] else []
+
+-- an observer holds each distinct list of captures, as its reference's caveats let it pass
+abbrev pub told_by : List Plain → ℕ → List Plain → Option Plain → Option Pattern → List Pair
 told_by exports k vs (Some r) (Some p) =
-    if r.at == actor_of k then map (pair_at exports k r.entity) (distinct (captures_by p vs)) else []
+    flat_map (λ c. pair_aimed exports k (aim_at c r)) (distinct (captures_by p vs))
 told_by exports k vs (Some r) None = []
 told_by exports k vs None o = []
 
 -- for each distinct observation among the values at a dataspace
-abbrev pub told_over : List Reference → ℕ → List Plain → List Pair
+abbrev pub told_over : List Plain → ℕ → List Plain → List Pair
 told_over exports k vs = flat_map (λ o. told_by exports k vs (observer_in o) (observer_of o)) (distinct vs)
 
 -- and what connections assert at it directly
-abbrev pub told_directly : List Reference → ℕ → List Row → List Pair
+abbrev pub told_directly : List Plain → ℕ → List Row → List Pair
 told_directly exports k rows =
     map (λ r. pair_at exports k r.entity r.value)
     (filter (λ r. (r.target == actor_of k) && nat_le 17 r.owner) rows)
@@ -61,16 +68,16 @@ told_directly exports k rows =
 abbrev pub dataspaces : List ℕ
 dataspaces = 1 ∷ 2 ∷ 3 ∷ 4 ∷ 5 ∷ 6 ∷ 7 ∷ 8 ∷ []
 
-abbrev pub scratch_at : List Reference → ℕ → List Row → List Pair
+abbrev pub scratch_at : List Plain → ℕ → List Row → List Pair
 scratch_at exports k rows =
     flat_map (λ d. told_over exports k (asserted_at d rows)) dataspaces ++ told_directly exports k rows
 
-abbrev pub exports_in : Option PortsState → List Reference
+abbrev pub exports_in : Option PortsState → List Plain
 exports_in None = []
 exports_in (Some ports) = ports.exports
 
 -- the exports of a live connection
-abbrev pub exports_of : ℕ → State → List Reference
+abbrev pub exports_of : ℕ → State → List Plain
 exports_of k s = exports_in (ports_of k s)
 
 -- connection k, from scratch: from the rows and its exports alone

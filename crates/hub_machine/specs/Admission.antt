@@ -16,7 +16,9 @@ use Rattle.ac_world.specs.Worlds.{WorldState, entry_of, with_entry, actor_of, is
 use Rattle.rl_packet.specs.declared.packets.Event.{Event}
 use Rattle.rl_packet.specs.declared.packets.Event.TheVariants.{Assert, Retract, Message, Sync}
 use Rattle.rl_packet.specs.declared.packets.TurnEvent.{TurnEvent}
-use Rattle.ds_space.specs.declared.references.Reference.{Reference}
+use Rattle.sr_caveat.specs.declared.caps.Cap.{Cap}
+use Rattle.sr_caveat.specs.Caps.{cap_of}
+use Rattle.sr_caveat.specs.Passing.{passed, no_names}
 use Rattle.rl_wire.specs.Crossing.{crossed_in, fault_in}
 use Rattle.rl_wire.specs.declared.faults.WireFault.{WireFault}
 use Rattle.rl_wire.specs.declared.faults.WireFault.TheVariants as wire
@@ -60,11 +62,11 @@ abbrev pub rows_with : ℕ → Admitting → ℕ
 rows_with w x = top (x.rows + w)
 
 -- whether events at an object wait for one of the system's actors
-abbrev pub waits_at : Reference → WorldState → Bool
-waits_at to w = is_system to.at && is_live to.at w.table
+abbrev pub waits_at : Cap → WorldState → Bool
+waits_at to w = is_system to.actor && is_live to.actor w.table
 
 -- what waits for them, with one event more that weighs so much
-abbrev pub load_with : WorldState → Reference → ℕ → Admitting → Load
+abbrev pub load_with : WorldState → Cap → ℕ → Admitting → Load
 load_with w to n x = if waits_at to w then top_load (both x.load (one n)) else x.load
 
 -- what is inside an embedded value
@@ -74,8 +76,8 @@ inside v = v
 
 -- ---- causes, the first that holds before the others; values are as the server keeps them
 
--- why a value can't come in at connection k: an export in it isn't there, or as the server keeps it, it is too heavy or
--- too deep
+-- why a value can't come in at connection k: a reference in it names an export that isn't there, has too many caveats
+-- or is too heavy with them; or as the server keeps it, the value is too heavy or too deep
 abbrev pub fault_of : WireFault → Option Fault
 fault_of (wire.UnknownOid n) = Some (UnknownOid n)
 fault_of (wire.Limit which n) = Some (Limit which n)
@@ -88,50 +90,70 @@ value_cause k v x = option_and_then fault_of (fault_in x.ports.exports k v)
 abbrev pub kept : ℕ → Plain → Admitting → Plain
 kept k v x = crossed_in x.ports.exports k v
 
+-- what an export's caveats let pass of a value that is sent through it
+abbrev pub let_through : Cap → Plain → Option Plain
+let_through to v = passed no_names to.caveats v
+
 abbrev pub load_cause : Load → Option Fault
 load_cause l = over 65536 10 l.count <|> over 16777216 11 l.weight
 
 abbrev pub handle_cause : ℕ → Admitting → Option Fault
 handle_cause h x = where_it_is (is_in_use h x.ports) (HandleInUse h)
 
-abbrev pub assertion_cause : ℕ → WorldState → Reference → Plain → ℕ → Admitting → Option Fault
+-- what would be counted of the row; where the caveats refused the value there is none
+abbrev pub row_cause : WorldState → Cap → Option Plain → Admitting → Option Fault
+row_cause w to None x = None
+row_cause w to (Some v) x =
+    over 4194304 5 (rows_with (weighed v) x) <|> load_cause (load_with w to (weighed v) x)
+
+abbrev pub assertion_cause : ℕ → WorldState → Cap → Plain → ℕ → Admitting → Option Fault
 assertion_cause k w to v h x =
     value_cause k v x
     <|> handle_cause h x
     <|> over 4096 4 (top (length x.ports.handles + 1))
-    <|> over 4194304 5 (rows_with (weighed (kept k v x)) x)
-    <|> load_cause (load_with w to (weighed (kept k v x)) x)
+    <|> row_cause w to (let_through to (kept k v x)) x
 
 abbrev pub retraction_cause : ℕ → Admitting → Option Fault
 retraction_cause h x = where_it_is (not (is_in_use h x.ports)) (UnknownHandle h)
 
-abbrev pub message_cause : ℕ → WorldState → Reference → Plain → Admitting → Option Fault
-message_cause k w to v x = value_cause k v x <|> load_cause (load_with w to (weighed (kept k v x)) x)
+-- what would wait; a message that the caveats refused is dropped
+abbrev pub said_cause : WorldState → Cap → Option Plain → Admitting → Option Fault
+said_cause w to None x = None
+said_cause w to (Some v) x = load_cause (load_with w to (weighed v) x)
 
--- a sync weighs what its peer weighs, without a node for the embedding
-abbrev pub sync_cause : ℕ → WorldState → Reference → Plain → Admitting → Option Fault
+abbrev pub message_cause : ℕ → WorldState → Cap → Plain → Admitting → Option Fault
+message_cause k w to v x = value_cause k v x <|> said_cause w to (let_through to (kept k v x)) x
+
+-- a sync has no value that caveats could look at; it weighs what its peer weighs, without a node for the embedding
+abbrev pub sync_cause : ℕ → WorldState → Cap → Plain → Admitting → Option Fault
 sync_cause k w to peer x =
     value_cause k peer x <|> load_cause (load_with w to (weighed (inside (kept k peer x))) x)
 
-abbrev pub event_cause : ℕ → WorldState → Reference → Event → Admitting → Option Fault
+abbrev pub event_cause : ℕ → WorldState → Cap → Event → Admitting → Option Fault
 event_cause k w to (Assert v h) x = assertion_cause k w to v h x
 event_cause k w to (Retract h) x = retraction_cause h x
 event_cause k w to (Message v) x = message_cause k w to v x
 event_cause k w to (Sync peer) x = sync_cause k w to peer x
 
+-- the reference that an export of this number is
+abbrev pub cap_at : ℕ → PortsState → Option Cap
+cap_at oid p = option_and_then cap_of (export_of oid p)
+
 -- an event is at an export, which has to be there
-abbrev pub cause_at : ℕ → WorldState → Option Reference → TurnEvent → Admitting → Option Fault
+abbrev pub cause_at : ℕ → WorldState → Option Cap → TurnEvent → Admitting → Option Fault
 cause_at k w None e x = Some (UnknownOid e.oid)
 cause_at k w (Some to) e x = event_cause k w to e.event x
 
 abbrev pub cause_of : ℕ → WorldState → TurnEvent → Admitting → Option Fault
-cause_of k w e x = cause_at k w (export_of e.oid x.ports) e x
+cause_of k w e x = cause_at k w (cap_at e.oid x.ports) e x
 
 -- ---- what an event leaves
 
-abbrev pub after_assertion : WorldState → Reference → Plain → ℕ → Admitting → Admitting
-after_assertion w to v h x = record {
-  acts = x.acts ++ act.Assert to.at to.entity v ∷ [];
+-- a value that gets through makes a row under the next handle; of one that is refused the handle alone is noted
+abbrev pub after_assertion : WorldState → Cap → Option Plain → ℕ → Admitting → Admitting
+after_assertion w to None h x = record x { ports = taken_into_use h Refused x.ports }
+after_assertion w to (Some v) h x = record {
+  acts = x.acts ++ act.Assert to.actor to.entity v ∷ [];
   made = with_entry x.next (weighed v) x.made;
   ports = taken_into_use h (Row x.next) x.ports;
   rows = rows_with (weighed v) x;
@@ -156,26 +178,27 @@ after_retraction h (Some (Row n)) w x = record x {
   rows = x.rows - row_weighs n w x;
 }
 
-abbrev pub after_message : WorldState → Reference → Plain → Admitting → Admitting
-after_message w to v x =
-    record x { acts = x.acts ++ act.Message to.at to.entity v ∷ []; load = load_with w to (weighed v) x }
+abbrev pub after_message : WorldState → Cap → Option Plain → Admitting → Admitting
+after_message w to None x = x
+after_message w to (Some v) x =
+    record x { acts = x.acts ++ act.Message to.actor to.entity v ∷ []; load = load_with w to (weighed v) x }
 
-abbrev pub after_sync : WorldState → Reference → Plain → Admitting → Admitting
+abbrev pub after_sync : WorldState → Cap → Plain → Admitting → Admitting
 after_sync w to peer x =
-    record x { acts = x.acts ++ act.Sync to.at to.entity peer ∷ []; load = load_with w to (weighed peer) x }
+    record x { acts = x.acts ++ act.Sync to.actor to.entity peer ∷ []; load = load_with w to (weighed peer) x }
 
-abbrev pub after_event : ℕ → WorldState → Reference → Event → Admitting → Admitting
-after_event k w to (Assert v h) x = after_assertion w to (kept k v x) h x
+abbrev pub after_event : ℕ → WorldState → Cap → Event → Admitting → Admitting
+after_event k w to (Assert v h) x = after_assertion w to (let_through to (kept k v x)) h x
 after_event k w to (Retract h) x = after_retraction h (inbound_of h x.ports) w x
-after_event k w to (Message v) x = after_message w to (kept k v x) x
+after_event k w to (Message v) x = after_message w to (let_through to (kept k v x)) x
 after_event k w to (Sync peer) x = after_sync w to (inside (kept k peer x)) x
 
-abbrev pub after_at : ℕ → WorldState → Option Reference → Event → Admitting → Admitting
+abbrev pub after_at : ℕ → WorldState → Option Cap → Event → Admitting → Admitting
 after_at k w None e x = x
 after_at k w (Some to) e x = after_event k w to e x
 
 abbrev pub after : ℕ → WorldState → TurnEvent → Admitting → Admitting
-after k w e x = after_at k w (export_of e.oid x.ports) e.event x
+after k w e x = after_at k w (cap_at e.oid x.ports) e.event x
 
 -- ---- all events
 

@@ -2,7 +2,7 @@
 -- handles are right; and that a turn takes exactly the first batch.
 use Rattle.std.specs.Prelude.{◌≡◌, ℕ, ◌+◌, ◌-◌, ◌≤◌, List, [], ◌∷◌, Bool, true, false, length, Option, Some, None}
 use Rattle.pv_value.specs.Plain.{Plain}
-use Rattle.ds_space.specs.declared.references.Reference.{Reference}
+use Rattle.sr_caveat.specs.declared.caps.Cap.{Cap}
 use Rattle.ac_table.specs.declared.batches.Batch.{Batch}
 use Rattle.ac_table.specs.Tables.{first_batch}
 use Rattle.ac_world.specs.declared.sums.Load.{Load}
@@ -10,11 +10,12 @@ use Rattle.ac_world.specs.Worlds.{WorldState, is_system}
 use Rattle.rl_packet.specs.declared.packets.Event.{Event}
 use Rattle.rl_packet.specs.declared.packets.Event.TheVariants.{Assert, Retract, Message, Sync}
 use Rattle.rl_packet.specs.declared.packets.TurnEvent.{TurnEvent}
-use Rattle.rl_ports.specs.Ports.{PortsState, is_in_use, export_of}
-use Rattle.rl_wire.specs.Crossing.{held_in, first_unknown, nested}
+use Rattle.rl_ports.specs.Ports.{PortsState, is_in_use}
+use Rattle.rl_wire.specs.Crossing.{held_in, first_fault, nested}
 use Rattle.hub_machine.specs.Faults.{Fault}
 use Rattle.hub_machine.specs.State.{State, ports_of}
 use Rattle.hub_machine.specs.Admission.{Admitting, before_all, after, kept, weighed, rows_with, load_with, inside}
+use Rattle.hub_machine.specs.Admission.{let_through, cap_at}
 use Rattle.hub_machine.specs.Machine.{is_worn, packet_to, telling_fault, exports_after}
 use Rattle.hub_machine.specs.declared.steps.Step.{Step}
 use Rattle.hub_machine.specs.declared.steps.Step.TheVariants.{Arrive, Packet, Bad, Close, Turn, Work, Stop}
@@ -29,32 +30,42 @@ IsLight v = (weighed v ≤ 1048576) × (nested v ≤ 48)
 abbrev pub MayWait : Load → Type 0
 MayWait l = (l.count ≤ 65536) × (l.weight ≤ 16777216)
 
--- each export that it names is there, and as the server keeps it the value is neither too heavy nor too deep
+-- each export that it names is there, no reference in it has too many caveats or is too heavy, and as the server keeps
+-- it the value is neither too heavy nor too deep
 abbrev pub IsFineValue : ℕ → Plain → Admitting → Type 0
-IsFineValue k v x = (first_unknown x.ports.exports (held_in v) ≡ None) × IsLight (kept k v x)
+IsFineValue k v x = (first_fault x.ports.exports (held_in v) ≡ None) × IsLight (kept k v x)
 
-abbrev pub IsFineAssertion : ℕ → WorldState → Reference → Plain → ℕ → Admitting → Type 0
+-- the row is light enough and may wait; where the caveats refuse the value there is none
+abbrev pub IsFineRow : WorldState → Cap → Option Plain → Admitting → Type 0
+IsFineRow w to None x = Unit {0}
+IsFineRow w to (Some v) x = (rows_with (weighed v) x ≤ 4194304) × MayWait (load_with w to (weighed v) x)
+
+abbrev pub IsFineAssertion : ℕ → WorldState → Cap → Plain → ℕ → Admitting → Type 0
 IsFineAssertion k w to v h x =
     IsFineValue k v x × (is_in_use h x.ports ≡ false) × (length x.ports.handles + 1 ≤ 4096)
-    × (rows_with (weighed (kept k v x)) x ≤ 4194304) × MayWait (load_with w to (weighed (kept k v x)) x)
+    × IsFineRow w to (let_through to (kept k v x)) x
+
+abbrev pub IsFineMessage : WorldState → Cap → Option Plain → Admitting → Type 0
+IsFineMessage w to None x = Unit {0}
+IsFineMessage w to (Some v) x = MayWait (load_with w to (weighed v) x)
 
 -- the event keeps to the limits, and its handle is right
-abbrev pub IsFineEvent : ℕ → WorldState → Reference → Event → Admitting → Type 0
+abbrev pub IsFineEvent : ℕ → WorldState → Cap → Event → Admitting → Type 0
 IsFineEvent k w to (Assert v h) x = IsFineAssertion k w to v h x
 IsFineEvent k w to (Retract h) x = is_in_use h x.ports ≡ true
-IsFineEvent k w to (Message v) x = IsFineValue k v x × MayWait (load_with w to (weighed (kept k v x)) x)
+IsFineEvent k w to (Message v) x = IsFineValue k v x × IsFineMessage w to (let_through to (kept k v x)) x
 IsFineEvent k w to (Sync peer) x =
     IsFineValue k peer x × MayWait (load_with w to (weighed (inside (kept k peer x))) x)
 
 -- and its object is an export
-abbrev pub IsFineAt : ℕ → WorldState → Option Reference → Event → Admitting → Type 0
+abbrev pub IsFineAt : ℕ → WorldState → Option Cap → Event → Admitting → Type 0
 IsFineAt k w None e x = ⊥
 IsFineAt k w (Some to) e x = IsFineEvent k w to e x
 
 -- each event, as those before it leave what is counted
 abbrev pub AreFine : ℕ → WorldState → List TurnEvent → Admitting → Type 0
 AreFine k w [] x = Unit {0}
-AreFine k w (e ∷ es) x = IsFineAt k w (export_of e.oid x.ports) e.event x × AreFine k w es (after k w e x)
+AreFine k w (e ∷ es) x = IsFineAt k w (cap_at e.oid x.ports) e.event x × AreFine k w es (after k w e x)
 
 abbrev pub IsFineFor : ℕ → Option PortsState → List TurnEvent → State → Type 0
 IsFineFor k None es s = ⊥

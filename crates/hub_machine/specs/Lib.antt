@@ -1,5 +1,4 @@
 pub mod Admission
-pub mod Bareness
 pub mod Causes
 pub mod Completeness
 pub mod Endings

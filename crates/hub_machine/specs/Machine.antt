@@ -15,13 +15,14 @@ use Rattle.ac_world.specs.Turns.{turn}
 use Rattle.rl_packet.specs.declared.packets.Event.TheVariants.{Assert, Retract, Message, Sync}
 use Rattle.rl_packet.specs.declared.packets.TurnEvent.{TurnEvent}
 use Rattle.rl_packet.specs.declared.packets.Packet.TheVariants as packet
-use Rattle.ds_space.specs.declared.references.Reference.{Reference}
+use Rattle.ds_space.specs.References.{reference_value}
 use Rattle.rl_ports.specs.declared.ports.PortsFault.{PortsFault}
 use Rattle.rl_ports.specs.declared.ports.PortsFault.TheVariants.{Exports, Weight, NoMemory}
 use Rattle.rl_ports.specs.Ports.{PortsState, ports_to, with_exports}
 use Rattle.rl_wire.specs.Crossing.{crossed_out, foreign_in, all_exported, fault_out}
 use Rattle.hub_machine.specs.Faults.{Fault, Overrun, error_of}
-use Rattle.hub_machine.specs.Bareness.{are_bare}
+use Rattle.rl_packet.specs.Wired.{IsTurnEvent}
+use Rattle.std.specs.List.{AllByRecursion}
 use Rattle.hub_machine.specs.State.{State, ports_of}
 use Rattle.hub_machine.specs.Admission.{Admitted, refused, admitted, Admitting, admission}
 use Rattle.hub_machine.specs.Endings.{nameless, departed_for, closed, failed, finished}
@@ -45,11 +46,15 @@ ends xs s r = record { state = finished xs s; reply = r }
 
 -- ---- an arrival
 
+-- the reference to an actor itself
+abbrev pub actor_reference : ℕ → Plain
+actor_reference a = reference_value (record { at = a; entity = 0 })
+
 -- a connection comes, with actor `space` as its object 0
 abbrev pub opened : ℕ → State → State
 opened space s = record s {
   world = arrived s.world;
-  connections = with_entry (s.world.opened + 1) (ports_to (record { at = space; entity = 0 })) s.connections;
+  connections = with_entry (s.world.opened + 1) (ports_to (actor_reference space)) s.connections;
 }
 
 -- why none comes
@@ -96,16 +101,16 @@ told_value (told.Retract h entity) = None
 told_value (told.Message entity v) = Some v
 told_value (told.Sync entity peer) = Some (embedded peer)
 
--- the objects of others of which connection k is told, in order
-abbrev pub foreign_told : ℕ → Option Plain → List Reference
+-- the references of which connection k is told, those to its own objects excepted, in order
+abbrev pub foreign_told : ℕ → Option Plain → List Plain
 foreign_told k None = []
 foreign_told k (Some v) = foreign_in k v
 
-abbrev pub foreign_to : ℕ → Batch → List Reference
+abbrev pub foreign_to : ℕ → Batch → List Plain
 foreign_to k b = flat_map (λ e. foreign_told k (told_value e)) b.events
 
 -- an event as connection k is told of it, its references as the connection knows them by its exports
-abbrev pub sent_event : List Reference → ℕ → Told → TurnEvent
+abbrev pub sent_event : List Plain → ℕ → Told → TurnEvent
 sent_event exports k (told.Assert h entity v) =
     record { oid = entity; event = Assert (crossed_out exports k v) h }
 sent_event exports k (told.Retract h entity) = record { oid = entity; event = Retract h }
@@ -114,7 +119,7 @@ sent_event exports k (told.Message entity v) =
 sent_event exports k (told.Sync entity peer) =
     record { oid = entity; event = Sync (crossed_out exports k (embedded peer)) }
 
-abbrev pub packet_to : List Reference → ℕ → Batch → Reply
+abbrev pub packet_to : List Plain → ℕ → Batch → Reply
 packet_to exports k b = Sent (packet.Turn (map (sent_event exports k) b.events))
 
 -- more would be exported than may be
@@ -127,7 +132,7 @@ abbrev pub telling_fault : ℕ → Batch → PortsState → Option Fault
 telling_fault k b ports = option_and_then overrun_by (fault_out ports.exports (foreign_to k b))
 
 -- the exports once the batch is told
-abbrev pub exports_after : ℕ → Batch → PortsState → List Reference
+abbrev pub exports_after : ℕ → Batch → PortsState → List Plain
 exports_after k b ports = all_exported ports.exports (foreign_to k b)
 
 abbrev pub exporting : ℕ → Batch → PortsState → State → State
@@ -191,10 +196,20 @@ done s Stop = ends [] (record s { stopped = true }) Taken
 abbrev pub step : State → Step → After
 step s e = if is_worn s e then unchanged s Worn else done s e
 
--- What a caller sees to, until the gatekeeper and caveats are built.
+-- what a caller sees to: until the gatekeeper is built, that an arrival names a dataspace
+abbrev pub IsBuilt : Step → Type 0
+IsBuilt (Arrive space) = space ≢ 0
+IsBuilt (Packet k es) = Unit {0}
+IsBuilt (Bad k f) = Unit {0}
+IsBuilt (Close k) = Unit {0}
+IsBuilt (Turn a) = Unit {0}
+IsBuilt Work = Unit {0}
+IsBuilt Stop = Unit {0}
+
+-- and what the type of steps keeps beside: the events of a packet may stand on the wire
 abbrev pub IsAllowed : State → Step → Type 0
 IsAllowed s (Arrive space) = space ≢ 0
-IsAllowed s (Packet k es) = are_bare es ≡ true
+IsAllowed s (Packet k es) = AllByRecursion IsTurnEvent es
 IsAllowed s (Bad k f) = Unit {0}
 IsAllowed s (Close k) = Unit {0}
 IsAllowed s (Turn a) = Unit {0}

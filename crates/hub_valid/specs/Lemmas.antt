@@ -1,8 +1,10 @@
 -- Lemmas on the definitions, which proofs above cite. A reader of the contracts needs none of them.
 pub mod Admitted
+pub mod Aims
 pub mod Captured
 pub mod Crossed
 pub mod Hubs
+pub mod Passed
 pub mod Turns
 pub mod Values
 pub mod WorldLists

@@ -1,24 +1,27 @@
 -- What the parts of the proof promise one another, and what the hub's code rests on.
-use Rattle.std.specs.Prelude.{◌≡◌, ℕ, ◌+◌, ◌^◌, ◌<◌, ◌≤◌, true, List, length, map}
+use Rattle.std.specs.Prelude.{◌≡◌, ℕ, ◌+◌, ◌^◌, ◌<◌, ◌≤◌, List, Some, length, map}
 use Rattle.std.specs.List.{AllByRecursion}
 use Rattle.pv_value.specs.Plain.{Plain}
-use Rattle.ds_space.specs.declared.references.Reference.{Reference}
 use Rattle.ac_table.specs.declared.batches.Batch.{Batch}
 use Rattle.ac_world.specs.Turns.{turn}
 use Rattle.ac_world.specs.declared.turns.Turned.TheVariants as turned
 use Rattle.rl_packet.specs.declared.packets.TurnEvent.{TurnEvent}
 use Rattle.rl_packet.specs.Wired.{IsTurnEvent}
 use Rattle.rl_ports.specs.Ports.{PortsState}
-use Rattle.rl_wire.specs.Crossing.{are_references}
+use Rattle.sr_caveat.specs.declared.caps.Cap.{Cap}
+use Rattle.sr_caveat.specs.Caps.{cap_of}
+use Rattle.sr_caveat.specs.Passing.{passed, no_names}
 use Rattle.hub_machine.specs.State.{State}
-use Rattle.hub_machine.specs.Bareness.{are_bare}
 use Rattle.hub_machine.specs.Admission.{Admitting, admission, admitted}
 use Rattle.hub_machine.specs.Endings.{nameless, departed}
 use Rattle.hub_machine.specs.Machine.{opened, accepted, exporting, sent_event}
 use Rattle.hub_valid.specs.Validity.{IsValid, IsValidEntry, IsValidAct, IsValidBatch, HoldsObjects}
 
-abbrev pub HoldsReferences : Type 0
-HoldsReferences = (n : ℕ) (v : Plain) → HoldsObjects n v → are_references v ≡ true
+-- what a reference's caveats let pass holds references to no other actors' objects than those that were live
+abbrev pub PassedIsValid : Type 0
+PassedIsValid =
+    (n : ℕ) (x v w : Plain) (c : Cap) → cap_of x ≡ Some c → HoldsObjects n v → passed no_names c.caveats v ≡ Some w
+    → HoldsObjects n w
 
 -- a connection comes, whose first object is a system actor's
 abbrev pub OpenedIsValid : Type 0
@@ -29,13 +32,13 @@ OpenedIsValid =
 abbrev pub ActsAreValid : Type 0
 ActsAreValid =
     (k : ℕ) (ports : PortsState) (es : List TurnEvent) (x : Admitting) (s : State) → IsValid s
-    → IsValidEntry s.world.opened (k, ports) → are_bare es ≡ true → admission k ports s.world es ≡ admitted x
+    → IsValidEntry s.world.opened (k, ports) → AllByRecursion IsTurnEvent es → admission k ports s.world es ≡ admitted x
     → AllByRecursion (IsValidAct (16 + s.world.opened)) x.acts
 
 abbrev pub AcceptedIsValid : Type 0
 AcceptedIsValid =
     (k : ℕ) (ports : PortsState) (es : List TurnEvent) (x : Admitting) (s : State) → IsValid s
-    → IsValidEntry s.world.opened (k, ports) → are_bare es ≡ true → admission k ports s.world es ≡ admitted x
+    → IsValidEntry s.world.opened (k, ports) → AllByRecursion IsTurnEvent es → admission k ports s.world es ≡ admitted x
     → IsValid (accepted k x s)
 
 abbrev pub NamelessIsValid : Type 0
@@ -61,5 +64,5 @@ ExportingIsValid =
 -- what a connection is told of such a batch may stand in a packet
 abbrev pub SentIsSound : Type 0
 SentIsSound =
-    (n next k : ℕ) (exports : List Reference) (b : Batch) → IsValidBatch n next b → next ≤ 2 ^ 63
+    (n next k : ℕ) (exports : List Plain) (b : Batch) → IsValidBatch n next b → next ≤ 2 ^ 63
     → length exports ≤ 4096 → AllByRecursion IsTurnEvent (map (sent_event exports k) b.events)

@@ -3,8 +3,8 @@ use Rattle.std.specs.Prelude.{ℕ, ◌+◌, ◌^◌, ◌<◌, ◌≤◌, List, I
 use Rattle.std.specs.List.{AllByRecursion}
 use Rattle.std.specs.Map.{values_of}
 use Rattle.pv_value.specs.Plain.{Plain}
-use Rattle.ds_space.specs.declared.references.Reference.{Reference}
-use Rattle.ds_space.specs.References.{reference_of}
+use Rattle.sr_caveat.specs.declared.caps.Cap.{Cap}
+use Rattle.sr_caveat.specs.Caps.{cap_of}
 use Rattle.ac_table.specs.declared.batches.Row.{Row}
 use Rattle.ac_table.specs.declared.batches.Event.{Event}
 use Rattle.ac_table.specs.declared.batches.Event.TheVariants.{Assert, Retract, Message, Sync}
@@ -21,13 +21,13 @@ use Rattle.hub_machine.specs.declared.steps.Step.{Step}
 
 -- ---- objects and values
 
--- the object of an actor that is or was live
-abbrev pub IsObject : ℕ → Reference → Type 0
-IsObject n r = (r.at ≤ n) × (r.entity < 2 ^ 63)
+-- a reference to an object of an actor that is or was live
+abbrev pub IsObject : ℕ → Cap → Type 0
+IsObject n c = (c.actor ≤ n) × (c.entity < 2 ^ 63)
 
--- the value of such an object
+-- the value of such a reference
 abbrev pub IsObjectValue : ℕ → Plain → Type 0
-IsObjectValue n x = IsSomeAnd (reference_of x) (IsObject n)
+IsObjectValue n x = IsSomeAnd (cap_of x) (IsObject n)
 
 -- each embedded value in it that isn't inside another holds one
 abbrev pub HoldsObjects : ℕ → Plain → Type 0
@@ -67,9 +67,9 @@ pub record IsValidWorld (w : WorldState) : Type 0 where
 
 -- ---- the hub
 
--- the connection has come, and its exports are objects
+-- the connection has come, and its exports are references to such objects
 abbrev pub IsValidEntry : ℕ → ℕ × PortsState → Type 0
-IsValidEntry opened e = (e.0 ≤ opened) × AllByRecursion (IsObject (16 + opened)) e.1.exports
+IsValidEntry opened e = (e.0 ≤ opened) × AllByRecursion (IsObjectValue (16 + opened)) e.1.exports
 
 -- What a world and the names of its connections are in a valid state. Few enough connections have come that the number
 -- of each one's actor can stand in a reference.

@@ -1,13 +1,14 @@
--- What a connection names by numbers of its own: objects of others that it was told of, by the numbers of its exports,
--- and its assertions, by inbound handles. Syndicate Protocol, "wire references"; the limits are this server's own.
+-- What a connection names by numbers of its own: references that it was told of, by the numbers of its exports, and its
+-- assertions, by inbound handles. A reference is its value `[actor entity caveat ..]`. Syndicate Protocol, "wire
+-- references"; the limits are this server's own.
 use Rattle.std.specs.Prelude.{◌≡◌, ℕ, zero, suc, ◌+◌, ◌-◌, ◌^◌, min, List, [], ◌∷◌, ◌++◌, length, Bool, is_some, nat_lt}
 use Rattle.std.specs.Prelude.{Option, Some, None, option_map, unwrap_or, slice_get, if◌then◌else◌}
 use Rattle.std.specs.Map.{lookup, remove_entry}
 use Rattle.std.specs.BTreeMap.{insert_entry, is_at}
 use Rattle.std.specs.Ordering.{nat_cmp}
 use Rattle.pv_value.specs.Weight.{weight}
-use Rattle.ds_space.specs.References.{reference_value, is_same}
-use Rattle.ds_space.specs.declared.references.Reference.{Reference}
+use Rattle.pv_value.specs.Plain.{Plain}
+use Rattle.dp_pattern.specs.Matching.{same}
 pub use Rattle.rl_ports.specs.declared.ports.Inbound.{Inbound}
 pub use Rattle.rl_ports.specs.declared.ports.Inbound.TheVariants.{Row, Refused}
 pub use Rattle.rl_ports.specs.declared.ports.PortsFault.{PortsFault}
@@ -15,11 +16,11 @@ pub use Rattle.rl_ports.specs.declared.ports.PortsFault.TheVariants.{Exports, We
 
 -- exports by their numbers, from 0 on, each once; and what each handle in use stands for
 pub record PortsState : Type 0 where
-  pub exports : List Reference
+  pub exports : List Plain
   pub handles : List (ℕ × Inbound)
 
--- export 0 is the connection's first object
-abbrev pub ports_to : Reference → PortsState
+-- export 0 is the reference to the connection's first object
+abbrev pub ports_to : Plain → PortsState
 ports_to first = record { exports = first ∷ []; handles = [] }
 
 -- ---- handles
@@ -40,41 +41,41 @@ freed h p = record { exports = p.exports; handles = remove_entry (is_at (nat_cmp
 -- ---- exports
 
 -- the export of this number
-abbrev pub export_of : ℕ → PortsState → Option Reference
+abbrev pub export_of : ℕ → PortsState → Option Plain
 export_of n p = slice_get p.exports n
 
 -- the number of an export, where it is one
-abbrev pub place_of : Reference → List Reference → Option ℕ
+abbrev pub place_of : Plain → List Plain → Option ℕ
 place_of r [] = None
-place_of r (x ∷ xs) = if is_same r x then Some zero else option_map suc (place_of r xs)
+place_of r (x ∷ xs) = if same r x then Some zero else option_map suc (place_of r xs)
 
 -- with one export more, which has the next number, where it isn't there
-abbrev pub exported : Reference → List Reference → List Reference
+abbrev pub exported : Plain → List Plain → List Plain
 exported r xs = if is_some (place_of r xs) then xs else xs ++ r ∷ []
 
 -- the number that an export has from then on
-abbrev pub number_of : Reference → List Reference → ℕ
+abbrev pub number_of : Plain → List Plain → ℕ
 number_of r xs = unwrap_or (place_of r xs) (length xs)
 
-abbrev pub weight_of : List Reference → ℕ
+abbrev pub weight_of : List Plain → ℕ
 weight_of [] = 0
-weight_of (x ∷ xs) = weight (reference_value x) + weight_of xs
+weight_of (x ∷ xs) = weight x + weight_of xs
 
 -- a weight as it is told: it stops at the greatest 64-bit number
 abbrev pub told : ℕ → ℕ
 told n = min n (2 ^ 64 - 1)
 
 -- at most 4,096 exports, export 0 among them, which weigh at most 4,194,304 together
-abbrev pub export_fault : List Reference → Option PortsFault
+abbrev pub export_fault : List Plain → Option PortsFault
 export_fault xs =
     if nat_lt 4096 (length xs) then Some (Exports (length xs))
     else if nat_lt 4194304 (told (weight_of xs)) then Some (Weight (told (weight_of xs))) else None
 
 -- why an export more is refused: what is there already is never refused
-abbrev pub fault_at : Reference → List Reference → Option PortsFault
+abbrev pub fault_at : Plain → List Plain → Option PortsFault
 fault_at r xs = if is_some (place_of r xs) then None else export_fault (xs ++ r ∷ [])
 
-abbrev pub with_exports : List Reference → PortsState → PortsState
+abbrev pub with_exports : List Plain → PortsState → PortsState
 with_exports xs p = record { exports = xs; handles = p.handles }
 
 -- the fault is why; where memory ran out, nothing is said

@@ -3,38 +3,42 @@ ghost use Rattle.std.specs.Prelude.{◌≡◌, ◌-◌, ◌<◌, ◌≤◌, [], 
 ghost use Rattle.std.specs.Prelude.{cond};
 ghost use Rattle.std.specs.Prelude.{None, Some, IfOk, IfErr, OnOk, OnErr, vec_len, vec_capacity};
 ghost use Rattle.std.specs.BTreeMap.{is_at};
-ghost use Rattle.pv_value.specs.Weight.{weight as weight_in};
-ghost use Rattle.ds_space.specs.References.{reference_value as value_of};
+ghost use Rattle.std.specs.Option.{option_copied};
+ghost use Rattle.pv_value.specs.Plain.{Plain};
+ghost use Rattle.pv_value.specs.Order.{order};
 ghost use Rattle.rl_ports.specs.Ports.{place_of, export_fault, IsWhy};
-ghost use Rattle.rl_ports.specs.Kept.{reference_cmp, number_at, fault_of};
+ghost use Rattle.rl_ports.specs.Kept.{number_at, fault_of};
 
 use crate::ports::{EXPORTS, EXPORTS_WEIGHT, PortsFault};
-use ds_space::{Reference, reference_value};
-use pv_value::{NoMemory, weight};
+use pv_value::{NoMemory, Value, weight};
 use std::alloc::Global;
 use std::collections::BTreeMap;
 use std::marker::Model;
 
 /// An export, and what it weighs.
-#[derive(Clone, Copy)]
+#[derive(Drop)]
 struct Export {
-    reference: Reference,
+    reference: Value,
     weight: u64,
 }
 
-/// Exports by their numbers, from 0 on, one for each object.
+/// Exports by their numbers, from 0 on, one for each reference.
 #[derive(Drop)]
 pub(crate) struct ExportList {
     list: Vec<Export>,
-    numbers: BTreeMap<Reference, u64>,
+    numbers: BTreeMap<Value, u64>,
     weight: u64,
 }
 
 impl Model for ExportList {
     ghost use Rattle.std.specs.Prelude.{List};
-    ghost use Rattle.ds_space.specs.declared.references.Reference.{Reference};
+    ghost use Rattle.std.specs.Coded.{coded_list};
+    ghost use Rattle.pv_value.specs.Plain.{Plain};
+    ghost use Rattle.pv_value.specs.Lemmas.Coded.{plain_code};
 
-    ghost Value = { List Reference };
+    ghost Value = { List Plain };
+
+    ghost coded = { coded_list plain_code };
 
     ghost use Rattle.rl_ports.specs.Kept.{references, IsKept};
 
@@ -44,11 +48,11 @@ impl Model for ExportList {
 }
 
 impl ExportList {
-    /// Export 0 is that object, whatever it weighs.
-    pub(crate) fn new(alloc: Global, first: Reference) -> Result<ExportList, NoMemory>
+    /// Export 0 is that reference, whatever it weighs.
+    pub(crate) fn new(alloc: Global, first: Value) -> Result<ExportList, NoMemory>
         ensures { IfOk result (λ e. e ≡ first ∷ []) }
     {
-        let weight = weight_of(alloc, first)?;
+        let weight = weight(&first);
         let mut list = Vec::new(alloc);
         let mut numbers = BTreeMap::new(alloc);
         let export = Export {
@@ -64,11 +68,11 @@ impl ExportList {
     }
 
     /// The export of this number.
-    pub(crate) fn get(&self, number: usize) -> Option<Reference>
-        ensures { result ≡ slice_get self.now number }
+    pub(crate) fn get(&self, number: usize) -> Option<&Value>
+        ensures { option_copied result ≡ slice_get self.now number }
     {
         let export = self.list.get(number)?;
-        Some(export.reference)
+        Some(&export.reference)
     }
 
     /// How many there are. They are few.
@@ -80,25 +84,26 @@ impl ExportList {
     }
 
     /// The number of an export.
-    pub(crate) fn number(&self, reference: Reference) -> Option<u64>
-        ensures { result ≡ place_of reference self.now }
+    pub(crate) fn number(&self, reference: &Value) -> Option<u64>
+        ensures { result ≡ place_of reference.now self.now }
     {
-        self.numbers.get(&reference).copied()
+        self.numbers.get(reference).copied()
     }
 
     /// One export more, which has the next number. After a fault nothing has changed.
-    pub(crate) fn add(&mut self, alloc: Global, reference: Reference) -> Result<u64, PortsFault>
-        requires { place_of reference self.old ≡ None }
+    pub(crate) fn add(&mut self, reference: &Value) -> Result<u64, PortsFault>
+        requires { place_of reference.now self.old ≡ None }
         ensures number { IfOk result (λ n. n ≡ length self.old) }
-        ensures fits { OnOk result (export_fault (self.old ++ reference ∷ []) ≡ None) }
-        ensures done { OnOk result (self.new ≡ self.old ++ reference ∷ []) }
-        ensures fault { IfErr result (IsWhy (export_fault (self.old ++ reference ∷ []))) }
+        ensures fits { OnOk result (export_fault (self.old ++ reference.now ∷ []) ≡ None) }
+        ensures done { OnOk result (self.new ≡ self.old ++ reference.now ∷ []) }
+        ensures fault { IfErr result (IsWhy (export_fault (self.old ++ reference.now ∷ []))) }
         ensures undone { OnErr result (self.new ≡ self.old) }
     {
         let number = self.list.len() as u64;
-        let weight = weight_of(alloc, reference)?;
+        let weight = weight(reference);
         let sum = self.weight.saturating_add(weight);
         check(number + 1, sum)?;
+        let reference = reference.copy()?;
         let export = Export { reference, weight };
         put(&mut self.list, &mut self.numbers, export)?;
         self.weight = sum;
@@ -120,18 +125,9 @@ impl ExportList {
         ensures { self.new ≡ take (length self.old - 1) self.old }
     {
         if let Some(last) = self.list.pop() {
-            self.numbers.remove(&last.reference);
-            self.weight -= last.weight;
+            self.weight -= take_number(&mut self.numbers, last);
         }
     }
-}
-
-/// What an export weighs: as much as its value.
-fn weight_of(alloc: Global, reference: Reference) -> Result<u64, NoMemory>
-    ensures { IfOk result (λ w. w ≡ weight_in (value_of reference)) }
-{
-    let value = reference_value(alloc, reference)?;
-    Ok(weight(&value))
 }
 
 /// Whether so many exports, of this weight, are neither too many nor too heavy.
@@ -148,21 +144,31 @@ fn check(count: u64, weight: u64) -> Result<(), PortsFault>
     Ok(())
 }
 
+/// The export has no number any more. What it weighs is answered.
+fn take_number(numbers: &mut BTreeMap<Value, u64>, export: Export) -> u64
+    ensures weight { result ≡ export.weight }
+    ensures numbers { (r : Plain) → number_at r numbers.new.entries
+        ≡ cond (is_at (order export.reference) r) None (number_at r numbers.old.entries) }
+{
+    numbers.remove(&export.reference);
+    export.weight
+}
+
 /// One export more, and its number, or neither.
 fn put(
     list: &mut Vec<Export>,
-    numbers: &mut BTreeMap<Reference, u64>,
+    numbers: &mut BTreeMap<Value, u64>,
     export: Export,
 ) -> Result<(), NoMemory>
     ensures list { OnOk result (list.new.items ≡ list.old.items ++ export ∷ []) }
-    ensures numbers { OnOk result ((r : Reference) → number_at r numbers.new.entries
-        ≡ cond (is_at (reference_cmp export.reference) r) (Some (vec_len list.old))
+    ensures numbers { OnOk result ((r : Plain) → number_at r numbers.new.entries
+        ≡ cond (is_at (order export.reference) r) (Some (vec_len list.old))
         (number_at r numbers.old.entries)) }
     ensures same_list { OnErr result (list.new.items ≡ list.old.items) }
     ensures same_numbers { OnErr result (numbers.new.entries ≡ numbers.old.entries) }
 {
     list.reserve(1)?;
-    numbers.insert(export.reference, list.len() as u64)?;
+    numbers.insert(export.reference.copy()?, list.len() as u64)?;
     append(list, export);
     Ok(())
 }

@@ -1,4 +1,4 @@
-//! What a connection names by numbers of its own: the objects of others that it was told of, and
+//! What a connection names by numbers of its own: the references that it was told of, and
 //! the assertions that it made.
 //!
 //! Contracts see [`Ports`] as its list of exports, by number, and its handles in use.

@@ -1,12 +1,12 @@
 //! The exports and the inbound handles of one connection.
 ghost use Rattle.std.specs.Prelude.{◌≡◌, ◌≤◌, None, IfOk, IfErr, OnOk, OnErr, length, take};
+ghost use Rattle.std.specs.Option.{option_copied};
 ghost use Rattle.rl_ports.specs.Ports.{ports_to, inbound_of, taken_into_use, freed, export_of};
 ghost use Rattle.rl_ports.specs.Ports.{exported, number_of, fault_at, with_exports, place_of};
 ghost use Rattle.rl_ports.specs.Ports.{IsWhy};
 
 use crate::export_list::ExportList;
-use ds_space::Reference;
-use pv_value::NoMemory;
+use pv_value::{NoMemory, Value};
 use std::alloc::Global;
 use std::collections::BTreeMap;
 use std::marker::Model;
@@ -27,7 +27,7 @@ pub enum Inbound {
     Refused,
 }
 
-/// Why an object can't be exported.
+/// Why a reference can't be exported.
 #[derive(Clone, Copy, Debug, PartialEq, Eq, Error)]
 pub enum PortsFault {
     /// There would be so many exports.
@@ -52,44 +52,46 @@ impl From<NoMemory> for PortsFault {
     }
 }
 
-/// Exports by their numbers, from 0 on, one for each object; and inbound handles.
+/// Exports by their numbers, from 0 on, one for each reference; and inbound handles.
 #[derive(Drop)]
 pub struct Ports {
-    alloc: Global,
     exports: ExportList,
     handles: BTreeMap<u64, Inbound>,
 }
 
 impl Model for Ports {
+    ghost use Rattle.std.specs.Coded.{codes};
+    ghost use Rattle.pv_value.specs.Lemmas.Coded.{plain_code};
     ghost use Rattle.rl_ports.specs.Ports.{PortsState};
 
     ghost Value = { PortsState };
+
+    ghost coded = { Prim.hlevel (codes, plain_code) };
 
     ghost view = { λ p. record { exports = p.exports; handles = p.handles.entries } };
 }
 
 impl Ports {
-    /// Export 0 is that object, and no handle is in use.
-    pub fn new(alloc: Global, first: Reference) -> Result<Ports, NoMemory>
+    /// Export 0 is that reference, whatever it weighs, and no handle is in use.
+    pub fn new(alloc: Global, first: Value) -> Result<Ports, NoMemory>
         ensures { IfOk result (λ p. p ≡ ports_to first) }
     {
         Ok(Ports {
-            alloc,
             exports: ExportList::new(alloc, first)?,
             handles: BTreeMap::new(alloc),
         })
     }
 
     /// The export of this number, where there is one.
-    pub fn cap_of(&self, oid: u64) -> Option<Reference>
-        ensures { result ≡ export_of oid self.now }
+    pub fn cap_of(&self, oid: u64) -> Option<&Value>
+        ensures { option_copied result ≡ export_of oid self.now }
     {
         self.exports.get(oid as usize)
     }
 
-    /// The number of an object, where it is exported.
-    pub fn oid_of(&self, cap: Reference) -> Option<u64>
-        ensures { result ≡ place_of cap self.now.exports }
+    /// The number of a reference, where it is exported.
+    pub fn oid_of(&self, cap: &Value) -> Option<u64>
+        ensures { result ≡ place_of cap.now self.now.exports }
     {
         self.exports.number(cap)
     }
@@ -134,19 +136,19 @@ impl Ports {
         self.handles.remove(&handle)
     }
 
-    /// The number of an object, which is exported where it wasn't. After a fault nothing has
+    /// The number of a reference, which is exported where it wasn't. After a fault nothing has
     /// changed.
-    pub fn oid_for(&mut self, cap: Reference) -> Result<u64, PortsFault>
-        ensures number { IfOk result (λ n. n ≡ number_of cap self.old.exports) }
-        ensures fits { IfOk result (λ n. fault_at cap self.old.exports ≡ None) }
+    pub fn oid_for(&mut self, cap: &Value) -> Result<u64, PortsFault>
+        ensures number { IfOk result (λ n. n ≡ number_of cap.now self.old.exports) }
+        ensures fits { IfOk result (λ n. fault_at cap.now self.old.exports ≡ None) }
         ensures done { OnOk result
-            (self.new ≡ with_exports (exported cap self.old.exports) self.old) }
-        ensures fault { IfErr result (IsWhy (fault_at cap self.old.exports)) }
+            (self.new ≡ with_exports (exported cap.now self.old.exports) self.old) }
+        ensures fault { IfErr result (IsWhy (fault_at cap.now self.old.exports)) }
         ensures undone { OnErr result (self.new ≡ self.old) }
     {
         match self.exports.number(cap) {
             Some(number) => Ok(number),
-            None => self.exports.add(self.alloc, cap),
+            None => self.exports.add(cap),
         }
     }
 

@@ -6,23 +6,30 @@ use rl_ports::{Inbound, Ports};
 use std::test::Fail;
 
 #[test]
-fn one_number_stands_for_one_object(rt: HostRuntime) -> Result<(), Fail> {
+fn one_number_stands_for_one_reference(rt: HostRuntime) -> Result<(), Fail> {
     let alloc = rt.alloc();
-    let mut ports = Ports::new(alloc, object(1, 0))?;
-    assert_eq!(rt; ports.oid_for(object(18, 4))?, 1);
-    assert_eq!(rt; ports.oid_for(object(18, 5))?, 2);
-    assert_eq!(rt; ports.oid_for(object(18, 4))?, 1);
-    assert_eq!(rt; ports.oid_for(object(1, 0))?, 0);
-    assert_eq!(rt; ports.exports(), 3);
+    let mut ports = Ports::new(alloc, object(alloc, 1, 0)?)?;
+    let other = object(alloc, 18, 4)?;
+    assert_eq!(rt; ports.oid_for(&other)?, 1);
+    assert_eq!(rt; ports.oid_for(&other)?, 1);
+    assert_eq!(rt; ports.exports(), 2);
+    Ok(())
+}
+
+#[test]
+fn a_forgotten_number_is_given_again(rt: HostRuntime) -> Result<(), Fail> {
+    let alloc = rt.alloc();
+    let mut ports = Ports::new(alloc, object(alloc, 1, 0)?)?;
+    assert_eq!(rt; ports.oid_for(&object(alloc, 18, 4)?)?, 1);
     ports.forget(1);
-    assert_eq!(rt; ports.oid_for(object(18, 5))?, 1);
+    assert_eq!(rt; ports.oid_for(&object(alloc, 18, 5)?)?, 1);
     Ok(())
 }
 
 #[test]
 fn a_handle_is_taken_and_given_back(rt: HostRuntime) -> Result<(), Fail> {
     let alloc = rt.alloc();
-    let mut ports = Ports::new(alloc, object(1, 0))?;
+    let mut ports = Ports::new(alloc, object(alloc, 1, 0)?)?;
     ports.take_handle(7, Inbound::Row(3))?;
     assert_eq!(rt; ports.row_of(7), Some(Inbound::Row(3)));
     assert_eq!(rt; ports.free_handle(7), Some(Inbound::Row(3)));

@@ -3,20 +3,20 @@ use Rattle.std.proofs.Common.{◌≡◌, ◌≤◌, List, [], ◌∷◌, ◌++�
 use Rattle.std.proofs.Common.{refl, ap, ◌∙◌, arith, length-take}
 use Rattle.std.specs.Prelude.{is_some}
 use Rattle.std.proofs.lemmas.List.{take-append-le}
-use Rattle.ds_space.specs.declared.references.Reference.{Reference}
+use Rattle.pv_value.specs.Plain.{Plain}
 use Rattle.rl_ports.specs.Ports.{PortsState, place_of, exported, with_exports}
 use Rattle.rl_wire.specs.Crossing.{all_exported}
 
 -- a list with this front is as long at least
-reaches : (old es : List Reference) → take (length old) es ≡ old → length old ≤ length es
+reaches : (old es : List Plain) → take (length old) es ≡ old → length old ≤ length es
 reaches old es front = omega (arith, ap length front, length-take (length old) es)
 
-one_keeps_front : (old es : List Reference) (r : Reference) (b : Bool) → take (length old) es ≡ old
+one_keeps_front : (old es : List Plain) (r : Plain) (b : Bool) → take (length old) es ≡ old
     → take (length old) (if b then es else es ++ r ∷ []) ≡ old
 one_keeps_front old es r true front = front
 one_keeps_front old es r false front = take-append-le (length old) es (r ∷ []) (reaches old es front) ∙ front
 
-pub keeps_front : (old es rs : List Reference) → take (length old) es ≡ old
+pub keeps_front : (old es rs : List Plain) → take (length old) es ≡ old
     → take (length old) (all_exported es rs) ≡ old
 keeps_front old es [] front = front
 keeps_front old es (r ∷ rs) front =

@@ -1,3 +1,4 @@
 pub mod Crossings
 pub mod Exports
 pub mod Gathers
+pub mod References

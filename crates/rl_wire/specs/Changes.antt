@@ -1,13 +1,12 @@
 -- What the code answers where something may be the same afterwards: the new one, or nothing where it is the same.
-use Rattle.std.specs.Prelude.{◌≡◌, ℕ, List, Bool, Option, Some, None, MatchOption, is_some, unwrap_or}
+use Rattle.std.specs.Prelude.{◌≡◌, ℕ, List, Option, Some, None, MatchOption, unwrap_or}
 use Rattle.std.specs.Global.{Global}
 use Rattle.std.specs.declared.vec.Vec.{Vec}
 use Rattle.pv_value.specs.Plain.{Plain, record_of, plains}
 use Rattle.pv_value.specs.declared.Entry.{Entry}
-use Rattle.std.specs.List.{flat_map, list_all}
-use Rattle.ds_space.specs.declared.references.Reference.{Reference}
+use Rattle.std.specs.List.{flat_map}
 use Rattle.ds_space.specs.References.{reference_of}
-use Rattle.rl_wire.specs.Crossing.{crossed, foreign_of, wire_of}
+use Rattle.rl_wire.specs.Crossing.{crossed, foreign_of}
 
 abbrev pub IsChange : {A : Type 0} → A → A → Option A → Type 0
 IsChange old new None = new ≡ old
@@ -24,10 +23,6 @@ entry_crossed f e = record { key = crossed f e.key; value = crossed f e.value }
 abbrev pub record_or : Plain → List Plain → Option Plain → Option (List Plain) → Plain
 record_or l fs new news = record_of (unwrap_or new l) (plains (unwrap_or news fs))
 
--- the objects of others than the actor, among what embedded values hold
-abbrev pub others_in : ℕ → List Plain → List Reference
-others_in actor xs = flat_map (λ x. foreign_of actor (reference_of x)) xs
-
--- whether each of what embedded values hold is a wire reference without caveats
-abbrev pub hold_wires : List Plain → Bool
-hold_wires xs = list_all (λ x. is_some (wire_of x)) xs
+-- the references of others, among what embedded values hold: all but those to the actor's own objects without caveats
+abbrev pub others_in : ℕ → List Plain → List Plain
+others_in actor xs = flat_map (λ x. foreign_of actor x (reference_of x)) xs

@@ -1,11 +1,12 @@
 -- References as a connection writes them and as the server keeps them. Syndicate Protocol, "wire references".
--- Inside the server an embedded value holds an object's `[actor entity]`. At connection k, whose actor is 16 + k,
--- `[0 e]` that comes in is its own object e, and `[1 n]` is the one of its export n; `[1 e]` that goes out is its own
--- object e, and `[0 n]` one of another, by the number of the export that it is or becomes. Values are gone through in
--- the order of their written spelling.
-use Rattle.std.specs.Prelude.{◌≡◌, ℕ, zero, suc, pos, ◌+◌, ◌-◌, ◌^◌, ◌==◌, min, nat_lt, List, [], ◌∷◌, ◌++◌, Bool}
-use Rattle.std.specs.Prelude.{Option, Some, None, is_some, option_map, slice_get, if◌then◌else◌}
-use Rattle.std.specs.List.{flat_map, list_all}
+-- Inside the server an embedded value holds a reference's `[actor entity caveat ..]`. At connection k, whose actor is
+-- 16 + k, `[0 e]` that comes in is its own object e, and `[1 n caveat ..]` its export n with these caveats behind the
+-- export's own; `[1 e]` that goes out is its own object e without caveats, and `[0 n]` any other reference, by the
+-- number of the export that it is or becomes. Values are gone through in the order of their written spelling.
+use Rattle.std.specs.Prelude.{◌≡◌, ℕ, zero, suc, pos, ◌+◌, ◌-◌, ◌^◌, ◌==◌, ◌&&◌, min, nat_lt, List, [], ◌∷◌, ◌++◌}
+use Rattle.std.specs.Prelude.{Bool, false, length, map, Option, Some, None, option_map, unwrap_or, slice_get}
+use Rattle.std.specs.Prelude.{if◌then◌else◌}
+use Rattle.std.specs.List.{flat_map}
 use Rattle.std.specs.Option.{option_or}
 use Rattle.std.specs.BTreeMap.{insert_entry}
 use Rattle.pv_value.specs.Plain.{Plain, integer, record_of, sequence, set_of, dictionary, embedded}
@@ -13,11 +14,13 @@ use Rattle.pv_value.specs.Plain.{Plains, no_more, then_more, PlainPairs, no_pair
 use Rattle.pv_value.specs.Plain.{plains, listed, pairs, paired}
 use Rattle.pv_value.specs.Order.{order}
 use Rattle.pv_value.specs.Sets.{ascending_by}
+use Rattle.pv_value.specs.Weight.{weight}
+use Rattle.pv_value.specs.Depth.{depth}
 use Rattle.dp_pattern.specs.Words.{number, number_in}
 use Rattle.ds_space.specs.declared.references.Reference.{Reference}
 use Rattle.ds_space.specs.References.{reference_of, reference_value}
-use Rattle.pv_value.specs.Weight.{weight}
-use Rattle.pv_value.specs.Depth.{depth}
+use Rattle.sr_caveat.specs.Spelled.{caveat_value}
+use Rattle.sr_caveat.specs.Written.{caveat_of}
 use Rattle.rl_ports.specs.declared.ports.PortsFault.{PortsFault}
 use Rattle.rl_ports.specs.Ports.{exported, number_of, fault_at, told}
 pub use Rattle.rl_wire.specs.declared.wires.Wire.{Wire}
@@ -79,42 +82,63 @@ abbrev pub wire_where : (ℕ → Wire) → Option ℕ → Option Wire
 wire_where f None = None
 wire_where f (Some n) = Some (f n)
 
--- `[0 e]` is an object of its sender's own, and `[1 n]` one by the number of an export; without caveats
+-- `[0 e]` is an object of its sender's own, and `[1 n caveat ..]` a reference by the number of an export
 abbrev pub wire_of : Plain → Option Wire
 wire_of (sequence (then_more (integer (pos zero)) (then_more n no_more))) = wire_where Own (number_in n)
-wire_of (sequence (then_more (integer (pos (suc zero))) (then_more n no_more))) = wire_where ExportedAs (number_in n)
+wire_of (sequence (then_more (integer (pos (suc zero))) (then_more n caveats))) = wire_where ExportedAs (number_in n)
 wire_of v = None
+
+-- what stands behind the two numbers of a reference, on the wire or in the server
+abbrev pub caveats_in : Plain → List Plain
+caveats_in (sequence (then_more whose (then_more n caveats))) = listed caveats
+caveats_in v = []
 
 -- the actor of connection k
 abbrev pub actor_at : ℕ → ℕ
 actor_at k = 16 + k
 
--- the object that a wire reference of an actor names, where there is one
-abbrev pub object_of : List Reference → ℕ → Wire → Option Reference
-object_of exports actor (Own e) = Some (record { at = actor; entity = e })
-object_of exports actor (ExportedAs n) = slice_get exports n
+-- what stands for a caveat that came over the wire: a malformed or unknown one refuses all
+abbrev pub caveat_kept : Plain → Plain
+caveat_kept w = caveat_value (caveat_of false w)
 
-abbrev pub value_of : Plain → Option Reference → Plain
-value_of x None = x
-value_of x (Some r) = reference_value r
+-- a reference with these caveats behind its own
+abbrev pub with_caveats : List Plain → Plain → Plain
+with_caveats ws (sequence xs) = sequence (plains (listed xs ++ map caveat_kept ws))
+with_caveats ws v = v
 
-abbrev pub object_in : List Reference → ℕ → Plain → Option Wire → Plain
-object_in exports actor x None = x
-object_in exports actor x (Some w) = value_of x (object_of exports actor w)
+-- the reference that an actor's wire reference with these caveats names, where there is one
+abbrev pub named_by : List Plain → ℕ → List Plain → Wire → Option Plain
+named_by exports actor ws (Own e) = Some (reference_value (record { at = actor; entity = e }))
+named_by exports actor ws (ExportedAs n) = option_map (with_caveats ws) (slice_get exports n)
+
+abbrev pub reference_in : List Plain → ℕ → Plain → Option Wire → Plain
+reference_in exports actor x None = x
+reference_in exports actor x (Some w) = unwrap_or (named_by exports actor (caveats_in x) w) x
 
 -- a value that comes in at connection k
-abbrev pub crossed_in : List Reference → ℕ → Plain → Plain
-crossed_in exports k v = crossed (λ x. object_in exports (actor_at k) x (wire_of x)) v
+abbrev pub crossed_in : List Plain → ℕ → Plain → Plain
+crossed_in exports k v = crossed (λ x. reference_in exports (actor_at k) x (wire_of x)) v
 
--- the number by which it names an export that isn't there
-abbrev pub unknown_of : List Reference → Option Wire → Option ℕ
-unknown_of exports (Some (ExportedAs n)) = if is_some (slice_get exports n) then None else Some n
-unknown_of exports w = None
+-- a reference may have 32 caveats and weigh 65,536
+abbrev pub reference_fault : Plain → Option WireFault
+reference_fault r =
+    if nat_lt 32 (length (caveats_in r)) then Some (Limit 8 (length (caveats_in r)))
+    else if nat_lt 65536 (told (weight r)) then Some (Limit 9 (told (weight r))) else None
 
--- the first of these numbers
-abbrev pub first_unknown : List Reference → List Plain → Option ℕ
-first_unknown exports [] = None
-first_unknown exports (x ∷ xs) = option_or (unknown_of exports (wire_of x)) (first_unknown exports xs)
+-- why what stands for export n with these caveats isn't taken
+abbrev pub export_fault_in : ℕ → List Plain → Option Plain → Option WireFault
+export_fault_in n ws None = Some (UnknownOid n)
+export_fault_in n ws (Some r) = reference_fault (with_caveats ws r)
+
+abbrev pub wire_fault : List Plain → Plain → Option Wire → Option WireFault
+wire_fault exports x None = None
+wire_fault exports x (Some (Own e)) = None
+wire_fault exports x (Some (ExportedAs n)) = export_fault_in n (caveats_in x) (slice_get exports n)
+
+-- the first of these faults
+abbrev pub first_fault : List Plain → List Plain → Option WireFault
+first_fault exports [] = None
+first_fault exports (x ∷ xs) = option_or (wire_fault exports x (wire_of x)) (first_fault exports xs)
 
 -- a value may weigh 1,048,576 and nest 48 deep, as the server keeps it
 abbrev pub size_fault : Plain → Option WireFault
@@ -122,57 +146,52 @@ size_fault v =
     if nat_lt 1048576 (told (weight v)) then Some (Limit 6 (told (weight v)))
     else if nat_lt 48 (nested v) then Some (Limit 7 (nested v)) else None
 
--- why a value can't come in: an export that isn't there, before all else
-abbrev pub fault_in : List Reference → ℕ → Plain → Option WireFault
-fault_in exports k v =
-    option_or (option_map UnknownOid (first_unknown exports (held_in v))) (size_fault (crossed_in exports k v))
+-- why a value can't come in: a reference in it, before all else
+abbrev pub fault_in : List Plain → ℕ → Plain → Option WireFault
+fault_in exports k v = option_or (first_fault exports (held_in v)) (size_fault (crossed_in exports k v))
 
 -- the fault is why; where memory ran out, nothing is said
 abbrev pub IsWhyNotIn : Option WireFault → WireFault → Type 0
 IsWhyNotIn why NoMemory = Unit {0}
 IsWhyNotIn why f = why ≡ Some f
 
--- each embedded value in it that isn't inside another is a wire reference without caveats
-abbrev pub are_wires : Plain → Bool
-are_wires v = list_all (λ x. is_some (wire_of x)) (held_in v)
-
 -- ---- out
 
--- the object, where it is another's than the actor's own
-abbrev pub foreign_of : ℕ → Option Reference → List Reference
-foreign_of actor None = []
-foreign_of actor (Some r) = if r.at == actor then [] else r ∷ []
+-- whether a reference is to an object of the actor's own, without caveats
+abbrev pub is_own : ℕ → Plain → Reference → Bool
+is_own actor x r = r.at == actor && length (caveats_in x) == 0
 
--- the objects of others in a value that goes out at connection k
-abbrev pub foreign_in : ℕ → Plain → List Reference
-foreign_in k v = flat_map (λ x. foreign_of (actor_at k) (reference_of x)) (held_in v)
+-- the reference, where it isn't one to the actor's own object
+abbrev pub foreign_of : ℕ → Plain → Option Reference → List Plain
+foreign_of actor x None = []
+foreign_of actor x (Some r) = if is_own actor x r then [] else x ∷ []
+
+-- the references in a value that goes out at connection k, those to its own objects excepted
+abbrev pub foreign_in : ℕ → Plain → List Plain
+foreign_in k v = flat_map (λ x. foreign_of (actor_at k) x (reference_of x)) (held_in v)
 
 -- each is exported where it isn't, in order of first use
-abbrev pub all_exported : List Reference → List Reference → List Reference
+abbrev pub all_exported : List Plain → List Plain → List Plain
 all_exported exports [] = exports
 all_exported exports (r ∷ rs) = all_exported (exported r exports) rs
 
 -- why they can't all be: the first fault
-abbrev pub fault_out : List Reference → List Reference → Option PortsFault
+abbrev pub fault_out : List Plain → List Plain → Option PortsFault
 fault_out exports [] = None
 fault_out exports (r ∷ rs) = option_or (fault_at r exports) (fault_out (exported r exports) rs)
 
 -- the exports after a value went out
-abbrev pub exports_with : List Reference → ℕ → Plain → List Reference
+abbrev pub exports_with : List Plain → ℕ → Plain → List Plain
 exports_with exports k v = all_exported exports (foreign_in k v)
 
 abbrev pub wire_value : ℕ → ℕ → Plain
 wire_value whose n = sequence (plains (number whose ∷ number n ∷ []))
 
-abbrev pub object_out : List Reference → ℕ → Plain → Option Reference → Plain
-object_out exports actor x None = x
-object_out exports actor x (Some r) =
-    if r.at == actor then wire_value 1 r.entity else wire_value 0 (number_of r exports)
+abbrev pub reference_out : List Plain → ℕ → Plain → Option Reference → Plain
+reference_out exports actor x None = x
+reference_out exports actor x (Some r) =
+    if is_own actor x r then wire_value 1 r.entity else wire_value 0 (number_of x exports)
 
 -- a value that goes out at connection k, where these are the exports by then
-abbrev pub crossed_out : List Reference → ℕ → Plain → Plain
-crossed_out exports k v = crossed (λ x. object_out exports (actor_at k) x (reference_of x)) v
-
--- each embedded value in it that isn't inside another is a reference
-abbrev pub are_references : Plain → Bool
-are_references v = list_all (λ x. is_some (reference_of x)) (held_in v)
+abbrev pub crossed_out : List Plain → ℕ → Plain → Plain
+crossed_out exports k v = crossed (λ x. reference_out exports (actor_at k) x (reference_of x)) v

@@ -1,3 +1,4 @@
 pub mod Changes
 pub mod Crossing
+pub mod Laws
 pub mod Lemmas

@@ -12,7 +12,8 @@ pub enum WireFault {
     /// No export has this number.
     #[error("unknown oid {0}")]
     UnknownOid(u64),
-    /// As the server would keep it, the value weighs (6) or nests (7) so much.
+    /// As the server would keep it, the value weighs (6) or nests (7) so much, or a reference in
+    /// it has so many caveats (8) or weighs so much (9).
     #[error("limit {0}: {1}")]
     Limit(u8, u64),
     #[error("out of memory")]

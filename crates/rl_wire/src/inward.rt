@@ -1,18 +1,24 @@
 //! Values that come in.
 ghost use Rattle.std.specs.Prelude.{◌≡◌, ◌≤◌, ◌^◌, true, None, Some, IfOk, IfErr, OnOk};
 ghost use Rattle.rl_wire.specs.Crossing.{crossed_in, fault_in, IsWhyNotIn};
-ghost use Rattle.rl_wire.specs.Crossing.{wire_of, object_of, object_in, unknown_of, first_unknown};
-ghost use Rattle.rl_wire.specs.Crossing.{size_fault};
+ghost use Rattle.rl_wire.specs.Crossing.{wire_of, named_by, reference_in, wire_fault, first_fault};
+ghost use Rattle.rl_wire.specs.Crossing.{reference_fault, size_fault};
 
 use crate::FIRST_ACTOR;
 use crate::faults::WireFault;
 use crate::held::held_in;
 use crate::rebuilding::{Way, crossed};
-use crate::wires::{Wire, wire_of};
+use crate::wires::{Wire, caveats_in, wire_of, with_caveats};
 use ds_space::{Reference, reference_value};
 use pv_value::{NoMemory, Value, depth, weight};
 use rl_ports::Ports;
 use std::alloc::Global;
+
+/// The most caveats of a reference.
+const CAVEATS: usize = 32;
+
+/// The most that a reference weighs.
+const REFERENCE_WEIGHT: u64 = 65_536;
 
 /// The most that a value weighs, as the server keeps it.
 const WEIGHT: u64 = 1_048_576;
@@ -28,37 +34,43 @@ struct Inward<'a> {
 }
 
 impl Way for Inward<'_> {
-    ghost way = { λ w x. object_in w.ports.now.exports w.actor x (wire_of x) };
+    ghost way = { λ w x. reference_in w.ports.now.exports w.actor x (wire_of x) };
 
     fn cross(&self, alloc: Global, inside: &Value) -> Result<Option<Value>, NoMemory> {
-        let Some(wire) = wire_of(inside) else {
-            return Ok(None);
-        };
-        match self.object_of(wire) {
-            Some(object) => Ok(Some(reference_value(alloc, object)?)),
+        match wire_of(inside) {
+            Some(wire) => self.named_by(alloc, caveats_in(inside), wire),
             None => Ok(None),
         }
     }
 }
 
 impl Inward<'_> {
-    /// The object that a reference names, where there is one.
-    fn object_of(&self, wire: Wire) -> Option<Reference>
-        ensures { result ≡ object_of self.now.ports.now.exports self.now.actor wire }
+    /// The reference that a wire reference with these caveats names, where there is one.
+    fn named_by(
+        &self,
+        alloc: Global,
+        caveats: &[Value],
+        wire: Wire,
+    ) -> Result<Option<Value>, NoMemory>
+        ensures { IfOk result (λ v. v
+            ≡ named_by self.now.ports.now.exports self.now.actor caveats.now wire) }
     {
         match wire {
-            Wire::Own(entity) => Some(Reference {
-                at: self.actor,
-                entity,
-            }),
-            Wire::ExportedAs(oid) => self.ports.cap_of(oid),
+            Wire::Own(entity) => {
+                let at = self.actor;
+                Ok(Some(reference_value(alloc, Reference { at, entity })?))
+            }
+            Wire::ExportedAs(oid) => match self.ports.cap_of(oid) {
+                Some(cap) => Ok(Some(with_caveats(alloc, cap, caveats)?)),
+                None => Ok(None),
+            },
         }
     }
 }
 
-/// A value that connection `connection` sent, as the server keeps it: its own objects and its
-/// exports as references. An export that isn't there is looked for in the whole value first, and
-/// then the weight and the depth of what is kept are looked at.
+/// A value that connection `connection` sent, as the server keeps it: its own objects as
+/// references, and its exports with the caveats that it wrote behind theirs. The references in the
+/// whole value are looked at first, and then the weight and the depth of what is kept.
 pub fn wire_in(
     alloc: Global,
     ports: &Ports,
@@ -71,8 +83,8 @@ pub fn wire_in(
     ensures fault { IfErr result (IsWhyNotIn (fault_in ports.now.exports connection value.now)) }
 {
     let held = held_in(alloc, value)?;
-    if let Some(oid) = first_unknown(ports, &held) {
-        return Err(WireFault::UnknownOid(oid));
+    if let Some(fault) = first_fault(alloc, ports, &held)? {
+        return Err(fault);
     }
     let way = Inward {
         ports,
@@ -83,26 +95,46 @@ pub fn wire_in(
     Ok(kept)
 }
 
-/// The first number of an export that isn't there.
-fn first_unknown(ports: &Ports, held: &[Value]) -> Option<u64>
-    ensures { result ≡ first_unknown ports.now.exports held.now }
+/// The first fault of what embedded values hold.
+fn first_fault(alloc: Global, ports: &Ports, held: &[Value]) -> Result<Option<WireFault>, NoMemory>
+    ensures { IfOk result (λ f. f ≡ first_fault ports.now.exports held.now) }
 {
     for x in held {
-        if let Some(oid) = unknown_of(ports, x) {
-            return Some(oid);
+        let fault = wire_fault(alloc, ports, x)?;
+        if fault.is_some() {
+            return Ok(fault);
         }
     }
-    None
+    Ok(None)
 }
 
-/// The number by which it names an export that isn't there.
-fn unknown_of(ports: &Ports, inside: &Value) -> Option<u64>
-    ensures { result ≡ unknown_of ports.now.exports (wire_of inside.now) }
+/// Why what an embedded value holds can't come in.
+fn wire_fault(alloc: Global, ports: &Ports, inside: &Value) -> Result<Option<WireFault>, NoMemory>
+    ensures { IfOk result (λ f. f ≡ wire_fault ports.now.exports inside.now (wire_of inside.now)) }
 {
-    match wire_of(inside) {
-        Some(Wire::ExportedAs(oid)) if ports.cap_of(oid).is_none() => Some(oid),
-        _ => None,
+    let Some(Wire::ExportedAs(oid)) = wire_of(inside) else {
+        return Ok(None);
+    };
+    let Some(cap) = ports.cap_of(oid) else {
+        return Ok(Some(WireFault::UnknownOid(oid)));
+    };
+    let reference = with_caveats(alloc, cap, caveats_in(inside))?;
+    Ok(reference_fault(&reference))
+}
+
+/// Why a reference isn't taken: it has too many caveats, or is too heavy.
+fn reference_fault(reference: &Value) -> Option<WireFault>
+    ensures { result ≡ reference_fault reference.now }
+{
+    let count = caveats_in(reference).len();
+    if count > CAVEATS {
+        return Some(WireFault::Limit(8, count as u64));
     }
+    let weight = weight(reference);
+    if weight > REFERENCE_WEIGHT {
+        return Some(WireFault::Limit(9, weight));
+    }
+    None
 }
 
 /// Whether a value is neither too heavy nor too deep.

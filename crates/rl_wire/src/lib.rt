@@ -8,15 +8,16 @@ mod faults;
 mod gathering;
 mod held;
 mod inward;
+mod laws;
 mod outward;
 mod rebuilding;
-mod testing;
 mod wires;
 
 pub use faults::WireFault;
 pub use inward::wire_in;
+pub use laws::attenuated_references_are_caps;
 pub use outward::wire_out;
-pub use testing::{are_wires, is_wire};
+pub use wires::Wire;
 
 /// The actor of connection 0: that of connection k is so many on.
 const FIRST_ACTOR: u32 = 16;

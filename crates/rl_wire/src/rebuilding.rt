@@ -191,7 +191,7 @@ fn entry_or(key: Option<Value>, value: Option<Value>, other: &Entry) -> Result<E
 }
 
 /// Equal values.
-fn copies(alloc: Global, values: &[Value]) -> Result<Vec<Value>, NoMemory>
+pub(crate) fn copies(alloc: Global, values: &[Value]) -> Result<Vec<Value>, NoMemory>
     ensures { IfOk result (λ vs. vs.items ≡ values.now) }
 {
     let mut all = Vec::new(alloc);

@@ -16,19 +16,19 @@ taken_out k r s now at state outs size streams = record {
   streams = streams ∙ ap (without_entry k) at.streams;
 }
 
-module _ (N : Decider) (n k : ℕ) (b : List ℕ) (r : Running) (s : RunState) (at : IsAt r s) where
-  by_there : (x : Bool) → is_there k s.state ≡ x → bytes_come N n k b r
-      ≡ (if x then packets_read N n k (with_bytes b (stream_of k r)) (without_stream k r) else goes r)
+module _ (N : Decider) (k : ℕ) (b : List ℕ) (r : Running) (s : RunState) (at : IsAt r s) where
+  by_there : (x : Bool) → is_there k s.state ≡ x → bytes_come N k b r
+      ≡ (if x then packets_read N k (with_bytes b (stream_of k r)) (without_stream k r) else goes r)
   by_there x is =
-      ap (λ y. if y then packets_read N n k (with_bytes b (stream_of k r)) (without_stream k r) else goes r)
+      ap (λ y. if y then packets_read N k (with_bytes b (stream_of k r)) (without_stream k r) else goes r)
       (ap (is_there k) (sym at.state) ∙ is)
 
-  pub all_dropped : is_there k s.state ≡ false → goes r ≡ bytes_come N n k b r
+  pub all_dropped : is_there k s.state ≡ false → goes r ≡ bytes_come N k b r
   all_dropped is = sym (by_there false is)
 
   pub all_come : (st : StreamState) → is_there k s.state ≡ true
       → st ≡ with_bytes b (unwrap_or (entry_of k s.streams) no_stream)
-      → packets_read N n k st (without_stream k r) ≡ bytes_come N n k b r
+      → packets_read N k st (without_stream k r) ≡ bytes_come N k b r
   all_come st is taken =
-      ap (λ x. packets_read N n k x (without_stream k r))
+      ap (λ x. packets_read N k x (without_stream k r))
       (taken ∙ ap (λ es. with_bytes b (unwrap_or (entry_of k es) no_stream)) at.streams) ∙ sym (by_there true is)

@@ -13,7 +13,7 @@ module _ (N : Decider) (n : ℕ) (r : Running) where
   course_of_event e f is = ap (λ x. after_event N n x r) (sym is)
 
   pub course_of_bytes : (k : ℕ) (b : List ℕ) (f : ScriptEvent) → f ≡ Bytes k b → was_opened k r ≡ true
-      → bytes_come N n k b r ≡ after_event N n f r
+      → bytes_come N k b r ≡ after_event N n f r
   course_of_bytes k b f is may = where_so _ _ may ∙ course_of_event (Bytes k b) f is
 
   pub course_of_close : (k : ℕ) (f : ScriptEvent) → f ≡ Close k → was_opened k r ≡ true

@@ -13,13 +13,13 @@ pub next_is : OneNext → (N : Decider) → Decides N → (rest : List ℕ) (pla
     → IsNext rest place x → N rest place ≡ x
 next_is one N decides rest place x are h = one rest place (N rest place) x are (decides rest place are) h
 
-pub read_first : (N : Decider) (n k most : ℕ) (st : StreamState) (r : Running) (x : Next) → length st.rest < most
+pub read_first : (N : Decider) (k most : ℕ) (st : StreamState) (r : Running) (x : Next) → length st.rest < most
     → N st.rest st.place ≡ x
     → (m : ℕ) × (most ≡ suc m)
-    × (all_read N n k most st r ≡ with_next n k x st (λ size. all_read N n k m (read_off size st)) r)
-read_first N n k zero st r x l is = absurd (omega (arith, l))
-read_first N n k (suc m) st r x l is =
-    (m, refl, ap (λ y. with_next n k y st (λ size. all_read N n k m (read_off size st)) r) is)
+    × (all_read N k most st r ≡ with_next k x st (λ size. all_read N k m (read_off size st)) r)
+read_first N k zero st r x l is = absurd (omega (arith, l))
+read_first N k (suc m) st r x l is =
+    (m, refl, ap (λ y. with_next k y st (λ size. all_read N k m (read_off size st)) r) is)
 
 pub whole_fits : (rest : List ℕ) (place size : ℕ) (p : Packet) → IsNext rest place (Whole p size)
     → (1 ≤ size) × (size ≤ length rest)

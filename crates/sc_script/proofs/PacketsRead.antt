@@ -27,39 +27,39 @@ whole_is_less st behind left p size is so same =
 -- ---- courses
 
 -- the course as a whole goes on from the state with the packets in the stream
-abbrev pub ReadsFrom : Decider → ℕ → ℕ → StreamState → RunState → Course → Type 0
-ReadsFrom N n k st s whole =
-    (most : ℕ) × (length st.rest < most) × (now : Running) × IsAt now s × (whole ≡ all_read N n k most st now)
+abbrev pub ReadsFrom : Decider → ℕ → StreamState → RunState → Course → Type 0
+ReadsFrom N k st s whole =
+    (most : ℕ) × (length st.rest < most) × (now : Running) × IsAt now s × (whole ≡ all_read N k most st now)
 
 -- so does a part of a run, over every decider, from where the run is
-abbrev pub ReadsAs : RunState → (Decider → Running → Course) → ℕ → ℕ → StreamState → RunState → Type 0
-ReadsAs before part n k st s =
-    (N : Decider) → Decides N → (r : Running) → IsAt r before → ReadsFrom N n k st s (part N r)
+abbrev pub ReadsAs : RunState → (Decider → Running → Course) → ℕ → StreamState → RunState → Type 0
+ReadsAs before part k st s =
+    (N : Decider) → Decides N → (r : Running) → IsAt r before → ReadsFrom N k st s (part N r)
 
-not_whole : (n k : ℕ) (x : Next) (st : StreamState) (more : ℕ → Running → Course) (r : Running)
-    → ((p : Packet) (size : ℕ) → x ≡ Whole p size → ⊥) → with_next n k x st more r ≡ with_no_packet k x st r
-not_whole n k (Whole p size) st more r not = absurd (not p size refl)
-not_whole n k (BadBytes number place) st more r not = refl
-not_whole n k BadPacket st more r not = refl
-not_whole n k Waits st more r not = refl
+not_whole : (k : ℕ) (x : Next) (st : StreamState) (more : ℕ → Running → Course) (r : Running)
+    → ((p : Packet) (size : ℕ) → x ≡ Whole p size → ⊥) → with_next k x st more r ≡ with_no_packet k x st r
+not_whole k (Whole p size) st more r not = absurd (not p size refl)
+not_whole k (BadBytes number place) st more r not = refl
+not_whole k BadPacket st more r not = refl
+not_whole k Waits st more r not = refl
 
-next_first : OneNext → (N : Decider) → Decides N → (n k : ℕ) (st : StreamState) (s : RunState) (whole : Course)
-    (x : Next) → AreBytes st.rest → IsNext st.rest st.place x → (from : ReadsFrom N n k st s whole)
-    → (m : ℕ) × (from.0 ≡ suc m) × (whole ≡ with_next n k x st (λ size. all_read N n k m (read_off size st)) from.2)
-next_first one N decides n k st s whole x are is from =
-    let f = read_first N n k from.0 st from.2 x from.1 (next_is one N decides st.rest st.place x are is) in
+next_first : OneNext → (N : Decider) → Decides N → (k : ℕ) (st : StreamState) (s : RunState) (whole : Course)
+    (x : Next) → AreBytes st.rest → IsNext st.rest st.place x → (from : ReadsFrom N k st s whole)
+    → (m : ℕ) × (from.0 ≡ suc m) × (whole ≡ with_next k x st (λ size. all_read N k m (read_off size st)) from.2)
+next_first one N decides k st s whole x are is from =
+    let f = read_first N k from.0 st from.2 x from.1 (next_is one N decides st.rest st.place x are is) in
     (f.0, f.1, from.4 ∙ f.2)
 
-module _ (one : OneNext) (n k : ℕ) (st : StreamState) (are : AreBytes st.rest) (before s : RunState)
-    (part : Decider → Running → Course) (from : ReadsAs before part n k st s) where
+module _ (one : OneNext) (k : ℕ) (st : StreamState) (are : AreBytes st.rest) (before s : RunState)
+    (part : Decider → Running → Course) (from : ReadsAs before part k st s) where
   -- what is next is no packet
   module _ (x : Next) (is : IsNext st.rest st.place x) (not : (p : Packet) (size : ℕ) → x ≡ Whole p size → ⊥) where
     no_packet : (N : Decider) → Decides N → (r : Running) → IsAt r before
         → (now : Running) × IsAt now s × (part N r ≡ with_no_packet k x st now)
     no_packet N d r at =
         let so = from N d r at in
-        let f = next_first one N d n k st s (part N r) x are is so in
-        (so.2, so.3, f.2 ∙ not_whole n k x st (λ size. all_read N n k f.0 (read_off size st)) so.2 not)
+        let f = next_first one N d k st s (part N r) x are is so in
+        (so.2, so.3, f.2 ∙ not_whole k x st (λ size. all_read N k f.0 (read_off size st)) so.2 not)
 
     pub no_packet_runs : (t : RunState) → RunsAs s (λ N. with_no_packet k x st) t → RunsAs before part t
     no_packet_runs t runs = λ N d r at.
@@ -76,46 +76,46 @@ module _ (one : OneNext) (n k : ℕ) (st : StreamState) (are : AreBytes st.rest)
       (so : behind ≡ read_off size st) where
     a_packet : (N : Decider) → Decides N → (r : Running) → IsAt r before
         → (m : ℕ) × (length behind.rest < m) × (now : Running) × IsAt now s
-        × (part N r ≡ with_packet n k p behind (all_read N n k m behind) now)
+        × (part N r ≡ with_packet k p behind (all_read N k m behind) now)
     a_packet N d r at =
         let w = from N d r at in
-        let f = next_first one N d n k st s (part N r) (Whole p size) are is w in (
+        let f = next_first one N d k st s (part N r) (Whole p size) are is w in (
           f.0,
           subst (λ (b : StreamState). length b.rest < f.0) (sym so)
               (less_left st.rest st.place size w.0 f.0 p is w.1 f.1),
           w.2,
           w.3,
-          f.2 ∙ ap (λ b. with_packet n k p b (all_read N n k f.0 b) w.2) (sym so),
+          f.2 ∙ ap (λ b. with_packet k p b (all_read N k f.0 b) w.2) (sym so),
         )
 
     -- the packet is done with, and the stream is kept where more is read
     abbrev pub IsDone : RunState → Option StreamState → Type 0
     IsDone now kept = (N : Decider) → Decides N → (r : Running) → IsAt r s
-        → ReadsOn now kept behind (λ more. with_packet n k p behind more r)
+        → ReadsOn now kept behind (λ more. with_packet k p behind more r)
 
     pub packet_reads : (now : RunState) (kept : Option StreamState) (left : StreamState) → kept ≡ Some left
-        → IsDone now kept → ReadsAs before part n k left now
+        → IsDone now kept → ReadsAs before part k left now
     packet_reads now kept left is_left done = λ N d r at.
         let a = a_packet N d r at in
-        let on : ReadsOn now (Some left) behind (λ more. with_packet n k p behind more a.2) =
-        subst (λ o. ReadsOn now o behind (λ more. with_packet n k p behind more a.2)) is_left (done N d a.2 a.3) in (
+        let on : ReadsOn now (Some left) behind (λ more. with_packet k p behind more a.2) =
+        subst (λ o. ReadsOn now o behind (λ more. with_packet k p behind more a.2)) is_left (done N d a.2 a.3) in (
           a.0,
           subst (λ (b : StreamState). length b.rest < a.0) (sym on.0) a.1,
           on.1,
           on.2,
-          a.4 ∙ on.3 (all_read N n k a.0 behind) ∙ ap (λ b. all_read N n k a.0 b on.1) (sym on.0),
+          a.4 ∙ on.3 (all_read N k a.0 behind) ∙ ap (λ b. all_read N k a.0 b on.1) (sym on.0),
         )
 
     pub packet_runs : (now : RunState) (kept : Option StreamState) → kept ≡ None → IsDone now kept
         → RunsAs before part now
     packet_runs now kept is_none done = λ N d r at.
         let a = a_packet N d r at in
-        let on : ReadsOn now None behind (λ more. with_packet n k p behind more a.2) =
-        subst (λ o. ReadsOn now o behind (λ more. with_packet n k p behind more a.2)) is_none (done N d a.2 a.3) in
-        subst (λ c. HasRun c now) (sym a.4) (on (all_read N n k a.0 behind))
+        let on : ReadsOn now None behind (λ more. with_packet k p behind more a.2) =
+        subst (λ o. ReadsOn now o behind (λ more. with_packet k p behind more a.2)) is_none (done N d a.2 a.3) in
+        subst (λ c. HasRun c now) (sym a.4) (on (all_read N k a.0 behind))
 
     pub packet_stops : (f : ScriptFault)
-        → ((more : Running → Course) → StopsAs s (λ N. with_packet n k p behind more) f) → StopsAs before part f
+        → ((more : Running → Course) → StopsAs s (λ N. with_packet k p behind more) f) → StopsAs before part f
     packet_stops f stop = λ N d r at.
         let a = a_packet N d r at in
-        subst (λ c. IsStopped c f) (sym a.4) (stop (all_read N n k a.0 behind) N d a.2 a.3)
+        subst (λ c. IsStopped c f) (sym a.4) (stop (all_read N k a.0 behind) N d a.2 a.3)

@@ -5,7 +5,7 @@ use Rattle.pv_value.specs.Plain.{Plain, integer, string, byte_string, symbol, re
 use Rattle.pv_value.specs.Plain.{then_more}
 use Rattle.dp_pattern.specs.Words.{is_word}
 use Rattle.dp_pattern.specs.Written.{pattern_of}
-use Rattle.sc_script.specs.Embedded.{has_embedded}
+use Rattle.sr_caveat.specs.Embedded.{has_embedded}
 pub use Rattle.sc_script.specs.declared.events.ScriptEvent.{ScriptEvent}
 pub use Rattle.sc_script.specs.declared.events.ScriptEvent.TheVariants.{Open, Bytes, Close, Turn, Drain, LongDrain}
 pub use Rattle.sc_script.specs.declared.events.ScriptEvent.TheVariants.{Schema, Unbuilt}

@@ -1,4 +1,3 @@
-pub mod Embedded
 pub mod Events
 pub mod Inputs
 pub mod Leavings

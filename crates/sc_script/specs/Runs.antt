@@ -9,12 +9,10 @@ use Rattle.ac_world.specs.Worlds.{entry_of, with_entry, without_entry}
 use Rattle.rl_packet.specs.Packets.{packet_value}
 use Rattle.rl_packet.specs.declared.packets.Packet.{Packet}
 use Rattle.rl_packet.specs.declared.packets.Packet.TheVariants as packet
-use Rattle.rl_packet.specs.declared.packets.TurnEvent.{TurnEvent}
 use Rattle.rl_stream.specs.declared.nexts.Next.{Next}
 use Rattle.rl_stream.specs.declared.nexts.Next.TheVariants as next
 use Rattle.rl_stream.specs.Nexts.{IsNext}
 use Rattle.hub_machine.specs.declared.faults.Fault.TheVariants as fault
-use Rattle.hub_machine.specs.Bareness.{are_bare}
 use Rattle.hub_machine.specs.State.{State, opening, is_there}
 use Rattle.hub_machine.specs.Machine.{step as step_of}
 use Rattle.hub_machine.specs.Replays.{replay, sent_to, lowest, packet_in}
@@ -131,20 +129,16 @@ Decides N = (rest : List ℕ) (place : ℕ) → AreBytes rest → IsNext rest pl
 abbrev pub HasDecider : Type 0
 HasDecider = (N : Decider) × Decides N
 
--- in event n a turn of connection k; one that names caveats isn't built
-abbrev pub turn_sent : ℕ → ℕ → List TurnEvent → Running → Course
-turn_sent n k es r = if are_bare es then stepped (step.Packet k es) r else stops (not_built n)
-
 -- more is read where the connection is still there; st is its stream
 abbrev pub read_where : ℕ → StreamState → (Running → Course) → Running → Course
 read_where k st more r = if is_there k (state_of r) then more r else goes (with_stream k st r)
 
 -- a packet: a turn is sent, an error ends the connection, and anything else is passed over; st is the stream behind it
-abbrev pub with_packet : ℕ → ℕ → Packet → StreamState → (Running → Course) → Running → Course
-with_packet n k (packet.Turn es) st more r = goes_on (read_where k st more) (turn_sent n k es r)
-with_packet n k (packet.Error message detail) st more r = stepped (step.Close k) (with_stream k st r)
-with_packet n k packet.Nop st more r = more r
-with_packet n k (packet.Extension v) st more r = more r
+abbrev pub with_packet : ℕ → Packet → StreamState → (Running → Course) → Running → Course
+with_packet k (packet.Turn es) st more r = goes_on (read_where k st more) (stepped (step.Packet k es) r)
+with_packet k (packet.Error message detail) st more r = stepped (step.Close k) (with_stream k st r)
+with_packet k packet.Nop st more r = more r
+with_packet k (packet.Extension v) st more r = more r
 
 -- what is next is no packet: the connection ends where it is bad; st is its stream
 abbrev pub with_no_packet : ℕ → Next → StreamState → Running → Course
@@ -154,32 +148,32 @@ with_no_packet k next.BadPacket st r = stepped (step.Bad k fault.BadPacket) (wit
 with_no_packet k other st r = goes (with_stream k st r)
 
 -- what is next; more is read behind a packet, from as many bytes on as it has
-abbrev pub with_next : ℕ → ℕ → Next → StreamState → (ℕ → Running → Course) → Running → Course
-with_next n k (next.Whole p size) st more r = with_packet n k p (read_off size st) (more size) r
-with_next n k other st more r = with_no_packet k other st r
+abbrev pub with_next : ℕ → Next → StreamState → (ℕ → Running → Course) → Running → Course
+with_next k (next.Whole p size) st more r = with_packet k p (read_off size st) (more size) r
+with_next k other st more r = with_no_packet k other st r
 
 -- the packets of a connection that is there, so many at most; st is its stream
-abbrev pub all_read : Decider → ℕ → ℕ → ℕ → StreamState → Running → Course
-all_read N n k zero st r = goes (with_stream k st r)
-all_read N n k (suc m) st r = with_next n k (N st.rest st.place) st (λ size. all_read N n k m (read_off size st)) r
+abbrev pub all_read : Decider → ℕ → ℕ → StreamState → Running → Course
+all_read N k zero st r = goes (with_stream k st r)
+all_read N k (suc m) st r = with_next k (N st.rest st.place) st (λ size. all_read N k m (read_off size st)) r
 
 -- more bytes in a stream
 abbrev pub with_bytes : List ℕ → StreamState → StreamState
 with_bytes b st = record { rest = st.rest ++ b; place = st.place }
 
 -- the packets in a stream; each has one byte at least
-abbrev pub packets_read : Decider → ℕ → ℕ → StreamState → Running → Course
-packets_read N n k st r = all_read N n k (suc (length st.rest)) st r
+abbrev pub packets_read : Decider → ℕ → StreamState → Running → Course
+packets_read N k st r = all_read N k (suc (length st.rest)) st r
 
 -- a stream is taken out, to be put back with more bytes, or fewer
 abbrev pub without_stream : ℕ → Running → Running
 without_stream k r = record { steps = r.steps; streams = without_entry k r.streams }
 
 -- bytes come; those for an ended connection are dropped
-abbrev pub bytes_come : Decider → ℕ → ℕ → List ℕ → Running → Course
-bytes_come N n k b r =
+abbrev pub bytes_come : Decider → ℕ → List ℕ → Running → Course
+bytes_come N k b r =
     if is_there k (state_of r)
-    then packets_read N n k (with_bytes b (stream_of k r)) (without_stream k r) else goes r
+    then packets_read N k (with_bytes b (stream_of k r)) (without_stream k r) else goes r
 
 -- ---- events
 
@@ -193,7 +187,7 @@ may_turn a r = nat_le a 16 || was_opened (a - 16) r
 
 abbrev pub after_event : Decider → ℕ → ScriptEvent → Running → Course
 after_event N n (Open s) r = stepped (step.Arrive s) r
-after_event N n (Bytes k b) r = if was_opened k r then bytes_come N n k b r else stops (bad n)
+after_event N n (Bytes k b) r = if was_opened k r then bytes_come N k b r else stops (bad n)
 after_event N n (Close k) r = if was_opened k r then stepped (step.Close k) r else stops (bad n)
 after_event N n (Turn a) r = if may_turn a r then turned a r else stops (bad n)
 after_event N n (Drain m) r = drained m r

@@ -8,10 +8,10 @@ ghost use Rattle.sc_script.specs.Events.{is_symbol, is_binding, is_watch, unbuil
 ghost use Rattle.sc_script.specs.Events.{event_of_four};
 ghost use Rattle.sc_script.specs.Events.{event_of_record, event_of};
 
-use crate::embedded::has_embedded;
 use dp_pattern::{parse, worded};
 use hub_core::DATASPACES;
 use pv_value::{Blob, NoMemory, Node, Text, Value};
+use sr_caveat::has_embedded;
 use std::alloc::Global;
 
 /// The most turns of one drain.

@@ -4,7 +4,6 @@
 //! its values make, or stops for the first cause.
 #![tactic(auto)]
 
-mod embedded;
 mod events;
 mod faults;
 mod laws;

@@ -1,10 +1,11 @@
 //! Runs of scripts, over any body of a dataspace.
 ghost use Rattle.std.specs.Prelude.{◌≡◌, ◌≢◌, ◌+◌, ◌<◌, ◌≤◌, ℕ, IfOk, IfErr, IfSome};
 ghost use Rattle.hub_machine.specs.Machine.{IsAllowed};
+ghost use Rattle.hub_machine.specs.declared.steps.Step.TheVariants as steps;
 ghost use Rattle.sc_script.specs.declared.faults.ScriptFault.TheVariants as fault;
 ghost use Rattle.sc_script.specs.Events.{event_of};
 ghost use Rattle.sc_script.specs.Runs.{Running, Decider, Decides, Course, goes, beginning, stepped};
-ghost use Rattle.sc_script.specs.Runs.{turned, drained, with_stream, turn_sent, with_no_packet};
+ghost use Rattle.sc_script.specs.Runs.{turned, drained, with_stream, with_no_packet};
 ghost use Rattle.sc_script.specs.Runs.{packets_read, bytes_come, was_opened, may_turn, after_event};
 ghost use Rattle.sc_script.specs.Runs.{after_value, course_of, turning, size_of, noted, IsAt};
 ghost use Rattle.sc_script.specs.Runs.{HasRun};
@@ -16,7 +17,7 @@ use crate::faults::ScriptFault;
 use crate::outs::Outs;
 use crate::streams::{Stream, Streams};
 use ds_space::Space;
-use hub_core::{Fault, Hub, Reply, Step, bare};
+use hub_core::{Fault, Hub, Reply, Step};
 use pv_binary::write_into;
 use pv_value::{NoMemory, Value};
 use rl_packet::{Packet, Turn, packet_value};
@@ -197,20 +198,13 @@ impl<S: Space + Drop> Run<S> {
         })
     }
 
-    /// A turn of a connection, in event `place`.
-    fn send(
-        self,
-        alloc: Global,
-        place: u64,
-        connection: u32,
-        turn: Turn,
-    ) -> Result<Run<S>, ScriptFault>
-        ensures run { IfOk result (RunsAs self (λ N. turn_sent place connection turn)) }
-        ensures stop { IfErr result (StopsAs self (λ N. turn_sent place connection turn)) }
+    /// A turn of a connection.
+    fn send(self, alloc: Global, connection: u32, turn: Turn) -> Result<Run<S>, ScriptFault>
+        ensures run { IfOk result (RunsAs self (λ N. stepped (steps.Packet connection turn))) }
+        ensures stop { IfErr result (StopsAs self (λ N. stepped (steps.Packet connection turn))) }
     {
-        if !bare(&turn) {
-            return Err(ScriptFault::NotBuilt(place));
-        }
+        // the proof learns here that its events may stand on the wire
+        let _ = turn.as_slice();
         self.step(alloc, Step::Packet(connection, turn))
     }
 
@@ -236,26 +230,24 @@ impl<S: Space + Drop> Run<S> {
         }
     }
 
-    /// A packet of a connection, in event `place`. The stream behind it is put back where no more
-    /// is read.
+    /// A packet of a connection. The stream behind it is put back where no more is read.
     fn packet(
         self,
         alloc: Global,
-        place: u64,
         connection: u32,
         packet: Packet,
         stream: Stream,
     ) -> Result<(Run<S>, Option<Stream>), ScriptFault>
         ensures run { IfOk result (λ done. (N : Decider) → Decides N → (r : Running) → IsAt r self
             → ReadsOn done.0 done.1 stream
-            (λ more. with_packet place connection packet stream more r)) }
+            (λ more. with_packet connection packet stream more r)) }
         ensures left { IfOk result (λ done. IfSome done.1 (λ left. left ≡ stream)) }
         ensures stop { IfErr result (λ f. (more : Running → Course)
-            → StopsAs self (λ N. with_packet place connection packet stream more) f) }
+            → StopsAs self (λ N. with_packet connection packet stream more) f) }
     {
         match packet {
             Packet::Turn(turn) => {
-                let run = self.send(alloc, place, connection, turn)?;
+                let run = self.send(alloc, connection, turn)?;
                 if run.hub.live(connection) {
                     return Ok((run, Some(stream)));
                 }
@@ -269,19 +261,18 @@ impl<S: Space + Drop> Run<S> {
         }
     }
 
-    /// The packets in the stream of a connection that is there, in event `place`. The stream was
-    /// taken out, and is put back.
+    /// The packets in the stream of a connection that is there. The stream was taken out, and is
+    /// put back.
     fn read_packets(
         self,
         alloc: Global,
-        place: u64,
         connection: u32,
         mut stream: Stream,
     ) -> Result<Run<S>, ScriptFault>
         ensures run { IfOk result
-            (RunsAs self (λ N. packets_read N place connection stream)) }
+            (RunsAs self (λ N. packets_read N connection stream)) }
         ensures stop { IfErr result
-            (StopsAs self (λ N. packets_read N place connection stream)) }
+            (StopsAs self (λ N. packets_read N connection stream)) }
     {
         one_next();
         let mut run = self;
@@ -291,7 +282,7 @@ impl<S: Space + Drop> Run<S> {
                 return run.stop_reading(alloc, connection, next, stream);
             };
             stream.read_off(size);
-            let (now, left) = run.packet(alloc, place, connection, packet, stream)?;
+            let (now, left) = run.packet(alloc, connection, packet, stream)?;
             let Some(left) = left else {
                 return Ok(now);
             };
@@ -300,18 +291,12 @@ impl<S: Space + Drop> Run<S> {
         }
     }
 
-    /// Bytes of a connection come, in event `place`.
-    fn bytes(
-        self,
-        alloc: Global,
-        place: u64,
-        connection: u32,
-        bytes: &[u8],
-    ) -> Result<Run<S>, ScriptFault>
+    /// Bytes of a connection come.
+    fn bytes(self, alloc: Global, connection: u32, bytes: &[u8]) -> Result<Run<S>, ScriptFault>
         ensures run { IfOk result
-            (RunsAs self (λ N. bytes_come N place connection bytes.now)) }
+            (RunsAs self (λ N. bytes_come N connection bytes.now)) }
         ensures stop { IfErr result
-            (StopsAs self (λ N. bytes_come N place connection bytes.now)) }
+            (StopsAs self (λ N. bytes_come N connection bytes.now)) }
     {
         if !self.hub.live(connection) {
             return Ok(self);
@@ -329,7 +314,7 @@ impl<S: Space + Drop> Run<S> {
             size,
             streams,
         };
-        run.read_packets(alloc, place, connection, stream)
+        run.read_packets(alloc, connection, stream)
     }
 
     /// Whether a connection was ever opened.
@@ -356,7 +341,7 @@ impl<S: Space + Drop> Run<S> {
         match event {
             ScriptEvent::Open(space) => self.step(alloc, Step::Arrive(space)),
             ScriptEvent::Bytes(connection, bytes) if self.was_opened(connection) => {
-                self.bytes(alloc, place, connection, bytes.as_slice())
+                self.bytes(alloc, connection, bytes.as_slice())
             }
             ScriptEvent::Close(connection) if self.was_opened(connection) => {
                 self.step(alloc, Step::Close(connection))

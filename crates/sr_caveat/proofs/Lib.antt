@@ -1,4 +1,3 @@
-pub mod Found
 pub mod Dropping
 pub mod Folding
 pub mod Keys
@@ -7,7 +6,4 @@ pub mod Gathering
 pub mod Passes
 pub mod Told
 pub mod Reckoning
-pub mod Capped
 pub mod Guardless
-pub mod PatternsBack
-pub mod CaveatsBack

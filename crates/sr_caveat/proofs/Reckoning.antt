@@ -19,7 +19,8 @@ use Rattle.sr_caveat.specs.Caps.{Cap, cap_of, cap_read, cap_value, if_spelled, a
 use Rattle.sr_caveat.specs.Filling.{is_reference, if_reference, reference_with, dictionary_under, with_first, filled}
 use Rattle.sr_caveat.specs.Filling.{all_filled}
 use Rattle.sr_caveat.specs.Passing.{fits, if_fits}
-use Rattle.sr_caveat.proofs.Found.{If}
+use Rattle.sr_caveat.specs.Lemmas.Capped.{cap_is}
+use Rattle.sr_caveat.specs.Lemmas.Found.{If}
 use Rattle.std.proofs.Common.{◌<◌, get_or}
 use Rattle.sr_caveat.specs.Sizes.{Size, weights_of, depths_of}
 use Rattle.sr_caveat.specs.Sizes.{in_place, filled_weight, filled_weights, filled_depth, filled_depths}
@@ -114,19 +115,6 @@ appended_depth : (cs ds : List Caveat)
     ≡ max (deepest (caveat_values (caveats cs))) (deepest (caveat_values (caveats ds)))
 appended_depth [] ds = omega arith
 appended_depth (c ∷ cs) ds = omega (arith, appended_depth cs ds)
-
--- a value that is read as a reference is the value of it
-pub cap_is : (v : Plain) (c : Cap) → cap_of v ≡ Some c → v ≡ cap_value c
-cap_is v c e = by (cap_read v) e
-  where
-    spelled : (d : Cap) (b : Bool) → same (cap_value d) v ≡ b → cond {A = Option Cap} b (Some d) None ≡ Some c
-        → v ≡ cap_value c
-    spelled d true s f = let g : d ≡ c = cc in sym (same_is (cap_value d) v s) ∙ ap cap_value g
-    spelled d false s f = absurd cc
-
-    by : (o : Option Cap) → option_and_then (if_spelled v) o ≡ Some c → v ≡ cap_value c
-    by None f = absurd cc
-    by (Some d) f = spelled d (same (cap_value d) v) refl f
 
 caveats_back : (cs : Caveats) → caveats (listed_caveats cs) ≡ cs
 caveats_back no_caveats = refl

@@ -1,4 +1,8 @@
 -- Lemmas on the definitions, which proofs here and above cite. A reader of the contracts needs none of them.
+pub mod Capped
+pub mod CaveatsBack
 pub mod Coded
 pub mod Falls
+pub mod Found
 pub mod Measures
+pub mod PatternsBack

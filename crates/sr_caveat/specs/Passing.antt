@@ -1,5 +1,5 @@
 -- What passes caveats. Sturdyref document, "caveats".
-use Rattle.std.specs.Prelude.{ℕ, Bool, nat_le, List, [], ◌∷◌, Option, Some, None, is_some, option_and_then, ◌&&◌}
+use Rattle.std.specs.Prelude.{ℕ, Bool, false, nat_le, List, [], ◌∷◌, Option, Some, None, is_some, option_and_then, ◌&&◌}
 use Rattle.std.specs.Prelude.{if◌then◌else◌}
 use Rattle.pv_value.specs.Plain.{Plain}
 use Rattle.pv_value.specs.Weight.{weight}
@@ -35,6 +35,10 @@ ruled judged (guard name) v = if judged name v then Some v else None
 -- the same, and refused where it is past the bounds, also where it was left unchanged
 abbrev pub applied : (List ℕ → Plain → Bool) → Caveat → Plain → Option Plain
 applied judged c v = option_and_then if_fits (ruled judged c v)
+
+-- no name has a definition: each guard refuses
+abbrev pub no_names : List ℕ → Plain → Bool
+no_names name v = false
 
 -- what passes a list of caveats: the last one, the newest, comes first, and what it gives goes to the one before it.
 -- Where there are none, the value passes as it is

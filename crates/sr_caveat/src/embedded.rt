@@ -7,7 +7,7 @@ ghost use Rattle.sr_caveat.specs.Embedded.{has_embedded, any_embedded, any_pair_
 use pv_value::{Entry, Node, Value};
 
 #[cycle(embedded)]
-pub(crate) fn has_embedded(value: &Value) -> bool
+pub fn has_embedded(value: &Value) -> bool
     ensures { result ≡ has_embedded value.now }
 {
     match &value.node {

@@ -22,6 +22,7 @@ mod spelling;
 
 pub use caps::{Cap, Caveats};
 pub use caveats::parse_caveat;
+pub use embedded::has_embedded;
 pub use laws::{
     attenuating_narrows, bindings_are_binds, caps_are_their_values, caveats_are_read_back,
     newest_comes_first, no_guard_from_the_wire,

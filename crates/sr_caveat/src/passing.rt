@@ -35,10 +35,11 @@ pub struct NoNames;
 
 impl Judge for NoNames {
     ghost use Rattle.std.specs.Prelude.{false};
+    ghost use Rattle.sr_caveat.specs.Passing.{no_names};
 
     ghost known = { λ j name. false };
 
-    ghost judged = { λ j name v. false };
+    ghost judged = { λ j. no_names };
 
     fn knows(&self, _: &[u8]) -> bool {
         false

@@ -5,7 +5,7 @@ use Rattle.std.specs.Prelude.{is_some}
 use Rattle.std.proofs.Common.{Result, Ok, Err, IfOk, refl, sym, ap, ◌∙◌, subst, arith}
 use Rattle.std.proofs.lemmas.Bool.Decides.{nat_tests}
 use Rattle.pv_value.specs.Plain.{Plain}
-use Rattle.ds_space.specs.declared.references.Reference.{Reference}
+use Rattle.sr_caveat.specs.declared.caps.Cap.{Cap}
 use Rattle.ac_table.specs.declared.batches.Batch.{Batch}
 use Rattle.ac_table.specs.Tables.{Actor, first_batch, first_in, find_actor, is_live, popped, with_inbox}
 use Rattle.ac_world.specs.declared.sums.Load.{Load}
@@ -15,12 +15,14 @@ use Rattle.ac_world.specs.Turns.{After as TurnOf, turn, turn_with, connection_tu
 use Rattle.rl_packet.specs.declared.packets.Event.{Event}
 use Rattle.rl_packet.specs.declared.packets.Event.TheVariants.{Assert, Retract, Message, Sync}
 use Rattle.rl_packet.specs.declared.packets.TurnEvent.{TurnEvent}
-use Rattle.rl_ports.specs.Ports.{PortsState, export_of}
+use Rattle.rl_ports.specs.Ports.{PortsState}
 use Rattle.rl_wire.specs.Crossing.{size_fault}
 use Rattle.hub_machine.specs.Faults.{Fault, HandleInUse, over, where_it_is}
 use Rattle.hub_machine.specs.State.{State, ports_of}
 use Rattle.hub_machine.specs.Admission.{Admitting, Admitted, admitted, before_all, after, kept, weighed, rows_with}
-use Rattle.hub_machine.specs.Admission.{load_with, value_cause, load_cause, assertion_cause}
+use Rattle.hub_machine.specs.Admission.{load_with, value_cause, load_cause, let_through, row_cause, assertion_cause}
+use Rattle.hub_machine.specs.Admission.{said_cause}
+use Rattle.hub_machine.specs.Admission.{cap_at}
 use Rattle.hub_machine.specs.Admission.{event_cause, cause_at, unless, all_admitted, admission}
 use Rattle.hub_machine.specs.Machine.{step, unchanged, packet_at, judged, turn_of, after_turn, tell, told_unless}
 use Rattle.hub_machine.specs.Machine.{telling_fault}
@@ -29,8 +31,8 @@ use Rattle.hub_machine.specs.declared.steps.Step.{Step}
 use Rattle.hub_machine.specs.declared.steps.Step.TheVariants.{Arrive, Packet, Bad, Close, Turn, Work, Stop}
 use Rattle.hub_machine.specs.declared.steps.Reply.{Reply}
 use Rattle.hub_machine.specs.declared.steps.Reply.TheVariants.{Worn, Taken}
-use Rattle.hub_machine.specs.Completeness.{IsLight, MayWait, IsFineValue, IsFineAssertion, IsFineEvent, IsFineAt}
-use Rattle.hub_machine.specs.Completeness.{AreFine}
+use Rattle.hub_machine.specs.Completeness.{IsLight, MayWait, IsFineValue, IsFineRow, IsFineAssertion, IsFineMessage}
+use Rattle.hub_machine.specs.Completeness.{IsFineEvent, IsFineAt, AreFine}
 use Rattle.hub_machine.specs.Completeness.{IsFineFor, IsTurnReply, IsToldTo, told_reply, IsComplete}
 
 within : (most which n : ℕ) → n ≤ most → over most which n ≡ None
@@ -48,25 +50,36 @@ may_wait l m = rw (within 65536 10 l.count m.0, within 16777216 11 l.weight m.1)
 few : (n : ℕ) → n ≤ 4096 → top n ≤ 4096
 few n l = omega arith
 
-fine_assertion : (k : ℕ) (w : WorldState) (to : Reference) (v : Plain) (h : ℕ) (x : Admitting)
+fine_row : (w : WorldState) (to : Cap) (o : Option Plain) (x : Admitting) → IsFineRow w to o x
+    → row_cause w to o x ≡ None
+fine_row w to None x fine = refl
+fine_row w to (Some v) x fine =
+    rw (within 4194304 5 (rows_with (weighed v) x) fine.0, may_wait (load_with w to (weighed v) x) fine.1)
+
+fine_assertion : (k : ℕ) (w : WorldState) (to : Cap) (v : Plain) (h : ℕ) (x : Admitting)
     → IsFineAssertion k w to v h x → assertion_cause k w to v h x ≡ None
 fine_assertion k w to v h x fine =
     rw (
       fine_value k v x fine.0,
       ap (λ b. where_it_is b (HandleInUse h)) fine.1,
       within 4096 4 (top (length x.ports.handles + 1)) (few (length x.ports.handles + 1) fine.2),
-      within 4194304 5 (rows_with (weighed (kept k v x)) x) fine.3,
-      may_wait (load_with w to (weighed (kept k v x)) x) fine.4,
+      fine_row w to (let_through to (kept k v x)) x fine.3,
     )
 
-fine_event : (k : ℕ) (w : WorldState) (to : Reference) (e : Event) (x : Admitting) → IsFineEvent k w to e x
+fine_message : (w : WorldState) (to : Cap) (o : Option Plain) (x : Admitting) → IsFineMessage w to o x
+    → said_cause w to o x ≡ None
+fine_message w to None x fine = refl
+fine_message w to (Some v) x fine = may_wait (load_with w to (weighed v) x) fine
+
+fine_event : (k : ℕ) (w : WorldState) (to : Cap) (e : Event) (x : Admitting) → IsFineEvent k w to e x
     → event_cause k w to e x ≡ None
 fine_event k w to (Assert v h) x fine = fine_assertion k w to v h x fine
 fine_event k w to (Retract h) x fine = rw fine
-fine_event k w to (Message v) x fine = rw (fine_value k v x fine.0, may_wait _ fine.1)
+fine_event k w to (Message v) x fine =
+    rw (fine_value k v x fine.0, fine_message w to (let_through to (kept k v x)) x fine.1)
 fine_event k w to (Sync peer) x fine = rw (fine_value k peer x fine.0, may_wait _ fine.1)
 
-fine_at : (k : ℕ) (w : WorldState) (o : Option Reference) (e : TurnEvent) (x : Admitting) → IsFineAt k w o e.event x
+fine_at : (k : ℕ) (w : WorldState) (o : Option Cap) (e : TurnEvent) (x : Admitting) → IsFineAt k w o e.event x
     → cause_at k w o e x ≡ None
 fine_at k w None e x fine = absurd fine
 fine_at k w (Some to) e x fine = fine_event k w to e.event x fine
@@ -79,7 +92,7 @@ all_fine k w (e ∷ es) x fine =
     let rest = all_fine k w es (after k w e x) fine.1 in (
       rest.0,
       ap (λ c. unless c (all_admitted k w es (after k w e x)))
-          (fine_at k w (export_of e.oid x.ports) e x fine.0) ∙ rest.1,
+          (fine_at k w (cap_at e.oid x.ports) e x fine.0) ∙ rest.1,
     )
 
 fine_admission : (k : ℕ) (ports : PortsState) (w : WorldState) (es : List TurnEvent) → length es ≤ 1024

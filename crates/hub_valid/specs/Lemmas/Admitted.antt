@@ -1,147 +1,165 @@
 -- What the events of an admitted packet do names objects.
-use Rattle.std.proofs.Common.{◌≡◌, ℕ, zero, suc, pos, ◌+◌, ◌^◌, ◌<◌, ◌≤◌, Bool, true, false, ◌&&◌, List, [], ◌∷◌}
-use Rattle.std.proofs.Common.{length, Option, Some, None, refl, ◌∙◌, arith}
+use Rattle.std.proofs.Common.{◌≡◌, ℕ, zero, suc, pos, ◌+◌, ◌^◌, ◌<◌, ◌≤◌, Bool, true, false, List, [], ◌∷◌, length}
+use Rattle.std.proofs.Common.{Option, Some, None, cond, refl, sym, ◌∙◌, subst, arith}
 use Rattle.std.proofs.lemmas.Bool.Decides.{nat_tests}
-use Rattle.std.specs.Prelude.{is_some, option_map, option_and_then, slice_get, nat_lt, if◌then◌else◌}
+use Rattle.std.specs.Prelude.{IsSomeAnd, is_some, option_map, option_and_then, unwrap_or, slice_get, nat_lt}
 use Rattle.std.specs.Option.{option_or}
-use Rattle.std.specs.List.{AllByRecursion, list_all}
-use Rattle.pv_value.specs.Plain.{Plain, integer, sequence, embedded, no_more, then_more, plains}
-use Rattle.dp_pattern.specs.Words.{number}
-use Rattle.ds_space.specs.declared.references.Reference.{Reference}
-use Rattle.ds_space.specs.References.{reference_value}
+use Rattle.std.specs.List.{AllByRecursion}
+use Rattle.pv_value.specs.Plain.{Plain, integer, sequence, embedded, no_more, then_more}
+use Rattle.pv_value.specs.Weight.{weight}
+use Rattle.dp_pattern.specs.Words.{number_in}
+use Rattle.sr_caveat.specs.declared.caps.Cap.{Cap}
+use Rattle.sr_caveat.specs.Caps.{cap_of}
+use Rattle.sr_caveat.specs.Lemmas.Found.{If, if_cond}
 use Rattle.ac_world.specs.Worlds.{WorldState}
 use Rattle.rl_packet.specs.declared.packets.Event.{Event}
 use Rattle.rl_packet.specs.declared.packets.Event.TheVariants.{Assert, Retract, Message, Sync}
 use Rattle.rl_packet.specs.declared.packets.TurnEvent.{TurnEvent}
+use Rattle.rl_packet.specs.Wired.{is_wired, is_peer, IsEvent, IsTurnEvent}
 use Rattle.rl_ports.specs.declared.ports.Inbound.{Inbound}
 use Rattle.rl_ports.specs.declared.ports.Inbound.TheVariants.{Row, Refused}
-use Rattle.rl_ports.specs.Ports.{PortsState, inbound_of, export_of}
-use Rattle.rl_wire.specs.Crossing.{held_in, wire_of, wire_value, actor_at, value_of, object_in, crossed_in, unknown_of}
-use Rattle.rl_wire.specs.Crossing.{first_unknown, size_fault, are_wires}
+use Rattle.rl_ports.specs.Ports.{PortsState, inbound_of, export_of, told}
+use Rattle.rl_wire.specs.Crossing.{held_in, wire_where, wire_of, actor_at, caveats_in, with_caveats, reference_in}
+use Rattle.rl_wire.specs.Crossing.{crossed_in, export_fault_in, wire_fault, first_fault, reference_fault, size_fault}
+use Rattle.rl_wire.specs.declared.faults.WireFault.{WireFault}
+use Rattle.rl_wire.specs.declared.faults.WireFault.TheVariants.{UnknownOid, Limit, NoMemory}
+use Rattle.rl_wire.specs.declared.wires.Wire.{Wire}
+use Rattle.rl_wire.specs.declared.wires.Wire.TheVariants.{Own, ExportedAs}
+use Rattle.rl_wire.specs.Lemmas.Attenuating.{with_caveats_is_cap}
 use Rattle.hub_machine.specs.declared.faults.Fault.{Fault}
 use Rattle.hub_machine.specs.Faults.{over}
-use Rattle.rl_wire.specs.declared.faults.WireFault.TheVariants as wire
-use Rattle.hub_machine.specs.Bareness.{is_bare_peer, is_bare, are_bare}
 use Rattle.hub_machine.specs.Admission.{Admitting, admitted, before_all, value_cause, kept, inside, fault_of}
-use Rattle.hub_machine.specs.Admission.{event_cause, cause_at, cause_of, after_retraction, after_event, after_at, after}
+use Rattle.hub_machine.specs.Admission.{let_through, event_cause, cap_at, cause_at, cause_of, after_assertion}
+use Rattle.hub_machine.specs.Admission.{after_retraction, after_message, after_event, after_at, after}
 use Rattle.hub_machine.specs.Admission.{unless, all_admitted, admission}
 use Rattle.hub_valid.specs.Validity.{IsObject, IsObjectValue, HoldsObjects, IsValidAct, IsValidEntry}
 use Rattle.hub_valid.specs.Promises.{ActsAreValid}
-use Rattle.hub_valid.specs.Lemmas.Values.{all_append}
-use Rattle.hub_valid.specs.Lemmas.Crossed.{held_by_crossed}
+use Rattle.hub_valid.specs.Lemmas.Values.{all_append, all_got, cap_is_object}
+use Rattle.hub_valid.specs.Lemmas.Passed.{through_holds}
+use Rattle.hub_valid.specs.Lemmas.Crossed.{held_by_crossed, IsWireReference, held_by_wired}
 
--- ---- lists and tests
-
--- what stands at a place
-all_got : {X : Type 0} (P : X → Type 0) (xs : List X) (i : ℕ) (x : X) → AllByRecursion P xs → slice_get xs i ≡ Some x
-    → P x
-all_got P [] i x a is = absurd cc
-all_got P (y ∷ ys) zero x a is = let same : y ≡ x = cc in rw (← same) a.0
-all_got P (y ∷ ys) (suc i) x a is = all_got P ys i x a.1 is
-
-parts_true : (a b : Bool) → (a && b) ≡ true → (a ≡ true) × (b ≡ true)
-parts_true true b e = (refl, e)
-parts_true false b e = absurd cc
+-- ---- causes
 
 parts_none : {X : Type 0} (o q : Option X) → option_or o q ≡ None → (o ≡ None) × (q ≡ None)
 parts_none None q is = (refl, is)
 parts_none (Some x) q is = absurd cc
 
--- ---- wire references
+-- a wire reference that names an export that is there where it names one
+abbrev IsKnown : List Plain → Plain → Type 0
+IsKnown exports x = IsWireReference x × (wire_fault exports x (wire_of x) ≡ None)
 
--- `[whose m]`
-abbrev pair : ℕ → Plain → Plain
-pair whose m = sequence (plains (number whose ∷ m ∷ []))
-
--- a wire reference without caveats, which names an export that is there where it names one
-abbrev IsKnown : List Reference → Plain → Type 0
-IsKnown exports x = (is_some (wire_of x) ≡ true) × (unknown_of exports (wire_of x) ≡ None)
-
-all_known : (exports : List Reference) (xs : List Plain) → list_all (λ x. is_some (wire_of x)) xs ≡ true
-    → first_unknown exports xs ≡ None → AllByRecursion (IsKnown exports) xs
+all_known : (exports xs : List Plain) → AllByRecursion IsWireReference xs → first_fault exports xs ≡ None
+    → AllByRecursion (IsKnown exports) xs
 all_known exports [] wires known = tt
 all_known exports (x ∷ xs) wires known =
-    let w = parts_true (is_some (wire_of x)) (list_all (λ x. is_some (wire_of x)) xs) wires in
-    let k = parts_none (unknown_of exports (wire_of x)) (first_unknown exports xs) known in
-    ((w.0, k.0), all_known exports xs w.1 k.1)
+    let k = parts_none (wire_fault exports x (wire_of x)) (first_fault exports xs) known in
+    ((wires.0, k.0), all_known exports xs wires.1 k.1)
+
+-- a fault of a reference is told
+abbrev IsTold : WireFault → Type 0
+IsTold f = is_some (fault_of f) ≡ true
+
+reference_told : (r : Plain) → If (reference_fault r) IsTold
+reference_told r =
+    if_cond IsTold (nat_lt 32 (length (caveats_in r))) (Some (Limit 8 (length (caveats_in r)))) _ refl
+    (if_cond IsTold (nat_lt 65536 (told (weight r))) (Some (Limit 9 (told (weight r)))) None refl tt)
+
+wire_told : (exports : List Plain) (x : Plain) (o : Option Wire) → If (wire_fault exports x o) IsTold
+wire_told exports x None = tt
+wire_told exports x (Some (Own e)) = tt
+wire_told exports x (Some (ExportedAs n)) = by (slice_get exports n)
+  where
+    by : (o : Option Plain) → If (export_fault_in n (caveats_in x) o) IsTold
+    by None = refl
+    by (Some r) = reference_told (with_caveats (caveats_in x) r)
+
+first_told : (exports xs : List Plain) → If (first_fault exports xs) IsTold
+first_told exports [] = tt
+first_told exports (x ∷ xs) =
+    by (wire_fault exports x (wire_of x)) (wire_told exports x (wire_of x)) (first_told exports xs)
+  where
+    by : (o : Option WireFault) → If o IsTold → If (first_fault exports xs) IsTold
+        → If (option_or o (first_fault exports xs)) IsTold
+    by None h rest = rest
+    by (Some f) h rest = h
+
+none_told : (o q : Option WireFault) → If o IsTold → option_and_then fault_of (option_or o q) ≡ None → o ≡ None
+none_told None q h is = refl
+none_told (Some (UnknownOid n)) q h is = absurd cc
+none_told (Some (Limit which n)) q h is = absurd cc
+none_told (Some NoMemory) q h is = absurd cc
 
 none_unknown : (k : ℕ) (v : Plain) (x : Admitting) → value_cause k v x ≡ None
-    → first_unknown x.ports.exports (held_in v) ≡ None
-none_unknown k v x is = by (first_unknown x.ports.exports (held_in v)) is
+    → first_fault x.ports.exports (held_in v) ≡ None
+none_unknown k v x is =
+    none_told (first_fault x.ports.exports (held_in v)) (size_fault (kept k v x))
+    (first_told x.ports.exports (held_in v)) is
+
+number_low : (m : Plain) (e : ℕ) → number_in m ≡ Some e → e < 2 ^ 63
+number_low (integer (pos n)) e is = by (nat_lt n (2 ^ 63)) refl is
   where
-    by : (o : Option ℕ)
-        → option_and_then fault_of (option_or (option_map wire.UnknownOid o) (size_fault (kept k v x))) ≡ None
-        → o ≡ None
-    by None is = refl
-    by (Some n) is = absurd cc
+    by : (b : Bool) → nat_lt n (2 ^ 63) ≡ b → cond {A = Option ℕ} b (Some n) None ≡ Some e → e < 2 ^ 63
+    by true low is = let one : n ≡ e = cc in grind (arith, nat_tests, low, one)
+    by false high is = absurd cc
+number_low m e is = absurd cc
+
+-- a reference to an object with more caveats is one to it
+more_caveats : (n : ℕ) (ws : List Plain) (r : Plain) → IsObjectValue n r → IsObjectValue n (with_caveats ws r)
+more_caveats n ws r h = by (cap_of r) refl h
+  where
+    by : (o : Option Cap) → cap_of r ≡ o → IsSomeAnd o (IsObject n) → IsObjectValue n (with_caveats ws r)
+    by None is h = absurd h
+    by (Some c) is h = subst (λ o. IsSomeAnd o (IsObject n)) (sym (with_caveats_is_cap r c ws is)) h
 
 -- ---- values that come in; n is the number of the last actor
 
 module _ (n : ℕ) (few : n < 2 ^ 32) where
-  -- an object's value is read as the object
-  object_value : (r : Reference) → IsObject n r → IsObjectValue n (reference_value r)
-  object_value r o =
-      let at : nat_lt r.at (2 ^ 32) ≡ true = grind (arith, nat_tests, o.0, few) in
-      let entity : nat_lt r.entity (2 ^ 63) ≡ true = grind (arith, nat_tests, o.1) in
-      rw (at, entity) o
+  module _ (k : ℕ) (own : actor_at k ≤ n) (exports : List Plain) (named : AllByRecursion (IsObjectValue n) exports)
+    where
+      -- an object of the connection's own
+      own_known : (x : Plain) (o : Option ℕ) → ((e : ℕ) → o ≡ Some e → e < 2 ^ 63) → is_some o ≡ true
+          → IsObjectValue n (reference_in exports (actor_at k) x (wire_where Own o))
+      own_known x None low is = absurd cc
+      own_known x (Some e) low is =
+          cap_is_object n (record { actor = actor_at k; entity = e; caveats = [] })
+          (omega (arith, own, few), low e refl, tt) (own, low e refl)
 
-  module _ (k : ℕ) (own : actor_at k ≤ n) (exports : List Reference) (named : AllByRecursion (IsObject n) exports) where
-    -- an object of the connection's own
-    own_object : (e : ℕ) (b : Bool) → nat_lt e (2 ^ 63) ≡ b → IsKnown exports (wire_value 0 e)
-        → IsObjectValue n (object_in exports (actor_at k) (wire_value 0 e) (wire_of (wire_value 0 e)))
-    own_object e true small known =
-        let low : e < 2 ^ 63 = grind (arith, nat_tests, small) in
-        rw small (object_value (record { at = actor_at k; entity = e }) (own, low))
-    own_object e false large known = let wire = rw large at known.0 in absurd cc
+      export_known : (x : Plain) (o : Option ℕ) → is_some o ≡ true
+          → wire_fault exports x (wire_where ExportedAs o) ≡ None
+          → IsObjectValue n (reference_in exports (actor_at k) x (wire_where ExportedAs o))
+      export_known x None is none = absurd cc
+      export_known x (Some i) is none = by (slice_get exports i) (all_got (IsObjectValue n) exports i named) none
+        where
+          by : (o : Option Plain) → If o (IsObjectValue n) → export_fault_in i (caveats_in x) o ≡ None
+              → IsObjectValue n (unwrap_or (option_map (with_caveats (caveats_in x)) o) x)
+          by None object none = absurd cc
+          by (Some r) object none = more_caveats n (caveats_in x) r object
 
-    -- an export
-    export : (x : Plain) (i : ℕ) (o : Option Reference) → slice_get exports i ≡ o
-        → (if is_some o then None else Some i) ≡ None → IsObjectValue n (value_of x o)
-    export x i None got is = absurd cc
-    export x i (Some r) got is = object_value r (all_got (IsObject n) exports i r named got)
+      known_object : (x : Plain) → IsKnown exports x → IsObjectValue n (reference_in exports (actor_at k) x (wire_of x))
+      known_object (sequence (then_more (integer (pos zero)) (then_more m no_more))) known =
+          let x : Plain = sequence (then_more (integer (pos zero)) (then_more m no_more)) in
+          own_known x (number_in m) (number_low m) known.0
+      known_object (sequence (then_more (integer (pos (suc zero))) (then_more m cs))) known =
+          export_known (sequence (then_more (integer (pos (suc zero))) (then_more m cs))) (number_in m) known.0 known.1
+      known_object x known = let wire = known.0 in absurd cc
 
-    export_object : (i : ℕ) (b : Bool) → nat_lt i (2 ^ 63) ≡ b → IsKnown exports (wire_value 1 i)
-        → IsObjectValue n (object_in exports (actor_at k) (wire_value 1 i) (wire_of (wire_value 1 i)))
-    export_object i true small known =
-        let there = rw small at known.1 in
-        rw small (export (wire_value 1 i) i (slice_get exports i) refl there)
-    export_object i false large known = let wire = rw large at known.0 in absurd cc
+      value_comes_in : (v : Plain) → is_wired v ≡ true → first_fault exports (held_in v) ≡ None
+          → HoldsObjects n (crossed_in exports k v)
+      value_comes_in v wired known =
+          held_by_crossed (IsKnown exports) (IsObjectValue n) (λ x. reference_in exports (actor_at k) x (wire_of x))
+          known_object v (all_known exports (held_in v) (held_by_wired v wired) known)
 
-    -- a reference of this kind
-    abbrev IsKnownPair : ℕ → Plain → Type 0
-    IsKnownPair whose m = IsKnown exports (pair whose m)
-        → IsObjectValue n (object_in exports (actor_at k) (pair whose m) (wire_of (pair whose m)))
-
-    own_known : (m : Plain) → IsKnownPair 0 m
-    own_known (integer (pos e)) = own_object e (nat_lt e (2 ^ 63)) refl
-    own_known m = λ known. let wire = known.0 in absurd cc
-
-    export_known : (m : Plain) → IsKnownPair 1 m
-    export_known (integer (pos i)) = export_object i (nat_lt i (2 ^ 63)) refl
-    export_known m = λ known. let wire = known.0 in absurd cc
-
-    known_object : (x : Plain) → IsKnown exports x → IsObjectValue n (object_in exports (actor_at k) x (wire_of x))
-    known_object (sequence (then_more (integer (pos zero)) (then_more m no_more))) known = own_known m known
-    known_object (sequence (then_more (integer (pos (suc zero))) (then_more m no_more))) known = export_known m known
-    known_object x known = let wire = known.0 in absurd cc
-
-    value_comes_in : (v : Plain) → are_wires v ≡ true → first_unknown exports (held_in v) ≡ None
-        → HoldsObjects n (crossed_in exports k v)
-    value_comes_in v wires known =
-        held_by_crossed (IsKnown exports) (IsObjectValue n) (λ x. object_in exports (actor_at k) x (wire_of x))
-        known_object v (all_known exports (held_in v) wires known)
-
-    peer_comes_in : (peer : Plain) → is_bare_peer peer ≡ true → first_unknown exports (held_in peer) ≡ None
-        → IsObjectValue n (inside (crossed_in exports k peer))
-    peer_comes_in (embedded y) wire known =
-        known_object y (wire, (parts_none (unknown_of exports (wire_of y)) None known).0)
-    peer_comes_in peer wire known = absurd cc
+      peer_comes_in : (peer : Plain) → is_peer peer ≡ true → first_fault exports (held_in peer) ≡ None
+          → IsObjectValue n (inside (crossed_in exports k peer))
+      peer_comes_in (embedded y) wire known =
+          known_object y (wire, (parts_none (wire_fault exports y (wire_of y)) None known).0)
+      peer_comes_in peer wire known = absurd cc
 
   -- ---- events
 
-  -- the exports are objects, and what was done so far names objects
+  -- the exports are references to objects, and what was done so far names objects
   abbrev IsSound : Admitting → Type 0
-  IsSound x = AllByRecursion (IsObject n) x.ports.exports × AllByRecursion (IsValidAct n) x.acts
+  IsSound x = AllByRecursion (IsObjectValue n) x.ports.exports × AllByRecursion (IsValidAct n) x.acts
 
   module _ (k : ℕ) (own : actor_at k ≤ n) (w : WorldState) where
     retracted : (h : ℕ) (o : Option Inbound) (x : Admitting) → IsSound x → IsSound (after_retraction h o w x)
@@ -149,38 +167,58 @@ module _ (n : ℕ) (few : n < 2 ^ 32) where
     retracted h (Some Refused) x s = s
     retracted h (Some (Row m)) x s = (s.0, all_append (IsValidAct n) x.acts _ s.1 (tt, tt))
 
-    event_sound : (to : Reference) (e : Event) (x : Admitting) → IsObject n to → IsSound x → is_bare e ≡ true
-        → event_cause k w to e x ≡ None → IsSound (after_event k w to e x)
-    event_sound to (Assert v h) x o s bare is =
+    asserted : (to : Cap) (o : Option Plain) (h : ℕ) (x : Admitting) → IsObject n to → If o (HoldsObjects n) → IsSound x
+        → IsSound (after_assertion w to o h x)
+    asserted to None h x object value s = s
+    asserted to (Some v) h x object value s =
+        (s.0, all_append (IsValidAct n) x.acts _ s.1 ((object.0, object.1, value), tt))
+
+    messaged : (to : Cap) (o : Option Plain) (x : Admitting) → IsObject n to → If o (HoldsObjects n) → IsSound x
+        → IsSound (after_message w to o x)
+    messaged to None x object value s = s
+    messaged to (Some v) x object value s =
+        (s.0, all_append (IsValidAct n) x.acts _ s.1 ((object.0, object.1, value), tt))
+
+    -- at the object that reference r names
+    event_sound : (r : Plain) (to : Cap) (e : Event) (x : Admitting) → cap_of r ≡ Some to → IsObject n to → IsSound x
+        → IsEvent e → event_cause k w to e x ≡ None → IsSound (after_event k w to e x)
+    event_sound r to (Assert v h) x cap o s wired is =
         let a = parts_none _ _ is in
         let b = parts_none _ _ a.0 in
         let c = parts_none _ _ b.0 in
-        let d = parts_none _ _ c.0 in
-        let value = value_comes_in k own x.ports.exports s.0 v bare (none_unknown k v x d.0) in
-        (s.0, all_append (IsValidAct n) x.acts _ s.1 ((o.0, o.1, value), tt))
-    event_sound to (Retract h) x o s bare is = retracted h (inbound_of h x.ports) x s
-    event_sound to (Message v) x o s bare is =
+        let value = value_comes_in k own x.ports.exports s.0 v wired.0 (none_unknown k v x c.0) in
+        asserted to (let_through to (kept k v x)) h x o (through_holds n r (kept k v x) to cap value) s
+    event_sound r to (Retract h) x cap o s wired is = retracted h (inbound_of h x.ports) x s
+    event_sound r to (Message v) x cap o s wired is =
         let a = parts_none _ _ is in
-        let value = value_comes_in k own x.ports.exports s.0 v bare (none_unknown k v x a.0) in
-        (s.0, all_append (IsValidAct n) x.acts _ s.1 ((o.0, o.1, value), tt))
-    event_sound to (Sync peer) x o s bare is =
+        let value = value_comes_in k own x.ports.exports s.0 v wired (none_unknown k v x a.0) in
+        messaged to (let_through to (kept k v x)) x o (through_holds n r (kept k v x) to cap value) s
+    event_sound r to (Sync peer) x cap o s wired is =
         let a = parts_none _ _ is in
-        let value = peer_comes_in k own x.ports.exports s.0 peer bare (none_unknown k peer x a.0) in
+        let value = peer_comes_in k own x.ports.exports s.0 peer wired (none_unknown k peer x a.0) in
         (s.0, all_append (IsValidAct n) x.acts _ s.1 ((o.0, o.1, value), tt))
 
-    at_sound : (o : Option Reference) (e : TurnEvent) (x : Admitting) → export_of e.oid x.ports ≡ o → IsSound x
-        → is_bare e.event ≡ true → cause_at k w o e x ≡ None → IsSound (after_at k w o e.event x)
-    at_sound None e x found s bare is = absurd cc
-    at_sound (Some to) e x found s bare is =
-        event_sound to e.event x (all_got (IsObject n) x.ports.exports e.oid to s.0 found) s bare is
+    -- where r is the export
+    through_sound : (r : Plain) (o : Option Cap) (e : TurnEvent) (x : Admitting) → cap_of r ≡ o
+        → IsSomeAnd o (IsObject n) → IsSound x → IsEvent e.event → cause_at k w o e x ≡ None
+        → IsSound (after_at k w o e.event x)
+    through_sound r None e x cap object s wired is = absurd object
+    through_sound r (Some to) e x cap object s wired is = event_sound r to e.event x cap object s wired is
 
-    all_sound : (es : List TurnEvent) (x y : Admitting) → IsSound x → are_bare es ≡ true
+    at_sound : (q : Option Plain) (e : TurnEvent) (x : Admitting) → If q (IsObjectValue n) → IsSound x
+        → IsEvent e.event → cause_at k w (option_and_then cap_of q) e x ≡ None
+        → IsSound (after_at k w (option_and_then cap_of q) e.event x)
+    at_sound None e x object s wired is = absurd cc
+    at_sound (Some r) e x object s wired is = through_sound r (cap_of r) e x refl object s wired is
+
+    all_sound : (es : List TurnEvent) (x y : Admitting) → IsSound x → AllByRecursion IsTurnEvent es
         → all_admitted k w es x ≡ admitted y → IsSound y
-    all_sound [] x y s bare is = let same : x ≡ y = cc in rw (← same) s
-    all_sound (e ∷ es) x y s bare is =
-        let b = parts_true (is_bare e.event) (are_bare es) bare in
+    all_sound [] x y s wired is = let same : x ≡ y = cc in subst IsSound same s
+    all_sound (e ∷ es) x y s wired is =
         by (cause_of k w e x) refl is
-        (λ none. all_sound es (after k w e x) y (at_sound (export_of e.oid x.ports) e x refl s b.0 none) b.1)
+        (λ none. all_sound es (after k w e x) y
+        (at_sound (export_of e.oid x.ports) e x (all_got (IsObjectValue n) x.ports.exports e.oid s.0) s wired.0.1 none)
+        wired.1)
       where
         by : (o : Option Fault) → cause_of k w e x ≡ o → unless o (all_admitted k w es (after k w e x)) ≡ admitted y
             → (cause_of k w e x ≡ None → all_admitted k w es (after k w e x) ≡ admitted y → IsSound y) → IsSound y
@@ -192,16 +230,16 @@ module _ (n : ℕ) (few : n < 2 ^ 32) where
 -- the acts name objects, where the numbers of actors fit a reference
 pub acts_are_valid_below :
     (k : ℕ) (ports : PortsState) (es : List TurnEvent) (x : Admitting) (w : WorldState) → 16 + w.opened < 2 ^ 32
-    → IsValidEntry w.opened (k, ports) → are_bare es ≡ true → admission k ports w es ≡ admitted x
+    → IsValidEntry w.opened (k, ports) → AllByRecursion IsTurnEvent es → admission k ports w es ≡ admitted x
     → AllByRecursion (IsValidAct (16 + w.opened)) x.acts
-acts_are_valid_below k ports es x w few entry bare is = by (over 1024 3 (length es)) is
+acts_are_valid_below k ports es x w few entry wired is = by (over 1024 3 (length es)) is
   where
     own : actor_at k ≤ 16 + w.opened
     own = omega (arith, entry.0)
 
     by : (o : Option Fault) → unless o (all_admitted k w es (before_all k ports w)) ≡ admitted x
         → AllByRecursion (IsValidAct (16 + w.opened)) x.acts
-    by None is = (all_sound (16 + w.opened) few k own w es (before_all k ports w) x (entry.1, tt) bare is).1
+    by None is = (all_sound (16 + w.opened) few k own w es (before_all k ports w) x (entry.1, tt) wired is).1
     by (Some f) is = absurd cc
 
 -- ---- what the connection names
@@ -212,12 +250,22 @@ exports_retracted h None w x = refl
 exports_retracted h (Some Refused) w x = refl
 exports_retracted h (Some (Row m)) w x = refl
 
-exports_after : (k : ℕ) (w : WorldState) (o : Option Reference) (e : Event) (x : Admitting)
+exports_asserted : (to : Cap) (o : Option Plain) (h : ℕ) (w : WorldState) (x : Admitting)
+    → (after_assertion w to o h x).ports.exports ≡ x.ports.exports
+exports_asserted to None h w x = refl
+exports_asserted to (Some v) h w x = refl
+
+exports_messaged : (to : Cap) (o : Option Plain) (w : WorldState) (x : Admitting)
+    → (after_message w to o x).ports.exports ≡ x.ports.exports
+exports_messaged to None w x = refl
+exports_messaged to (Some v) w x = refl
+
+exports_after : (k : ℕ) (w : WorldState) (o : Option Cap) (e : Event) (x : Admitting)
     → (after_at k w o e x).ports.exports ≡ x.ports.exports
 exports_after k w None e x = refl
-exports_after k w (Some to) (Assert v h) x = refl
+exports_after k w (Some to) (Assert v h) x = exports_asserted to (let_through to (kept k v x)) h w x
 exports_after k w (Some to) (Retract h) x = exports_retracted h (inbound_of h x.ports) w x
-exports_after k w (Some to) (Message v) x = refl
+exports_after k w (Some to) (Message v) x = exports_messaged to (let_through to (kept k v x)) w x
 exports_after k w (Some to) (Sync peer) x = refl
 
 exports_after_all : (k : ℕ) (w : WorldState) (es : List TurnEvent) (x y : Admitting)
@@ -228,7 +276,7 @@ exports_after_all k w (e ∷ es) x y is = by (cause_of k w e x) is (exports_afte
     by : (o : Option Fault) → unless o (all_admitted k w es (after k w e x)) ≡ admitted y
         → (all_admitted k w es (after k w e x) ≡ admitted y → y.ports.exports ≡ (after k w e x).ports.exports)
         → y.ports.exports ≡ x.ports.exports
-    by None is later = later is ∙ exports_after k w (export_of e.oid x.ports) e.event x
+    by None is later = later is ∙ exports_after k w (cap_at e.oid x.ports) e.event x
     by (Some f) is later = absurd cc
 
 -- a packet exports nothing
@@ -242,5 +290,5 @@ exports_stay k ports w es x is = by (over 1024 3 (length es)) is
     by (Some f) is = absurd cc
 
 pub acts_are_valid : ActsAreValid
-acts_are_valid k ports es x s valid entry bare is =
-    acts_are_valid_below k ports es x s.world (omega (arith, valid.few)) entry bare is
+acts_are_valid k ports es x s valid entry wired is =
+    acts_are_valid_below k ports es x s.world (omega (arith, valid.few)) entry wired is

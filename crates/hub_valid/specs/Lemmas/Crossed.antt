@@ -1,9 +1,9 @@
 -- What is held in values that cross, and that what is sent may stand in a packet.
 use Rattle.std.proofs.Common.{◌≡◌, ℕ, zero, suc, ◌^◌, ◌<◌, ◌≤◌, Bool, true, false, ◌&&◌, List, [], ◌∷◌, ◌++◌, length}
-use Rattle.std.proofs.Common.{map, Option, Some, None, refl, arith}
-use Rattle.std.proofs.lemmas.Bool.{and_from}
+use Rattle.std.proofs.Common.{map, Option, Some, None, cond, refl, sym, ap, ◌∙◌, subst, arith}
+use Rattle.std.proofs.lemmas.Bool.{and_from, and_parts, lt-ltb}
 use Rattle.std.proofs.lemmas.Bool.Decides.{nat_tests}
-use Rattle.std.specs.Prelude.{◌==◌, IsSomeAnd, option_map, unwrap_or, if◌then◌else◌}
+use Rattle.std.specs.Prelude.{IsSomeAnd, option_map, unwrap_or, if◌then◌else◌}
 use Rattle.std.specs.declared.cmp.Ordering.{Ordering}
 use Rattle.std.specs.declared.cmp.Ordering.TheVariants.{Less, Equal, Greater}
 use Rattle.std.specs.Ordering.{match_ordering}
@@ -15,13 +15,17 @@ use Rattle.pv_value.specs.Plain.{then_pair, plains, listed, pairs, paired}
 use Rattle.pv_value.specs.Order.{order}
 use Rattle.pv_value.specs.Sets.{ascending_by}
 use Rattle.ds_space.specs.declared.references.Reference.{Reference}
-use Rattle.ds_space.specs.References.{reference_of, is_same}
+use Rattle.ds_space.specs.References.{reference_of}
+use Rattle.dp_pattern.specs.Matching.{same}
+use Rattle.sr_caveat.specs.declared.caps.Cap.{Cap}
+use Rattle.sr_caveat.specs.Caps.{cap_of}
+use Rattle.sr_caveat.specs.Lemmas.Capped.{cap_is, cap_sound}
 use Rattle.ac_table.specs.declared.batches.Event.{Event}
 use Rattle.ac_table.specs.declared.batches.Event.TheVariants.{Assert, Retract, Message, Sync}
 use Rattle.rl_packet.specs.Wired.{is_wire_reference, is_wired, all_wired, all_pairs_wired, IsTurnEvent}
 use Rattle.rl_ports.specs.Ports.{place_of, number_of}
 use Rattle.rl_wire.specs.Crossing.{by_keys, crossed, all_crossed, all_pairs_crossed, held_in, all_held_in}
-use Rattle.rl_wire.specs.Crossing.{all_pairs_held_in, actor_at, wire_value, object_out, crossed_out}
+use Rattle.rl_wire.specs.Crossing.{all_pairs_held_in, actor_at, wire_value, is_own, reference_out, crossed_out}
 use Rattle.rl_wire.specs.Lemmas.Later.{all_of_front, all_of_rest}
 use Rattle.hub_machine.specs.Machine.{sent_event}
 use Rattle.hub_valid.specs.Validity.{IsObject, IsObjectValue, HoldsObjects, IsValidEvent}
@@ -133,7 +137,7 @@ mutual
 
 -- ---- a value in which each embedded value holds a wire reference may stand in a packet
 
-abbrev IsWireReference : Plain → Type 0
+abbrev pub IsWireReference : Plain → Type 0
 IsWireReference x = is_wire_reference x ≡ true
 
 mutual
@@ -171,6 +175,40 @@ mutual
       (wired_by_held v (all_of_rest IsWireReference (held_in k) (held_in v) first)))
       (all_pairs_wired_by_held ps (all_of_rest IsWireReference (held_in k ++ held_in v) (all_pairs_held_in ps) a))
 
+-- ---- and where a value may, each does
+
+mutual
+  pub held_by_wired : (v : Plain) → is_wired v ≡ true → AllByRecursion IsWireReference (held_in v)
+  held_by_wired (embedded x) e = (e, tt)
+  held_by_wired (record_of l fs) e =
+      let parts = and_parts (is_wired l) (all_wired fs) e in
+      all_append IsWireReference (held_in l) (all_held_in fs) (held_by_wired l parts.0) (held_by_all_wired fs parts.1)
+  held_by_wired (sequence xs) e = held_by_all_wired xs e
+  held_by_wired (set_of xs) e = held_by_all_wired xs e
+  held_by_wired (dictionary ps) e = held_by_all_pairs_wired ps e
+  held_by_wired (boolean b) e = tt
+  held_by_wired (double d) e = tt
+  held_by_wired (integer n) e = tt
+  held_by_wired (string s) e = tt
+  held_by_wired (byte_string b) e = tt
+  held_by_wired (symbol s) e = tt
+
+  held_by_all_wired : (xs : Plains) → all_wired xs ≡ true → AllByRecursion IsWireReference (all_held_in xs)
+  held_by_all_wired no_more e = tt
+  held_by_all_wired (then_more x xs) e =
+      let parts = and_parts (is_wired x) (all_wired xs) e in
+      all_append IsWireReference (held_in x) (all_held_in xs) (held_by_wired x parts.0) (held_by_all_wired xs parts.1)
+
+  held_by_all_pairs_wired : (ps : PlainPairs) → all_pairs_wired ps ≡ true
+      → AllByRecursion IsWireReference (all_pairs_held_in ps)
+  held_by_all_pairs_wired no_pairs e = tt
+  held_by_all_pairs_wired (then_pair k v ps) e =
+      let parts = and_parts (is_wired k && is_wired v) (all_pairs_wired ps) e in
+      let here = and_parts (is_wired k) (is_wired v) parts.0 in
+      all_append IsWireReference (held_in k ++ held_in v) (all_pairs_held_in ps)
+      (all_append IsWireReference (held_in k) (held_in v) (held_by_wired k here.0) (held_by_wired v here.1))
+      (held_by_all_pairs_wired ps parts.1)
+
 -- ---- objects that go out
 
 own_wire : (e : ℕ) → e < 2 ^ 63 → IsWireReference (wire_value 1 e)
@@ -180,44 +218,56 @@ other_wire : (e : ℕ) → e < 2 ^ 63 → IsWireReference (wire_value 0 e)
 other_wire e low = grind (arith, nat_tests)
 
 -- an export's number is at most how many there are
-place_within : (r : Reference) (xs : List Reference) (n : ℕ) → place_of r xs ≡ Some n → n ≤ length xs
+place_within : (r : Plain) (xs : List Plain) (n : ℕ) → place_of r xs ≡ Some n → n ≤ length xs
 place_within r [] n is = absurd cc
-place_within r (x ∷ xs) n is = by (is_same r x) (place_of r xs) (place_within r xs) is
+place_within r (x ∷ xs) n is = by (same r x) (place_of r xs) (place_within r xs) is
   where
     by : (b : Bool) (o : Option ℕ) → ((m : ℕ) → o ≡ Some m → m ≤ length xs)
         → (if b then Some zero else option_map suc o) ≡ Some n → n ≤ suc (length xs)
-    by true o later is = let same : zero ≡ n = cc in omega arith
+    by true o later is = let one : zero ≡ n = cc in omega arith
     by false None later is = absurd cc
-    by false (Some m) later is = let same : suc m ≡ n = cc in omega (arith, later m refl)
+    by false (Some m) later is = let one : suc m ≡ n = cc in omega (arith, later m refl)
 
-number_within : (r : Reference) (xs : List Reference) → number_of r xs ≤ length xs
+number_within : (r : Plain) (xs : List Plain) → number_of r xs ≤ length xs
 number_within r xs = by (place_of r xs) (place_within r xs)
   where
     by : (o : Option ℕ) → ((m : ℕ) → o ≡ Some m → m ≤ length xs) → unwrap_or o (length xs) ≤ length xs
     by None within = omega arith
     by (Some n) within = within n refl
 
-object_goes_out : (n k : ℕ) (exports : List Reference) (x : Plain) → length exports ≤ 4096 → IsObjectValue n x
-    → IsWireReference (object_out exports (actor_at k) x (reference_of x))
-object_goes_out n k exports x few h = by (reference_of x) h
+-- the object that a reference names
+reference_read : (x : Plain) (c : Cap) → cap_of x ≡ Some c
+    → reference_of x ≡ Some (record { at = c.actor; entity = c.entity })
+reference_read x c is =
+    let sound = cap_sound x c is in
+    ap reference_of (cap_is x c is)
+    ∙ (λ i. cond {A = Option Reference} (lt-ltb c.actor (2 ^ 32) sound.0 i && lt-ltb c.entity (2 ^ 63) sound.1 i)
+    (Some (record { at = c.actor; entity = c.entity })) None)
+
+object_goes_out : (n k : ℕ) (exports : List Plain) (x : Plain) → length exports ≤ 4096 → IsObjectValue n x
+    → IsWireReference (reference_out exports (actor_at k) x (reference_of x))
+object_goes_out n k exports x few h = by (cap_of x) refl h
   where
-    at : (r : Reference) (b : Bool) → IsObject n r
-        → IsWireReference (if b then wire_value 1 r.entity else wire_value 0 (number_of r exports))
-    at r true o = own_wire r.entity o.1
-    at r false o = other_wire (number_of r exports) (omega (arith, number_within r exports))
+    at : (c : Cap) (b : Bool) → IsObject n c
+        → IsWireReference (if b then wire_value 1 c.entity else wire_value 0 (number_of x exports))
+    at c true o = own_wire c.entity o.1
+    at c false o = other_wire (number_of x exports) (omega (arith, number_within x exports))
 
-    by : (o : Option Reference) → IsSomeAnd o (IsObject n) → IsWireReference (object_out exports (actor_at k) x o)
-    by None h = absurd h
-    by (Some r) h = at r (r.at == actor_at k) h
+    by : (o : Option Cap) → cap_of x ≡ o → IsSomeAnd o (IsObject n)
+        → IsWireReference (reference_out exports (actor_at k) x (reference_of x))
+    by None is h = absurd h
+    by (Some c) is h =
+        subst (λ o. IsWireReference (reference_out exports (actor_at k) x o)) (sym (reference_read x c is))
+        (at c (is_own (actor_at k) x (record { at = c.actor; entity = c.entity })) h)
 
-sent_value : (n k : ℕ) (exports : List Reference) (v : Plain) → length exports ≤ 4096 → HoldsObjects n v
+sent_value : (n k : ℕ) (exports : List Plain) (v : Plain) → length exports ≤ 4096 → HoldsObjects n v
     → is_wired (crossed_out exports k v) ≡ true
 sent_value n k exports v few h =
     wired_by_held (crossed_out exports k v)
-    (held_by_crossed (IsObjectValue n) IsWireReference (λ x. object_out exports (actor_at k) x (reference_of x))
+    (held_by_crossed (IsObjectValue n) IsWireReference (λ x. reference_out exports (actor_at k) x (reference_of x))
     (λ x. object_goes_out n k exports x few) v h)
 
-sent_one : (n next k : ℕ) (exports : List Reference) (e : Event) → IsValidEvent n next e → next ≤ 2 ^ 63
+sent_one : (n next k : ℕ) (exports : List Plain) (e : Event) → IsValidEvent n next e → next ≤ 2 ^ 63
     → length exports ≤ 4096 → IsTurnEvent (sent_event exports k e)
 sent_one n next k exports (Assert h entity v) valid low few =
     (valid.1, (sent_value n k exports v few valid.2, omega arith))
@@ -226,7 +276,7 @@ sent_one n next k exports (Message entity v) valid low few = (valid.0, sent_valu
 sent_one n next k exports (Sync entity peer) valid low few =
     (valid.0, object_goes_out n k exports peer few valid.1)
 
-sent_all : (n next k : ℕ) (exports : List Reference) (es : List Event) → AllByRecursion (IsValidEvent n next) es
+sent_all : (n next k : ℕ) (exports : List Plain) (es : List Event) → AllByRecursion (IsValidEvent n next) es
     → next ≤ 2 ^ 63 → length exports ≤ 4096 → AllByRecursion IsTurnEvent (map (sent_event exports k) es)
 sent_all n next k exports [] valid low few = tt
 sent_all n next k exports (e ∷ es) valid low few =

@@ -1,7 +1,6 @@
 -- A valid state stays so: the first is valid, and each step of the hub keeps it so.
-use Rattle.std.proofs.Common.{◌≡◌, ℕ, ◌+◌, ◌-◌, ◌^◌, ◌<◌, ◌≤◌, ◌==◌, ◌&&◌, nat_lt, nat_le, List, [], ◌∷◌, ◌++◌, Bool}
+use Rattle.std.proofs.Common.{◌≡◌, ℕ, ◌+◌, ◌-◌, ◌^◌, ◌<◌, ◌≤◌, ◌&&◌, nat_lt, nat_le, List, [], ◌∷◌, ◌++◌, Bool}
 use Rattle.std.proofs.Common.{true, false, cond, Option, Some, None, refl, sym, subst, arith, length, is_some}
-use Rattle.std.proofs.Common.{IsSomeAnd}
 use Rattle.std.specs.List.{AllByRecursion, flat_map}
 use Rattle.std.specs.Map.{keys_of}
 use Rattle.std.proofs.lemmas.Bool.Decides.{nat_tests}
@@ -18,16 +17,17 @@ use Rattle.ac_world.specs.declared.turns.Turned.TheVariants as turned
 use Rattle.ac_world.specs.Worlds.{actor_of, entry_of, without_entry, is_system, gone}
 use Rattle.ac_world.specs.Turns.{turn}
 use Rattle.rl_packet.specs.declared.packets.TurnEvent.{TurnEvent}
+use Rattle.rl_packet.specs.Wired.{IsTurnEvent}
 use Rattle.rl_ports.specs.Ports.{PortsState, ports_to, with_exports, place_of, exported}
-use Rattle.rl_wire.specs.Crossing.{held_in, foreign_of, actor_at, all_exported}
+use Rattle.rl_wire.specs.Crossing.{held_in, is_own, foreign_of, actor_at, all_exported}
 use Rattle.hub_machine.specs.declared.faults.Fault.{Fault}
 use Rattle.hub_machine.specs.State.{State, ports_of, is_there}
-use Rattle.hub_machine.specs.Bareness.{are_bare}
 use Rattle.hub_machine.specs.Admission.{Admitted, refused, admitted, admission}
 use Rattle.hub_machine.specs.declared.faults.Fault.TheVariants as fault
 use Rattle.hub_machine.specs.Endings.{nameless, departed_for, closed, failed, failed_where, spread_out, all_spread_out}
 use Rattle.hub_machine.specs.Endings.{overrun_of, all_overrun, finished}
-use Rattle.hub_machine.specs.Machine.{unchanged, opened, refusal, arrive_unless, accepted, judged, packet_at, bad_at}
+use Rattle.hub_machine.specs.Machine.{unchanged, actor_reference, opened, refusal, arrive_unless, accepted, judged}
+use Rattle.hub_machine.specs.Machine.{packet_at, bad_at}
 use Rattle.hub_machine.specs.Machine.{close_at, told_value, foreign_told, foreign_to, telling_fault, exports_after}
 use Rattle.hub_machine.specs.Machine.{exporting, told_unless, tell, fault_for, tell_fault, after_turn, turn_of, rest}
 use Rattle.hub_machine.specs.Machine.{work_by, is_worn, done, step, IsAllowed}
@@ -35,12 +35,12 @@ use Rattle.hub_machine.specs.declared.steps.Step.{Step}
 use Rattle.hub_machine.specs.declared.steps.Step.TheVariants.{Arrive, Packet, Bad, Close, Turn, Work, Stop}
 use Rattle.hub_machine.specs.declared.steps.Reply.{Reply}
 use Rattle.hub_machine.specs.declared.steps.Reply.TheVariants.{Worn, Barred, Halted, Full, Idle}
-use Rattle.hub_valid.specs.Validity.{IsObject, IsObjectValue, IsValidEvent, IsValidBatch, IsValidEntry, AreValid}
+use Rattle.hub_valid.specs.Validity.{IsObjectValue, IsValidEvent, IsValidBatch, IsValidEntry, AreValid}
 use Rattle.hub_valid.specs.Validity.{IsValid, StaysValid}
 use Rattle.hub_valid.specs.Promises.{OpenedIsValid, AcceptedIsValid, NamelessIsValid, DepartedIsValid, TurnedIsValid}
 use Rattle.hub_valid.specs.Promises.{TakenIsValid, ExportingIsValid}
 use Rattle.hub_valid.specs.Lemmas.Admitted.{acts_are_valid, exports_stay}
-use Rattle.hub_valid.specs.Lemmas.Values.{all_flat, all_weaker, all_append, later_object}
+use Rattle.hub_valid.specs.Lemmas.Values.{all_flat, all_weaker, all_append, cap_is_object, later_inside}
 use Rattle.hub_valid.specs.Lemmas.WorldLists.{all_with, all_without, all_found}
 use Rattle.hub_valid.specs.Lemmas.Worlds.{beginning_valid, arrived_valid, sent_valid, gone_valid}
 use Rattle.hub_valid.specs.Lemmas.Turns.{turn_valid, turn_opens_none, taken_valid, taken_valid_after}
@@ -50,7 +50,7 @@ use Rattle.hub_valid.specs.Lemmas.Turns.{turn_valid, turn_opens_none, taken_vali
 later_entry : (m n : ℕ) (e : ℕ × PortsState) → m ≤ n → IsValidEntry m e → IsValidEntry n e
 later_entry m n e l v = (
   omega (arith, v.0),
-  all_weaker (IsObject (16 + m)) (IsObject (16 + n)) (λ r. later_object (16 + m) (16 + n) r (omega arith))
+  all_weaker (IsObjectValue (16 + m)) (IsObjectValue (16 + n)) (λ x. later_inside (16 + m) (16 + n) x (omega arith))
       e.1.exports v.1,
 )
 
@@ -70,10 +70,15 @@ opened_is_valid space s low few v = record {
   few = omega (arith, few);
   world = arrived_valid s.world v.world;
   named = all_with (IsValidEntry (s.world.opened + 1)) (s.world.opened + 1)
-      (ports_to (record { at = space; entity = 0 })) s.connections (omega arith, ((omega arith, omega arith), tt))
+      (ports_to (actor_reference space)) s.connections (omega arith, (first, tt))
       (all_weaker (IsValidEntry s.world.opened) (IsValidEntry (s.world.opened + 1))
       (λ e. later_entry s.world.opened (s.world.opened + 1) e (omega arith)) s.connections v.named);
 }
+  where
+    first : IsObjectValue (16 + (s.world.opened + 1)) (actor_reference space)
+    first =
+        cap_is_object (16 + (s.world.opened + 1)) (record { actor = space; entity = 0; caveats = [] })
+        (omega arith, omega arith, tt) (omega arith, omega arith)
 
 pub nameless_is_valid : NamelessIsValid
 nameless_is_valid k s v =
@@ -99,12 +104,12 @@ taken_is_valid a s b v is = taken_valid a s.world b v.world is
 -- ---- a packet that is accepted
 
 pub accepted_is_valid : AcceptedIsValid
-accepted_is_valid k ports es x s v entry bare is = record {
+accepted_is_valid k ports es x s v entry wired is = record {
   few = v.few;
-  world = sent_valid (actor_of k) x.acts s.world (acts_are_valid k ports es x s v entry bare is) v.world;
+  world = sent_valid (actor_of k) x.acts s.world (acts_are_valid k ports es x s v entry wired is) v.world;
   named = all_with (IsValidEntry s.world.opened) k x.ports s.connections (
     entry.0,
-    subst (AllByRecursion (IsObject (16 + s.world.opened))) (sym (exports_stay k ports s.world es x is))
+    subst (AllByRecursion (IsObjectValue (16 + s.world.opened))) (sym (exports_stay k ports s.world es x is))
         entry.1,
   )
       v.named;
@@ -112,29 +117,29 @@ accepted_is_valid k ports es x s v entry bare is = record {
 
 -- ---- a batch that a connection is told of
 
-foreign_object : (n actor : ℕ) (o : Option Reference) → IsSomeAnd o (IsObject n)
-    → AllByRecursion (IsObject n) (foreign_of actor o)
-foreign_object n actor None object = tt
-foreign_object n actor (Some r) object = by (r.at == actor)
+foreign_object : (n actor : ℕ) (x : Plain) (o : Option Reference) → IsObjectValue n x
+    → AllByRecursion (IsObjectValue n) (foreign_of actor x o)
+foreign_object n actor x None object = tt
+foreign_object n actor x (Some r) object = by (is_own actor x r)
   where
-    by : (b : Bool) → AllByRecursion (IsObject n) (cond b [] (r ∷ []))
+    by : (b : Bool) → AllByRecursion (IsObjectValue n) (cond b [] (x ∷ []))
     by true = tt
     by false = (object, tt)
 
 foreign_objects : (n actor : ℕ) (xs : List Plain) → AllByRecursion (IsObjectValue n) xs
-    → AllByRecursion (IsObject n) (flat_map (λ x. foreign_of actor (reference_of x)) xs)
+    → AllByRecursion (IsObjectValue n) (flat_map (λ x. foreign_of actor x (reference_of x)) xs)
 foreign_objects n actor xs all =
-    all_flat (IsObjectValue n) (IsObject n) (λ x. foreign_of actor (reference_of x))
-    (λ x. foreign_object n actor (reference_of x)) xs all
+    all_flat (IsObjectValue n) (IsObjectValue n) (λ x. foreign_of actor x (reference_of x))
+    (λ x. foreign_object n actor x (reference_of x)) xs all
 
 told_objects : (n next k : ℕ) (e : Told) → IsValidEvent n next e
-    → AllByRecursion (IsObject n) (foreign_told k (told_value e))
+    → AllByRecursion (IsObjectValue n) (foreign_told k (told_value e))
 told_objects n next k (told.Assert h entity x) fits = foreign_objects n (actor_at k) (held_in x) fits.2
 told_objects n next k (told.Retract h entity) fits = tt
 told_objects n next k (told.Message entity x) fits = foreign_objects n (actor_at k) (held_in x) fits.1
 told_objects n next k (told.Sync entity peer) fits = foreign_objects n (actor_at k) (peer ∷ []) (fits.1, tt)
 
-exported_pass : (P : Reference → Type 0) (r : Reference) (exports : List Reference) → P r → AllByRecursion P exports
+exported_pass : (P : Plain → Type 0) (r : Plain) (exports : List Plain) → P r → AllByRecursion P exports
     → AllByRecursion P (exported r exports)
 exported_pass P r exports p all = by (is_some (place_of r exports))
   where
@@ -142,7 +147,7 @@ exported_pass P r exports p all = by (is_some (place_of r exports))
     by true = all
     by false = all_append P exports (r ∷ []) all (p, tt)
 
-all_exported_pass : (P : Reference → Type 0) (exports rs : List Reference) → AllByRecursion P exports
+all_exported_pass : (P : Plain → Type 0) (exports rs : List Plain) → AllByRecursion P exports
     → AllByRecursion P rs → AllByRecursion P (all_exported exports rs)
 all_exported_pass P exports [] all more = all
 all_exported_pass P exports (r ∷ rs) all more =
@@ -154,8 +159,8 @@ exporting_is_valid k b ports s v entry fits = record {
   world = v.world;
   named = all_with (IsValidEntry s.world.opened) k (with_exports (exports_after k b ports) ports) s.connections (
     entry.0,
-    all_exported_pass (IsObject (16 + s.world.opened)) ports.exports (foreign_to k b) entry.1
-        (all_flat (IsValidEvent (16 + s.world.opened) s.world.table.next) (IsObject (16 + s.world.opened))
+    all_exported_pass (IsObjectValue (16 + s.world.opened)) ports.exports (foreign_to k b) entry.1
+        (all_flat (IsValidEvent (16 + s.world.opened) s.world.table.next) (IsObjectValue (16 + s.world.opened))
         (λ e. foreign_told k (told_value e)) (told_objects (16 + s.world.opened) s.world.table.next k) b.events
         fits),
   )
@@ -212,19 +217,19 @@ arrive_valid (Some r) space s low few v = v
 -- ---- packets
 
 judged_valid : (k : ℕ) (ports : PortsState) (es : List TurnEvent) (d : Admitted) (s : State) → IsValid s
-    → IsValidEntry s.world.opened (k, ports) → are_bare es ≡ true → admission k ports s.world es ≡ d
+    → IsValidEntry s.world.opened (k, ports) → AllByRecursion IsTurnEvent es → admission k ports s.world es ≡ d
     → IsValid (judged k d (nameless k s)).state
-judged_valid k ports es (refused f) s v entry bare is =
+judged_valid k ports es (refused f) s v entry wired is =
     finished_is_valid [] (departed_for k f (nameless k s)) (failed_valid k f s v)
-judged_valid k ports es (admitted x) s v entry bare is =
+judged_valid k ports es (admitted x) s v entry wired is =
     finished_is_valid [] (accepted k x (nameless k s))
-    (accepted_is_valid k ports es x (nameless k s) (nameless_is_valid k s v) entry bare is)
+    (accepted_is_valid k ports es x (nameless k s) (nameless_is_valid k s v) entry wired is)
 
 packet_valid : (k : ℕ) (o : Option PortsState) (es : List TurnEvent) (s : State) → IsValid s → ports_of k s ≡ o
-    → are_bare es ≡ true → IsValid (packet_at k o es s).state
-packet_valid k None es s v is bare = v
-packet_valid k (Some ports) es s v is bare =
-    judged_valid k ports es (admission k ports s.world es) s v (ports_valid k ports s v is) bare refl
+    → AllByRecursion IsTurnEvent es → IsValid (packet_at k o es s).state
+packet_valid k None es s v is wired = v
+packet_valid k (Some ports) es s v is wired =
+    judged_valid k ports es (admission k ports s.world es) s v (ports_valid k ports s v is) wired refl
 
 bad_valid : (k : ℕ) (o : Option PortsState) (f : Fault) (s : State) → IsValid s → IsValid (bad_at k o f s).state
 bad_valid k None f s v = v

@@ -1,11 +1,10 @@
 -- A turn keeps a world valid, and the batch that a connection takes is valid.
 use Rattle.std.proofs.Common.{◌≡◌, ℕ, ◌+◌, List, [], ◌∷◌, Bool, true, false, cond, map, not, Option, Some, None, refl}
-use Rattle.std.proofs.Common.{ap, sym, subst, unwrap_or, nat_lt, IsSomeAnd}
+use Rattle.std.proofs.Common.{ap, sym, subst, unwrap_or, nat_lt}
 use Rattle.std.specs.List.{AllByRecursion}
 use Rattle.std.specs.Map.{values_of}
 use Rattle.pv_value.specs.Plain.{Plain, boolean, sequence, plains}
-use Rattle.ds_space.specs.declared.references.Reference.{Reference}
-use Rattle.ds_space.specs.References.{reference_of}
+use Rattle.sr_caveat.specs.Lemmas.Found.{If}
 use Rattle.ds_space.specs.Spaces.{Rows, changed, has_row}
 use Rattle.ds_space.specs.declared.space.SpaceEvent.TheVariants.{Add, Gone}
 use Rattle.ds_space.specs.declared.space.Change.{Change}
@@ -22,14 +21,16 @@ use Rattle.ac_world.specs.declared.spreads.Spread.{Spread}
 use Rattle.ac_world.specs.declared.turns.Turned.TheVariants as turned
 use Rattle.ac_world.specs.Outboxes.{Plan, plan_over}
 use Rattle.ac_world.specs.Worlds.{WorldState, Seat, entry_of, no_seat, seat_of, is_space, is_system}
-use Rattle.ac_world.specs.Turns.{Turning, observer_in, Aim, aim_of, handle_for, drop_met, left, came_at, came}
+use Rattle.ac_world.specs.declared.aims.Aim.{Aim}
+use Rattle.ac_world.specs.Turns.{Turning, aim_at, aim_for, aim_of, handle_for, drop_met, left, came_at, came}
 use Rattle.ac_world.specs.Turns.{changed_by, all_changed, changes, with_rows, regot, spreading, by_assertion}
-use Rattle.ac_world.specs.Turns.{by_message, applied, taken_in, say_to, say_all, passed_on, answer_to, turned_by}
+use Rattle.ac_world.specs.Turns.{by_message, applied, taken_in, say_at, say_all, passed_on, answer_to, turned_by}
 use Rattle.ac_world.specs.Turns.{all_turned, answered, all_answered, begin_turn, space_turn, plain_turn}
 use Rattle.ac_world.specs.Turns.{connection_turn, After, turn_first, turn}
-use Rattle.hub_valid.specs.Validity.{IsObject, HoldsObjects, IsValidEvent, IsValidBatch, IsValidSeat, IsValidWorld}
+use Rattle.hub_valid.specs.Validity.{IsObjectValue, HoldsObjects, IsValidEvent, IsValidBatch, IsValidSeat, IsValidWorld}
 use Rattle.hub_valid.specs.Lemmas.Captured.{wants_hold, fan_holds}
-use Rattle.hub_valid.specs.Lemmas.Values.{all_append, observer_is_object, aim_is_object, sequence_holds}
+use Rattle.hub_valid.specs.Lemmas.Aims.{IsAimed, sent_aims, told_aims, key_aims}
+use Rattle.hub_valid.specs.Lemmas.Values.{all_append, sequence_holds}
 use Rattle.hub_valid.specs.Lemmas.WorldLists.{all_filter, all_with, all_without, all_found, values_pass, values_all}
 use Rattle.hub_valid.specs.Lemmas.WorldTables.{popped_valid, first_valid}
 use Rattle.hub_valid.specs.Lemmas.WorldPlans.{IsValidPlan, begin_valid, put_valid, dropped_valid, said_valid}
@@ -53,16 +54,14 @@ left_valid n a k t v = record { got = v.got; plan = by (handle_for k t.seat.met)
 
 came_valid : (n a : ℕ) (k : Plain) (t : Turning) → HoldsObjects n k → IsValidTurning n t
     → IsValidTurning n (came a k t)
-came_valid n a k t holds v = by (aim_of k) refl
+came_valid n a k t holds v = by (aim_of k) (key_aims n k holds)
   where
-    by : (o : Option Aim) → aim_of k ≡ o → IsValidTurning n (came_at a k o t)
+    by : (o : Option Aim) → If o (IsAimed n) → IsValidTurning n (came_at a k o t)
     by None is = v
-    by (Some aim) is =
-        let at = aim_is_object n k aim holds is in
-        record {
-          got = v.got;
-          plan = put_valid n a aim.at.at aim.at.entity aim.value t.plan at.0.0 at.0.1 at.1 v.plan;
-        }
+    by (Some aim) is = record {
+      got = v.got;
+      plan = put_valid n a aim.at.at aim.at.entity aim.value t.plan is.at is.entity is.value v.plan;
+    }
 
 -- a key that comes holds objects
 abbrev IsValidChange : ℕ → Change → Type 0
@@ -144,12 +143,10 @@ taken_in_valid n a from h x t holds v = by (has_row h t.seat.got)
 
 -- ---- what is only said
 
-say_to_valid : (n : ℕ) (o : Option Reference) (cs : List Plain) (p : Plan)
-    → ((r : Reference) → o ≡ Some r → IsObject n r) → AllByRecursion (HoldsObjects n) cs → IsValidPlan n p
-    → IsValidPlan n (say_to o cs p)
-say_to_valid n None cs p object all v = v
-say_to_valid n (Some r) cs p object all v =
-    said_valid n r.at (Message r.entity (sequence (plains cs))) p ((object r refl).1, sequence_holds n cs all) v
+say_at_valid : (n : ℕ) (o : Option Aim) (p : Plan) → If o (IsAimed n) → IsValidPlan n p → IsValidPlan n (say_at o p)
+say_at_valid n None p is v = v
+say_at_valid n (Some aim) p is v =
+    said_valid n aim.at.at (Message aim.at.entity aim.value) p (is.entity, is.value) v
 
 -- an observation and what it captures hold objects
 abbrev IsValidFanned : ℕ → Fanned → Type 0
@@ -159,9 +156,9 @@ say_all_valid : (n : ℕ) (fs : List Fanned) (p : Plan) → AllByRecursion (IsVa
     → IsValidPlan n (say_all fs p)
 say_all_valid n [] p all v = v
 say_all_valid n (f ∷ fs) p all v =
-    say_all_valid n fs (say_to (observer_in f.observe) f.captures p) all.1
-    (say_to_valid n (observer_in f.observe) f.captures p (λ r is. observer_is_object n f.observe r all.0.0 is)
-    all.0.1 v)
+    say_all_valid n fs (say_at (aim_for (sequence (plains f.captures)) f.observe) p) all.1
+    (say_at_valid n (aim_for (sequence (plains f.captures)) f.observe) p
+    (told_aims n (sequence (plains f.captures)) f.observe (sequence_holds n f.captures all.0.1) all.0.0) v)
 
 passed_on_valid : (n from : ℕ) (x : Plain) (t : Turning) → HoldsObjects n x → IsValidTurning n t
     → IsValidTurning n (passed_on from x t)
@@ -177,10 +174,10 @@ passed_on_valid n from x t holds v = by (nat_lt 33554432 (fan_weight (values_of 
           (fan_holds n (values_of t.seat.got) x v.got holds) v.plan;
     }
 
-answer_valid : (n : ℕ) (o : Option Reference) (p : Plan) → IsSomeAnd o (IsObject n) → IsValidPlan n p
-    → IsValidPlan n (answer_to o p)
-answer_valid n None p object v = v
-answer_valid n (Some r) p object v = said_valid n r.at (Message r.entity (boolean true)) p (object.1, tt) v
+answer_valid : (n : ℕ) (peer : Plain) (p : Plan) → IsObjectValue n peer → IsValidPlan n p
+    → IsValidPlan n (answer_to peer p)
+answer_valid n peer p object v =
+    say_at_valid n (aim_at (boolean true) peer) p (sent_aims n (boolean true) peer tt object) v
 
 -- ---- all events
 
@@ -191,7 +188,7 @@ turned_by_valid n next a from (Retract h entity) t fits v =
     regot_valid n a (changed t.seat.got (Gone h)) t (gone_holds n h t.seat.got v.got) v
 turned_by_valid n next a from (Message entity x) t fits v = passed_on_valid n from x t fits.1 v
 turned_by_valid n next a from (Sync entity peer) t fits v =
-    record { got = v.got; plan = answer_valid n (reference_of peer) t.plan fits.1 v.plan }
+    record { got = v.got; plan = answer_valid n peer t.plan fits.1 v.plan }
 
 all_turned_valid : (n next a from : ℕ) (es : List Event) (t : Turning) → AllByRecursion (IsValidEvent n next) es
     → IsValidTurning n t → IsValidTurning n (all_turned a from es t)
@@ -204,7 +201,7 @@ answered_valid : (n next : ℕ) (e : Event) (p : Plan) → IsValidEvent n next e
 answered_valid n next (Assert h entity x) p fits v = v
 answered_valid n next (Retract h entity) p fits v = v
 answered_valid n next (Message entity x) p fits v = v
-answered_valid n next (Sync entity peer) p fits v = answer_valid n (reference_of peer) p fits.1 v
+answered_valid n next (Sync entity peer) p fits v = answer_valid n peer p fits.1 v
 
 all_answered_valid : (n next : ℕ) (es : List Event) (p : Plan) → AllByRecursion (IsValidEvent n next) es
     → IsValidPlan n p → IsValidPlan n (all_answered es p)

@@ -1,20 +1,23 @@
 -- Lists of which each element passes, and values that hold objects.
-use Rattle.std.proofs.Common.{◌≡◌, ℕ, ◌≤◌, true, ◌&&◌, List, [], ◌∷◌, ◌++◌, Option, Some, None, refl, arith}
-use Rattle.std.specs.Prelude.{IsSomeAnd, is_some, flat_map}
+use Rattle.std.proofs.Common.{◌≡◌, ℕ, zero, suc, ◌≤◌, List, [], ◌∷◌, ◌++◌, Option, Some, None, sym, subst, arith}
+use Rattle.std.specs.Prelude.{IsSomeAnd, option_map, slice_get, flat_map}
 use Rattle.std.specs.declared.cmp.Ordering.{Ordering}
 use Rattle.std.specs.declared.cmp.Ordering.TheVariants.{Less, Equal, Greater}
 use Rattle.std.specs.Ordering.{match_ordering}
 use Rattle.std.specs.BTreeSet.{insert_key}
-use Rattle.std.specs.List.{AllByRecursion, list_all}
+use Rattle.std.specs.List.{AllByRecursion}
 use Rattle.pv_value.specs.Plain.{Plain, record_of, sequence, embedded, no_more, then_more, plains}
+use Rattle.pv_value.specs.Plain.{PlainPairs, no_pairs, then_pair}
 use Rattle.pv_value.specs.Sets.{ascending_by}
-use Rattle.ds_space.specs.declared.references.Reference.{Reference}
-use Rattle.ds_space.specs.References.{reference_of}
-use Rattle.ac_world.specs.Turns.{observer_in, Aim, aim_at, aim_of}
-use Rattle.rl_wire.specs.Crossing.{held_in, all_held_in}
+use Rattle.dp_pattern.specs.Matching.{same, both, value_under}
+use Rattle.sr_caveat.specs.declared.caps.Cap.{Cap}
+use Rattle.sr_caveat.specs.Caps.{cap_of, cap_value, IsSound}
+use Rattle.sr_caveat.specs.Lemmas.Capped.{caps_are_their_values}
+use Rattle.sr_caveat.specs.Lemmas.Found.{If, if_cond}
+use Rattle.ac_world.specs.Turns.{observer_in}
+use Rattle.rl_wire.specs.Crossing.{held_in, all_held_in, all_pairs_held_in}
 use Rattle.rl_wire.specs.Lemmas.Later.{all_of_front, all_of_rest}
 use Rattle.hub_valid.specs.Validity.{IsObject, IsObjectValue, HoldsObjects}
-use Rattle.hub_valid.specs.Promises.{HoldsReferences}
 
 -- ---- lists
 
@@ -52,66 +55,42 @@ all_ascending P before [] a = tt
 all_ascending P before (x ∷ xs) a =
     all_inserted P before (ascending_by before xs) x (all_ascending P before xs a.1) a.0
 
+-- what stands at a place
+pub all_got : {X : Type 0} (P : X → Type 0) (xs : List X) (i : ℕ) → AllByRecursion P xs → If (slice_get xs i) P
+all_got P [] i a = tt
+all_got P (x ∷ xs) zero a = a.0
+all_got P (x ∷ xs) (suc i) a = all_got P xs i a.1
+
+-- ---- references to objects
+
+pub cap_is_object : (n : ℕ) (c : Cap) → IsSound c → IsObject n c → IsObjectValue n (cap_value c)
+cap_is_object n c sound object = subst (λ o. IsSomeAnd o (IsObject n)) (sym (caps_are_their_values.0 c sound)) object
+
+pub object_found : (n : ℕ) (x : Plain) (c : Cap) → IsObjectValue n x → cap_of x ≡ Some c → IsObject n c
+object_found n x c h is = subst (λ o. IsSomeAnd o (IsObject n)) is h
+
 -- ---- an object stays one as actors come
 
-pub later_object : (m n : ℕ) (r : Reference) → m ≤ n → IsObject m r → IsObject n r
-later_object m n r l h = (omega arith, h.1)
+later_object : (m n : ℕ) (c : Cap) → m ≤ n → IsObject m c → IsObject n c
+later_object m n c l h = (omega arith, h.1)
 
 pub later_inside : (m n : ℕ) (x : Plain) → m ≤ n → IsObjectValue m x → IsObjectValue n x
-later_inside m n x l h = by (reference_of x) h
+later_inside m n x l h = by (cap_of x) h
   where
-    by : (o : Option Reference) → IsSomeAnd o (IsObject m) → IsSomeAnd o (IsObject n)
+    by : (o : Option Cap) → IsSomeAnd o (IsObject m) → IsSomeAnd o (IsObject n)
     by None h = absurd h
-    by (Some r) h = later_object m n r l h
+    by (Some c) h = later_object m n c l h
 
 pub later_value : (m n : ℕ) (v : Plain) → m ≤ n → HoldsObjects m v → HoldsObjects n v
 later_value m n v l h = all_weaker (IsObjectValue m) (IsObjectValue n) (λ x. later_inside m n x l) (held_in v) h
 
--- ---- what holds an object is a reference
+-- ---- what observations name
 
-all_references : (n : ℕ) (xs : List Plain) → AllByRecursion (IsObjectValue n) xs
-    → list_all (λ x. is_some (reference_of x)) xs ≡ true
-all_references n [] a = refl
-all_references n (x ∷ xs) a = by (reference_of x) a.0 (all_references n xs a.1)
-  where
-    by : (o : Option Reference) → IsSomeAnd o (IsObject n) → list_all (λ x. is_some (reference_of x)) xs ≡ true
-        → (is_some o && list_all (λ x. is_some (reference_of x)) xs) ≡ true
-    by None h rest = absurd h
-    by (Some r) h rest = rest
-
-pub holds_references : HoldsReferences
-holds_references n v h = all_references n (held_in v) h
-
--- ---- what observations and keys name
-
-object_found : (n : ℕ) (o : Option Reference) (r : Reference) → IsSomeAnd o (IsObject n) → o ≡ Some r → IsObject n r
-object_found n None r h is = absurd h
-object_found n (Some q) r h is = let same : q ≡ r = cc in rw (← same) h
-
-pub observer_is_object : (n : ℕ) (o : Plain) (r : Reference) → HoldsObjects n o → observer_in o ≡ Some r → IsObject n r
-observer_is_object n (record_of l (then_more p (then_more (embedded x) no_more))) r h is =
+pub observer_is_object : (n : ℕ) (o : Plain) → HoldsObjects n o → If (observer_in o) (IsObjectValue n)
+observer_is_object n (record_of l (then_more p (then_more (embedded x) no_more))) h =
     let fields = all_of_rest (IsObjectValue n) (held_in l) (held_in p ++ x ∷ []) h in
-    object_found n (reference_of x) r (all_of_rest (IsObjectValue n) (held_in p) (x ∷ []) fields).0 is
-observer_is_object n o r h is = absurd cc
-
-pub aim_is_object : (n : ℕ) (key : Plain) (aim : Aim) → HoldsObjects n key → aim_of key ≡ Some aim
-    → IsObject n aim.at × HoldsObjects n aim.value
-aim_is_object n (sequence (then_more o (then_more c no_more))) aim h is = by (observer_in o) refl is
-  where
-    there : HoldsObjects n o
-    there = all_of_front (IsObjectValue n) (held_in o) (held_in c ++ []) h
-
-    told : HoldsObjects n c
-    told = all_of_front (IsObjectValue n) (held_in c) [] (all_of_rest (IsObjectValue n) (held_in o) (held_in c ++ []) h)
-
-    by : (q : Option Reference) → observer_in o ≡ q → aim_at q c ≡ Some aim
-        → IsObject n aim.at × HoldsObjects n aim.value
-    by None is aims = absurd cc
-    by (Some r) is aims =
-        let at : r ≡ aim.at = cc in
-        let value : c ≡ aim.value = cc in
-        (rw (← at) (observer_is_object n o r there is), rw (← value) told)
-aim_is_object n key aim h is = absurd cc
+    (all_of_rest (IsObjectValue n) (held_in p) (x ∷ []) fields).0
+observer_is_object n o h = tt
 
 -- ---- sequences
 
@@ -120,3 +99,28 @@ pub sequence_holds : (n : ℕ) (cs : List Plain) → AllByRecursion (HoldsObject
 sequence_holds n [] a = tt
 sequence_holds n (c ∷ cs) a =
     all_append (IsObjectValue n) (held_in c) (all_held_in (plains cs)) a.0 (sequence_holds n cs a.1)
+
+-- ---- what is found in values that hold objects
+
+-- each value of the list does, where there is one
+abbrev pub FoundHold : ℕ → Option (List Plain) → Type 0
+FoundHold n o = If o (AllByRecursion (HoldsObjects n))
+
+pub one_more_holds : (n : ℕ) (v : Plain) (o : Option (List Plain)) → HoldsObjects n v → FoundHold n o
+    → FoundHold n (option_map (λ xs. v ∷ xs) o)
+one_more_holds n v None h a = tt
+one_more_holds n v (Some xs) h a = (h, a)
+
+pub both_hold : (n : ℕ) (o q : Option (List Plain)) → FoundHold n o → FoundHold n q → FoundHold n (both o q)
+both_hold n None q a b = tt
+both_hold n (Some xs) None a b = tt
+both_hold n (Some xs) (Some ys) a b = all_append (HoldsObjects n) xs ys a b
+
+pub value_holds : (n : ℕ) (ps : PlainPairs) (key : Plain) → AllByRecursion (IsObjectValue n) (all_pairs_held_in ps)
+    → If (value_under ps key) (HoldsObjects n)
+value_holds n no_pairs key h = tt
+value_holds n (then_pair k v ps) key h =
+    let first = all_of_front (IsObjectValue n) (held_in k ++ held_in v) (all_pairs_held_in ps) h in
+    if_cond (HoldsObjects n) (same k key) (Some v) (value_under ps key)
+    (all_of_rest (IsObjectValue n) (held_in k) (held_in v) first)
+    (value_holds n ps key (all_of_rest (IsObjectValue n) (held_in k ++ held_in v) (all_pairs_held_in ps) h))

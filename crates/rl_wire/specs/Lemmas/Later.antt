@@ -1,7 +1,7 @@
 -- What a connection was told goes out the same by its later exports.
 use Rattle.std.proofs.Common.{◌≡◌, ℕ, List, [], ◌∷◌, ◌++◌, Bool, true, false, length, Option, Some, None}
 use Rattle.std.proofs.Common.{refl, ap}
-use Rattle.std.specs.Prelude.{is_some, unwrap_or, if◌then◌else◌, ◌==◌}
+use Rattle.std.specs.Prelude.{is_some, unwrap_or, if◌then◌else◌}
 use Rattle.std.specs.List.{AllByRecursion, flat_map}
 use Rattle.pv_value.specs.Plain.{Plain, integer, record_of, sequence, set_of, dictionary, embedded}
 use Rattle.pv_value.specs.Plain.{boolean, double, string, byte_string, symbol}
@@ -13,7 +13,8 @@ use Rattle.ds_space.specs.declared.references.Reference.{Reference}
 use Rattle.ds_space.specs.References.{reference_of}
 use Rattle.rl_ports.specs.Ports.{number_of, place_of}
 use Rattle.rl_wire.specs.Crossing.{by_keys, crossed, all_crossed, all_pairs_crossed, held_in, all_held_in}
-use Rattle.rl_wire.specs.Crossing.{all_pairs_held_in, foreign_of, foreign_in, actor_at, object_out, wire_value}
+use Rattle.rl_wire.specs.Crossing.{all_pairs_held_in, is_own, foreign_of, foreign_in, actor_at, reference_out}
+use Rattle.rl_wire.specs.Crossing.{wire_value}
 use Rattle.rl_wire.specs.Crossing.{all_exported, crossed_out}
 use Rattle.rl_wire.specs.Lemmas.Exporting.{IsExported, place_later}
 
@@ -72,7 +73,7 @@ mutual
 
 -- ---- what is exported has the same number later
 
-number_later : (r : Reference) (exports more : List Reference) → IsExported exports r
+number_later : (r : Plain) (exports more : List Plain) → IsExported exports r
     → number_of r (all_exported exports more) ≡ number_of r exports
 number_later r exports more there =
     rw (place_later r exports more there) (by (place_of r exports) there)
@@ -82,33 +83,33 @@ number_later r exports more there =
     by None is = absurd cc
     by (Some n) is = refl
 
-object_later : (exports more : List Reference) (a : ℕ) (x : Plain) (o : Option Reference)
-    → AllByRecursion (IsExported exports) (foreign_of a o)
-    → object_out (all_exported exports more) a x o ≡ object_out exports a x o
-object_later exports more a x None there = refl
-object_later exports more a x (Some r) there = by (r.at == a) there
+reference_later : (exports more : List Plain) (a : ℕ) (x : Plain) (o : Option Reference)
+    → AllByRecursion (IsExported exports) (foreign_of a x o)
+    → reference_out (all_exported exports more) a x o ≡ reference_out exports a x o
+reference_later exports more a x None there = refl
+reference_later exports more a x (Some r) there = by (is_own a x r) there
   where
-    by : (b : Bool) → AllByRecursion (IsExported exports) (if b then [] else r ∷ [])
-        → (if b then wire_value 1 r.entity else wire_value 0 (number_of r (all_exported exports more)))
-        ≡ (if b then wire_value 1 r.entity else wire_value 0 (number_of r exports))
+    by : (b : Bool) → AllByRecursion (IsExported exports) (if b then [] else x ∷ [])
+        → (if b then wire_value 1 r.entity else wire_value 0 (number_of x (all_exported exports more)))
+        ≡ (if b then wire_value 1 r.entity else wire_value 0 (number_of x exports))
     by true is = refl
-    by false is = ap (wire_value 0) (number_later r exports more is.0)
+    by false is = ap (wire_value 0) (number_later x exports more is.0)
 
-objects_later : (exports more : List Reference) (a : ℕ) (xs : List Plain)
-    → AllByRecursion (IsExported exports) (flat_map (λ x. foreign_of a (reference_of x)) xs)
-    → AllByRecursion (λ x. object_out (all_exported exports more) a x (reference_of x)
-    ≡ object_out exports a x (reference_of x)) xs
-objects_later exports more a [] there = tt
-objects_later exports more a (x ∷ xs) there = (
-  object_later exports more a x (reference_of x)
-      (all_of_front _ (foreign_of a (reference_of x)) (flat_map (λ y. foreign_of a (reference_of y)) xs) there),
-  objects_later exports more a xs
-      (all_of_rest _ (foreign_of a (reference_of x)) (flat_map (λ y. foreign_of a (reference_of y)) xs) there),
+references_later : (exports more : List Plain) (a : ℕ) (xs : List Plain)
+    → AllByRecursion (IsExported exports) (flat_map (λ x. foreign_of a x (reference_of x)) xs)
+    → AllByRecursion (λ x. reference_out (all_exported exports more) a x (reference_of x)
+    ≡ reference_out exports a x (reference_of x)) xs
+references_later exports more a [] there = tt
+references_later exports more a (x ∷ xs) there = (
+  reference_later exports more a x (reference_of x)
+      (all_of_front _ (foreign_of a x (reference_of x)) (flat_map (λ y. foreign_of a y (reference_of y)) xs) there),
+  references_later exports more a xs
+      (all_of_rest _ (foreign_of a x (reference_of x)) (flat_map (λ y. foreign_of a y (reference_of y)) xs) there),
 )
 
--- where the objects of others in a value are exported, it goes out the same once more are
-pub crossed_out_later : (exports more : List Reference) (k : ℕ) (v : Plain)
+-- where the references in a value are exported, it goes out the same once more are
+pub crossed_out_later : (exports more : List Plain) (k : ℕ) (v : Plain)
     → AllByRecursion (IsExported exports) (foreign_in k v)
     → crossed_out (all_exported exports more) k v ≡ crossed_out exports k v
 crossed_out_later exports more k v there =
-    crossed_alike _ _ v (objects_later exports more (actor_at k) (held_in v) there)
+    crossed_alike _ _ v (references_later exports more (actor_at k) (held_in v) there)

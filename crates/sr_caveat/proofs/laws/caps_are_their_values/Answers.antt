@@ -1,5 +1,5 @@
 -- The goals of `caps_are_their_values` that the check leaves.
-use Rattle.sr_caveat.proofs.Capped.{caps_are_their_values}
+use Rattle.sr_caveat.specs.Lemmas.Capped.{caps_are_their_values}
 use Rattle.sr_caveat.proofs.laws.caps_are_their_values.Goals as goal
 
 pub returns : goal.returns

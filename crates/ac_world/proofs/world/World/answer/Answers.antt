@@ -1,7 +1,7 @@
 use Rattle.std.proofs.Common.{ap, ◌∙◌}
 use Rattle.ac_world.specs.Outboxes.{Plan}
-use Rattle.ac_world.proofs.Lives.{numbers}
-use Rattle.ac_world.proofs.Numbers.{numbers-all_answered, world_sent}
+use Rattle.ac_world.proofs.Lives.{numbers, numbers-all_answered}
+use Rattle.ac_world.proofs.Numbers.{world_sent}
 use Rattle.ac_world.proofs.world.World.answer.Goals as goal
 
 pub invariant_of-result : goal.invariant_of-result

@@ -5,4 +5,4 @@ use Rattle.hub_core.proofs.hub.Hub.judge.Goals as goal
 pub accept-requires-clause-valid : goal.accept-requires-clause-valid
 accept-requires-clause-valid g c = λ valid.
     accepted_is_valid c.args.connection c.args.ports c.args.turn.now c.in-Ok.admitting c.args.self valid
-    c.requires.valid c.requires.bare c.in-Ok.ensures.admitted
+    c.requires.valid c.as_slice-wired.ensures.sound c.in-Ok.ensures.admitted

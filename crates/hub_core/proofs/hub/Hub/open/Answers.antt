@@ -11,6 +11,7 @@ invariant_of-hub g c =
     kept_with c.in_ok-world.number c.self.inside.world c.in_ok-world.world c.self.inside.connections.entries
     c.insert.new.self.entries c.self.inside.faults.entries c.in_ok-new.field-0 c.in_ok-insert.ensures.entries small
     c.self.invariant
-    (opened_valid c.args.space c.in_ok-world.number c.from.result c.self.inside.world c.in_ok-world.world
-    c.self.inside.connections.entries c.in_ok-new.field-0 c.requires.space before c.in_ok-world.ensures.world
-    c.in_ok-world.ensures.number c.from.ensures c.in_ok-new.ensures c.self.invariant.2)
+    (opened_valid c.args.space c.in_ok-world.number c.from.result c.in_ok-first.first c.self.inside.world
+    c.in_ok-world.world c.self.inside.connections.entries c.in_ok-new.field-0 c.requires.space before
+    c.in_ok-world.ensures.world c.in_ok-world.ensures.number c.from.ensures c.in_ok-first.ensures
+    c.in_ok-new.ensures c.self.invariant.2)

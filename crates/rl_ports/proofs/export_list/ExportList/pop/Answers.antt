@@ -5,10 +5,15 @@ use Rattle.rl_ports.proofs.export_list.ExportList.pop.Goals as goal
 
 pub overflow_sub-self : goal.overflow_sub-self
 overflow_sub-self c = let i = c.self.inside in let last = c.in-Some.last in let is = c.in-Some.ensures.items in
-    omega (arith, newest_weighs i.list.items c.pop.new.self.items i.numbers.entries i.weight last c.self.invariant is)
+    omega (
+      arith,
+      newest_weighs i.list.items c.pop.new.self.items i.numbers.entries i.weight last c.self.invariant is,
+      c.take_number.ensures.weight,
+    )
 
 pub invariant_of-self : goal.invariant_of-self
 invariant_of-self c = let i = c.self.inside in let last = c.in-Some.last in let is = c.in-Some.ensures.items in
     let weighs = newest_weighs i.list.items c.pop.new.self.items i.numbers.entries i.weight last c.self.invariant is in
-    kept_pop i.list.items c.pop.new.self.items i.numbers.entries c.remove.new.self.entries i.weight
-    (i.weight - last.weight) last c.self.invariant is c.remove.ensures.updates.0 (omega (arith, weighs))
+    kept_pop i.list.items c.pop.new.self.items i.numbers.entries c.take_number.new.numbers.entries i.weight
+    (i.weight - c.take_number.result) last c.self.invariant is c.take_number.ensures.numbers
+    (omega (arith, weighs, c.take_number.ensures.weight))

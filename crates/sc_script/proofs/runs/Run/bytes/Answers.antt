@@ -13,7 +13,7 @@ returns-then-not-live-clause-run g c = λ N d r at.
     let s : RunState = c.args.self in
     let gone : is_there k s.state ≡ false =
     ap (λ (x : RunState). is_there k x.state) (sym c.self.view_is) ∙ sym c.live.ensures.there ∙ c.if-not-live.true in
-    subst (λ x. HasRun x s) (all_dropped N c.args.place k c.args.bytes.now r s at gone) at
+    subst (λ x. HasRun x s) (all_dropped N k c.args.bytes.now r s at gone) at
 
 pub returns-clause-run : goal.returns-clause-run
 returns-clause-run g c = ok_too _ _ c.read_packets.result (λ t h N d r at.
@@ -24,7 +24,7 @@ returns-clause-run g c = ok_too _ _ c.read_packets.result (λ t h N d r at.
     let there : is_there k s.state ≡ true =
     ap (λ (x : RunState). is_there k x.state) (sym view) ∙ sym c.live.ensures.there ∙ c.if-not-live.false in
     subst (λ x. HasRun x t)
-    (all_come N c.args.place k b r s at c.in_ok-stream.stream there (c.in_ok-stream.ensures.stream
+    (all_come N k b r s at c.in_ok-stream.stream there (c.in_ok-stream.ensures.stream
     ∙ ap (λ (x : RunState). with_bytes b (unwrap_or (entry_of k x.streams) no_stream)) view))
     (h N d (without_stream k r) (taken_out k r s _ at (ap (λ (x : RunState). x.state) view)
     (ap (λ (x : RunState). x.outs) view) (ap (λ (x : RunState). x.size) view)
@@ -39,7 +39,7 @@ returns-clause-stop g c = err_too _ _ c.read_packets.result (λ f h N d r at.
     let there : is_there k s.state ≡ true =
     ap (λ (x : RunState). is_there k x.state) (sym view) ∙ sym c.live.ensures.there ∙ c.if-not-live.false in
     subst (λ x. IsStopped x f)
-    (all_come N c.args.place k b r s at c.in_ok-stream.stream there (c.in_ok-stream.ensures.stream
+    (all_come N k b r s at c.in_ok-stream.stream there (c.in_ok-stream.ensures.stream
     ∙ ap (λ (x : RunState). with_bytes b (unwrap_or (entry_of k x.streams) no_stream)) view))
     (h N d (without_stream k r) (taken_out k r s _ at (ap (λ (x : RunState). x.state) view)
     (ap (λ (x : RunState). x.outs) view) (ap (λ (x : RunState). x.size) view)

@@ -24,7 +24,7 @@ returns-in-Open-clause-stop g c =
 pub returns-in-Bytes-clause-run : goal.returns-in-Bytes-clause-run
 returns-in-Bytes-clause-run g c =
     let n = c.args.place in
-    runs_so c.args.self (λ N. bytes_come N n c.in-Bytes.connection c.as_slice.result.now)
+    runs_so c.args.self (λ N. bytes_come N c.in-Bytes.connection c.as_slice.result.now)
     (λ N. after_event N n c.args.event) (λ N r at.
     course_of_bytes N n r c.in-Bytes.connection c.as_slice.result.now c.args.event
     (c.in-Bytes.is ∙ ap (Bytes c.in-Bytes.connection) (sym c.as_slice.ensures.same))
@@ -34,7 +34,7 @@ returns-in-Bytes-clause-run g c =
 pub returns-in-Bytes-clause-stop : goal.returns-in-Bytes-clause-stop
 returns-in-Bytes-clause-stop g c =
     let n = c.args.place in
-    stops_so c.args.self (λ N. bytes_come N n c.in-Bytes.connection c.as_slice.result.now)
+    stops_so c.args.self (λ N. bytes_come N c.in-Bytes.connection c.as_slice.result.now)
     (λ N. after_event N n c.args.event) (λ N r at.
     course_of_bytes N n r c.in-Bytes.connection c.as_slice.result.now c.args.event
     (c.in-Bytes.is ∙ ap (Bytes c.in-Bytes.connection) (sym c.as_slice.ensures.same))

@@ -19,8 +19,8 @@ returns-in_default-clause-run g c =
     (ap (λ (s : StreamState). s.rest) c.stream.view_is) in
     let is = next_in c.rest.result.now st.rest c.place.result st.place x x c.rest.ensures.rest c.place.ensures refl
     c.in_ok-next.ensures in
-    ok_too _ _ c.stop_reading.result (no_packet_runs c.one_next.ensures c.args.place c.args.connection st are
-    c.args.self c.loop-run.run (λ N. packets_read N c.args.place c.args.connection c.args.stream)
+    ok_too _ _ c.stop_reading.result (no_packet_runs c.one_next.ensures c.args.connection st are
+    c.args.self c.loop-run.run (λ N. packets_read N c.args.connection c.args.stream)
     c.loop-run.invariant x is c.in_default.not-Whole) c.stop_reading.ensures.run
 
 pub returns-in_default-clause-stop : goal.returns-in_default-clause-stop
@@ -32,8 +32,8 @@ returns-in_default-clause-stop g c =
     (ap (λ (s : StreamState). s.rest) c.stream.view_is) in
     let is = next_in c.rest.result.now st.rest c.place.result st.place x x c.rest.ensures.rest c.place.ensures refl
     c.in_ok-next.ensures in
-    err_too _ _ c.stop_reading.result (no_packet_stops c.one_next.ensures c.args.place c.args.connection st are
-    c.args.self c.loop-run.run (λ N. packets_read N c.args.place c.args.connection c.args.stream)
+    err_too _ _ c.stop_reading.result (no_packet_stops c.one_next.ensures c.args.connection st are
+    c.args.self c.loop-run.run (λ N. packets_read N c.args.connection c.args.stream)
     c.loop-run.invariant x is c.in_default.not-Whole) c.stop_reading.ensures.stop
 
 pub read_off-requires : goal.read_off-requires
@@ -51,8 +51,8 @@ returns-in_err-now-clause-stop g c =
     (ap (λ (s : StreamState). s.rest) c.stream.view_is) in
     let is = next_in c.rest.result.now st.rest c.place.result st.place c.in_ok-next.next _ c.rest.ensures.rest
     c.place.ensures c.in-Whole.is c.in_ok-next.ensures in
-    err_so _ _ _ c.from_residual-in_err-now.ensures.1 (packet_stops c.one_next.ensures c.args.place c.args.connection
-    st are c.args.self c.loop-run.run (λ N. packets_read N c.args.place c.args.connection c.args.stream)
+    err_so _ _ _ c.from_residual-in_err-now.ensures.1 (packet_stops c.one_next.ensures c.args.connection
+    st are c.args.self c.loop-run.run (λ N. packets_read N c.args.connection c.args.stream)
     c.loop-run.invariant c.in-Whole.packet c.in-Whole.size is c.read_off.new.self c.read_off.ensures _
     c.in_err-now.ensures.stop)
 
@@ -64,8 +64,8 @@ returns-in_default-left-clause-run g c =
     (ap (λ (s : StreamState). s.rest) c.stream.view_is) in
     let is = next_in c.rest.result.now st.rest c.place.result st.place c.in_ok-next.next _ c.rest.ensures.rest
     c.place.ensures c.in-Whole.is c.in_ok-next.ensures in
-    packet_runs c.one_next.ensures c.args.place c.args.connection st are c.args.self c.loop-run.run
-    (λ N. packets_read N c.args.place c.args.connection c.args.stream) c.loop-run.invariant c.in-Whole.packet
+    packet_runs c.one_next.ensures c.args.connection st are c.args.self c.loop-run.run
+    (λ N. packets_read N c.args.connection c.args.stream) c.loop-run.invariant c.in-Whole.packet
     c.in-Whole.size is c.read_off.new.self c.read_off.ensures c.in_ok-now.now c.in_ok-now.left c.in_default-left.is
     c.in_ok-now.ensures.run
 
@@ -77,8 +77,8 @@ loop-run-preserved g c =
     (ap (λ (s : StreamState). s.rest) c.stream.view_is) in
     let is = next_in c.rest.result.now st.rest c.place.result st.place c.in_ok-next.next _ c.rest.ensures.rest
     c.place.ensures c.in-Whole.is c.in_ok-next.ensures in
-    packet_reads c.one_next.ensures c.args.place c.args.connection st are c.args.self c.loop-run.run
-    (λ N. packets_read N c.args.place c.args.connection c.args.stream) c.loop-run.invariant c.in-Whole.packet
+    packet_reads c.one_next.ensures c.args.connection st are c.args.self c.loop-run.run
+    (λ N. packets_read N c.args.connection c.args.stream) c.loop-run.invariant c.in-Whole.packet
     c.in-Whole.size is c.read_off.new.self c.read_off.ensures c.in_ok-now.now c.in_ok-now.left c.in-Some.left
     c.in-Some.is c.in_ok-now.ensures.run
 

@@ -1,0 +1,79 @@
+//! What arrives of what is sent through references, and where.
+ghost use Rattle.std.specs.Prelude.{◌≡◌, IfOk, option_copied};
+ghost use Rattle.ac_world.specs.Turns.{aim_by, aim_at, observer_in, aim_for, aim_of};
+
+use ds_space::Reference;
+use pv_value::{NoMemory, Node, Value};
+use sr_caveat::{Cap, NoNames, pass};
+use std::alloc::Global;
+
+/// What is to be told, and at which object.
+#[derive(Drop)]
+pub struct Aim {
+    pub at: Reference,
+    pub value: Value,
+}
+
+/// What the caveats of a reference let pass of a value. No guard lets anything pass.
+fn aim_by(alloc: Global, value: &Value, cap: &Cap) -> Result<Option<Aim>, NoMemory>
+    ensures { IfOk result (λ aim. aim ≡ aim_by value.now cap.now) }
+{
+    let Some(value) = pass(alloc, cap.caveats.as_slice(), value, &NoNames)? else {
+        return Ok(None);
+    };
+    let at = Reference {
+        at: cap.actor,
+        entity: cap.entity,
+    };
+    Ok(Some(Aim { at, value }))
+}
+
+/// What arrives of a value that is sent through the reference that another value writes. The actor
+/// may be gone.
+pub fn aim_at(alloc: Global, value: &Value, reference: &Value) -> Result<Option<Aim>, NoMemory>
+    ensures { IfOk result (λ aim. aim ≡ aim_at value.now reference.now) }
+{
+    match Cap::of_value(alloc, reference)? {
+        Some(cap) => aim_by(alloc, value, &cap),
+        None => Ok(None),
+    }
+}
+
+/// The reference that an observation `<Observe p #:r>` names, r. It may be the value of none.
+fn observer_in(observation: &Value) -> Option<&Value>
+    ensures { option_copied result ≡ observer_in observation.now }
+{
+    let Node::Rec(record) = &observation.node else {
+        return None;
+    };
+    let [_, observer] = record.fields.as_slice() else {
+        return None;
+    };
+    match &observer.node {
+        Node::Emb(inside) => Some(inside),
+        _ => None,
+    }
+}
+
+/// What arrives of a value that is sent to the one that observes.
+pub fn aim_for(alloc: Global, value: &Value, observation: &Value) -> Result<Option<Aim>, NoMemory>
+    ensures { IfOk result (λ aim. aim ≡ aim_for value.now observation.now) }
+{
+    match observer_in(observation) {
+        Some(observer) => aim_at(alloc, value, observer),
+        None => Ok(None),
+    }
+}
+
+/// What arrives of what a key `[o c]` wants, c, at the object that o names.
+pub fn aim_of(alloc: Global, key: &Value) -> Result<Option<Aim>, NoMemory>
+    ensures { IfOk result (λ aim. aim ≡ aim_of key.now) }
+{
+    let Node::Seq(items) = &key.node else {
+        return Ok(None);
+    };
+    let [observation, captures] = items.as_slice() else {
+        return Ok(None);
+    };
+    aim_for(alloc, captures, observation)
+}
