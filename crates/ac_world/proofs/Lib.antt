@@ -7,4 +7,3 @@ pub mod Numbers
 pub mod Pushes
 pub mod Shapes
 pub mod Taken
-pub mod Told

@@ -11,7 +11,7 @@ use Rattle.ac_world.specs.declared.spreads.Spread.{Spread}
 use Rattle.ac_world.specs.Outboxes.{Plan, plan_over, committed}
 use Rattle.ac_world.specs.Worlds.{WorldState, Seat, Deliveries, no_seat, entry_of, with_entry, all_delivered}
 use Rattle.ac_world.specs.Turns.{Turning, begin_turn, all_turned, deliver, space_turn}
-use Rattle.ac_world.proofs.Told.{put_back}
+use Rattle.ac_world.specs.Lemmas.Entries.{put_back}
 
 pub back : {X : Type 0} (a : ℕ) (x y : X) (old less new : List (ℕ × X)) → IsStrictlySortedBy nat_cmp (keys_of old)
     → less ≡ remove_entry (is_at (nat_cmp a)) old → new ≡ insert_entry nat_cmp less a x → x ≡ y

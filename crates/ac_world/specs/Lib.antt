@@ -1,3 +1,4 @@
+pub mod Lemmas
 pub mod Outboxes
 pub mod Sums
 pub mod Turns

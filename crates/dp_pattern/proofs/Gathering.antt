@@ -1,32 +1,13 @@
 -- What is gathered of a value that matches is what is captured, and as many values as there are binds.
-use Rattle.std.proofs.Common.{◌≡◌, ◌+◌, suc, List, [], ◌∷◌, ◌++◌, length, length-append, Bool, true, false, cond}
+use Rattle.std.proofs.Common.{◌≡◌, ◌+◌, suc, List, [], ◌∷◌, ◌++◌, length, length-append, true}
 use Rattle.std.proofs.Common.{Option, Some, None}
-use Rattle.std.proofs.Common.{is_some, option_map, option_and_then, unwrap_or, refl, sym, ap, ◌∙◌}
+use Rattle.std.proofs.Common.{is_some, option_map, option_and_then, unwrap_or, refl, ap, ◌∙◌}
 use Rattle.pv_value.specs.Plain.{Plain}
 use Rattle.dp_pattern.specs.Patterns.{Group, Pattern, discard, bind, literal, group, Fields, no_fields, then_field}
 use Rattle.dp_pattern.specs.Matching.{same, is_of, part_of, both, matched, matched_fields}
 use Rattle.dp_pattern.specs.Gathered.{gathered, gathered_fields}
+use Rattle.dp_pattern.specs.Lemmas.Found.{If, if_cond, if_map, if_both, found_is, counted_is}
 use Rattle.dp_pattern.specs.Laws.{binds, field_binds, CapturesAreBinds}
-
--- a fact about each list of captures that was found
-abbrev If : Option (List Plain) → (List Plain → Type 0) → Type 0
-If None P = Unit {0}
-If (Some cs) P = P cs
-
-if_bound : (P Q : List Plain → Type 0) (v : Plain) (o : Option (List Plain)) → ((ds : List Plain) → P ds → Q (v ∷ ds))
-    → If o P → If (option_map (λ ds. v ∷ ds) o) Q
-if_bound P Q v None f h = tt
-if_bound P Q v (Some ds) f h = f ds h
-
-if_cond : (Q : List Plain → Type 0) (b : Bool) (o : Option (List Plain)) → If o Q → If (cond b o None) Q
-if_cond Q true o h = h
-if_cond Q false o h = tt
-
-if_both : (P Q R : List Plain → Type 0) (m n : Option (List Plain))
-    → ((ds es : List Plain) → P ds → Q es → R (ds ++ es)) → If m P → If n Q → If (both m n) R
-if_both P Q R None n f a b = tt
-if_both P Q R (Some ds) None f a b = tt
-if_both P Q R (Some ds) (Some es) f a b = f ds es a b
 
 abbrev Gathers : Pattern → Plain → List Plain → Type 0
 Gathers p v cs = cs ≡ gathered p v
@@ -42,11 +23,12 @@ mutual
   matched_gathered : (p : Pattern) (v : Plain) → If (matched p v) (λ cs. cs ≡ gathered p v)
   matched_gathered discard v = refl
   matched_gathered (bind p) v =
-      if_bound (Gathers p v) (λ cs. cs ≡ v ∷ gathered p v) v (matched p v) (λ ds e. ap (λ xs. v ∷ xs) e)
+      if_map (λ ds. v ∷ ds) (Gathers p v) (λ cs. cs ≡ v ∷ gathered p v) (matched p v) (λ ds e. ap (λ xs. v ∷ xs) e)
       (matched_gathered p v)
-  matched_gathered (literal u) v = if_cond (λ cs. cs ≡ []) (same u v) (Some []) refl
+  matched_gathered (literal u) v = if_cond (λ cs. cs ≡ []) (same u v) (Some []) None refl tt
   matched_gathered (group g fs) v =
-      if_cond (λ cs. cs ≡ gathered_fields g fs v) (is_of g v) (matched_fields g fs v) (fields_gathered g fs v)
+      if_cond (λ cs. cs ≡ gathered_fields g fs v) (is_of g v) (matched_fields g fs v) None
+      (fields_gathered g fs v) tt
 
   fields_gathered : (g : Group) (fs : Fields) (v : Plain)
       → If (matched_fields g fs v) (λ cs. cs ≡ gathered_fields g fs v)
@@ -58,18 +40,7 @@ mutual
       (λ ds es a b. λ i. a i ++ b i)
 
 pub found_gathered : (p : Pattern) (v : Plain) → is_some (matched p v) ≡ true → Some (gathered p v) ≡ matched p v
-found_gathered p v e = by (matched p v) (matched_gathered p v) e
-  where
-    by : (o : Option (List Plain)) → If o (λ cs. cs ≡ gathered p v) → is_some o ≡ true → Some (gathered p v) ≡ o
-    by None h e = cc
-    by (Some cs) h e = ap Some (sym h)
-
-pub none_found : (p : Pattern) (v : Plain) → is_some (matched p v) ≡ false → None ≡ matched p v
-none_found p v e = by (matched p v) e
-  where
-    by : (o : Option (List Plain)) → is_some o ≡ false → None ≡ o
-    by None e = refl
-    by (Some cs) e = cc
+found_gathered p v = found_is (matched p v) (gathered p v) (matched_gathered p v)
 
 -- ---- binds
 
@@ -88,10 +59,12 @@ mutual
   matched_binds : (p : Pattern) (v : Plain) → If (matched p v) (λ cs. length cs ≡ binds p)
   matched_binds discard v = refl
   matched_binds (bind p) v =
-      if_bound (Counts p) (λ cs. length cs ≡ suc (binds p)) v (matched p v) (λ ds e. ap suc e) (matched_binds p v)
-  matched_binds (literal u) v = if_cond (λ cs. length cs ≡ 0) (same u v) (Some []) refl
+      if_map (λ ds. v ∷ ds) (Counts p) (λ cs. length cs ≡ suc (binds p)) (matched p v) (λ ds e. ap suc e)
+      (matched_binds p v)
+  matched_binds (literal u) v = if_cond (λ cs. length cs ≡ 0) (same u v) (Some []) None refl tt
   matched_binds (group g fs) v =
-      if_cond (λ cs. length cs ≡ field_binds fs) (is_of g v) (matched_fields g fs v) (matched_field_binds g fs v)
+      if_cond (λ cs. length cs ≡ field_binds fs) (is_of g v) (matched_fields g fs v) None
+      (matched_field_binds g fs v) tt
 
   matched_field_binds : (g : Group) (fs : Fields) (v : Plain)
       → If (matched_fields g fs v) (λ cs. length cs ≡ field_binds fs)
@@ -100,8 +73,4 @@ mutual
       if_counted p fs (part_of g v k) (matched_fields g fs v) (λ w. matched_binds p w) (matched_field_binds g fs v)
 
 pub captures_binds : CapturesAreBinds
-captures_binds p v cs e = by (matched p v) (matched_binds p v) e
-  where
-    by : (o : Option (List Plain)) → If o (λ cs. length cs ≡ binds p) → o ≡ Some cs → length cs ≡ binds p
-    by None h e = absurd cc
-    by (Some ds) h e = let f : ds ≡ cs = cc in sym (ap length f) ∙ h
+captures_binds p v cs = counted_is (matched p v) (binds p) cs (matched_binds p v)

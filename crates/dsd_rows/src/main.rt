@@ -33,15 +33,7 @@
 
 ghost use Rattle.std.specs.Prelude.{◌≤◌};
 
-mod asking;
-mod cases;
-mod faults;
-mod machines;
-mod replies;
-mod rows;
 mod runs;
-mod sections;
-mod steps;
 
 use row_cases::{Fault, Findings, Tally, judge_table, one_difference};
 use std::alloc::{AllocError, Global};
@@ -155,7 +147,7 @@ fn findings_in(
 fn judge(alloc: Global, folder: &str, name: &str, text: &str) -> Result<Findings, Fault> {
     match folder {
         "rows" => Ok(runs::judge_file(alloc, text)?),
-        "steps" => Ok(steps::judge_file(alloc, text)?),
+        "steps" => Ok(row_steps::judge_file(alloc, text)?),
         _ => judge_table(alloc, name, text),
     }
 }

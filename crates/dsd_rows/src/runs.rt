@@ -1,12 +1,13 @@
 //! Rows as the program does them, over the outside world in memory.
-ghost use Rattle.std.specs.Prelude.{◌≡◌, ◌≤◌, ◌+◌, false, length, IfOk, vec_len};
+ghost use Rattle.std.specs.Prelude.{◌≡◌, ◌≤◌, ◌+◌, ◌↔◌, false, length, IfOk, IsNone, vec_len};
 ghost use Rattle.dsd_top.specs.Commands.{texts, is_serve as begins_with_serve};
 ghost use Rattle.dsd_top.specs.Statuses.{IsStatus};
+ghost use Rattle.row_cases.specs.Outcomes.{IsSameOutcome};
 
-use crate::rows::{Row, rows_of};
 use dsd_top::dsd_once;
 use out_ports::memory::{MemHost, MemListen, MemSink, MemSource};
 use row_cases::{Fault, Findings, Outcome, one_difference, outcomes_differ};
+use row_files::{Row, rows_of};
 use std::alloc::{AllocError, Global};
 
 /// How many bytes are kept of what is written to standard error.
@@ -129,7 +130,10 @@ fn judge_row(alloc: Global, row: &Row) -> Result<Option<String>, AllocError> {
     }
 }
 
-fn judge_outcome(alloc: Global, row: &Row, given: &Outcome) -> Result<Option<String>, AllocError> {
+/// What differs between what a row wants and what came, none exactly where nothing does.
+fn judge_outcome(alloc: Global, row: &Row, given: &Outcome) -> Result<Option<String>, AllocError>
+    ensures { IfOk result (λ found. IsNone found ↔ IsSameOutcome row.now.wanted given.now) }
+{
     match outcomes_differ(alloc, &row.wanted, given)? {
         Some(what) => Ok(Some(named(alloc, row, what.as_str())?)),
         None => Ok(None),

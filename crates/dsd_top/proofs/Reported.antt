@@ -2,7 +2,7 @@
 use Rattle.std.proofs.Common.{◌≡◌, ℕ, List, ap, ◌∙◌}
 use Rattle.pv_value.specs.Plain.{Plain}
 use Rattle.hub_laws.specs.Laws.{SettledHoldings}
-use Rattle.sc_script.specs.declared.scripts.Form.{Form as Script}
+use Rattle.sc_events.specs.declared.inputs.Form.{Form as Script}
 use Rattle.sc_report.specs.Reports.{RanState, report_of}
 use Rattle.sc_script.specs.Scripts.{LeavesAs}
 use Rattle.dsd_top.specs.declared.forms.Form.{Form}

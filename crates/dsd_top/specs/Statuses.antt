@@ -2,14 +2,14 @@
 use Rattle.std.specs.Prelude.{◌≡◌, ◌≢◌, ℕ, ◌<◌, ◌≤◌, List, [], ◌∷◌, length, Option, Some, None, Contains, IfSome}
 use Rattle.out_ports.specs.Ports.{Appends, AppendsFront}
 use Rattle.hub_laws.specs.Settled.{HoldsFromScratch}
+use Rattle.sc_events.specs.declared.inputs.Form.{Form as Script}
+use Rattle.sc_events.specs.declared.inputs.Form.TheVariants as script
 use Rattle.sc_report.specs.Reports.{report_of}
 use Rattle.sc_script.specs.Leavings.{ran_of}
 use Rattle.sc_script.specs.Runs.{Decider, Decides, Cause, bad, limit, not_built, goes, stops, Running}
 use Rattle.sc_script.specs.Scripts.{IsCourseOf}
 use Rattle.sc_script.specs.declared.faults.ScriptFault.{ScriptFault}
 use Rattle.sc_script.specs.declared.faults.ScriptFault.TheVariants as stopped
-use Rattle.sc_script.specs.declared.scripts.Form.{Form as Script}
-use Rattle.sc_script.specs.declared.scripts.Form.TheVariants as script
 use Rattle.out_ports.specs.declared.streams.ReadFault.{ReadFault}
 use Rattle.out_ports.specs.declared.streams.ReadFault.TheVariants as reading
 use Rattle.dsd_top.specs.Forms.{in_form}

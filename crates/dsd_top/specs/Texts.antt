@@ -5,7 +5,7 @@ use Rattle.pv_value.specs.Plain.{Plain}
 use Rattle.pv_read.specs.Leading.{LeadsOver}
 use Rattle.pv_lex.specs.Gaps.{IsLastGap}
 use Rattle.pv_text.specs.Reads.{LeadsTo, AreValuesOf}
-use Rattle.sc_script.specs.TextInputs.{BeginNoText, TextStopsAfter}
+use Rattle.sc_events.specs.TextInputs.{BeginNoText, TextStopsAfter}
 use Rattle.dsd_top.specs.declared.forms.Form.{Form}
 use Rattle.dsd_top.specs.declared.values.InputFault.{InputFault}
 use Rattle.dsd_top.specs.declared.values.InputFault.TheVariants as fault

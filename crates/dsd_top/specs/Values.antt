@@ -3,7 +3,7 @@ use Rattle.std.specs.Prelude.{◌≡◌, ℕ, ◌<◌, ◌≤◌, List, ◌++◌
 use Rattle.pv_value.specs.Plain.{Plain}
 use Rattle.pv_read.specs.Leading.{LeadsOver}
 use Rattle.pv_binary.specs.Reads.{Leads}
-use Rattle.sc_script.specs.Inputs.{AreValues, StopAfter}
+use Rattle.sc_events.specs.Inputs.{AreValues, StopAfter}
 use Rattle.dsd_top.specs.declared.forms.Form.{Form}
 use Rattle.dsd_top.specs.declared.values.InputFault.{InputFault}
 use Rattle.dsd_top.specs.declared.values.InputFault.TheVariants as fault

@@ -15,6 +15,7 @@ use Rattle.ac_world.specs.declared.acts.Act.{Act}
 use Rattle.ac_world.specs.declared.acts.Act.TheVariants as act
 use Rattle.ac_world.specs.Outboxes.{Plan, plan_over, dropped, acted, all_acted}
 use Rattle.ac_world.specs.Worlds.{WorldState, actor_of}
+use Rattle.ac_world.specs.Lemmas.Entries.{KeysAscend, entry_of_with, entry_of_without, ascend_with, ascend_without}
 use Rattle.rl_packet.specs.declared.packets.Event.{Event}
 use Rattle.rl_packet.specs.declared.packets.Event.TheVariants.{Assert, Retract, Message, Sync}
 use Rattle.rl_packet.specs.declared.packets.TurnEvent.{TurnEvent}
@@ -28,11 +29,10 @@ use Rattle.hub_machine.specs.Faults.{where_it_is}
 use Rattle.hub_machine.specs.Admission.{Admitting, admitted, cap_at, cause_of, cause_at, event_cause, after, after_at}
 use Rattle.hub_machine.specs.Admission.{after_event, after_assertion, after_message, after_retraction, unless}
 use Rattle.hub_machine.specs.Admission.{all_admitted}
+use Rattle.hub_valid.specs.Lemmas.Filtered.{all_kept}
 use Rattle.hub_authority.specs.Asked.{takes_back, cap_under, let_in, row_of, row_asked, rows_asked, next_after}
 use Rattle.hub_authority.specs.Asked.{stands_for, takes_row, rows_left}
 use Rattle.hub_valid.specs.Lemmas.Values.{all_weaker, all_append}
-use Rattle.hub_valid.specs.Lemmas.WorldLists.{all_filter}
-use Rattle.hub_authority.proofs.Entries.{KeysAscend, entry_of_with, entry_of_without, ascend_with, ascend_without}
 use Rattle.hub_authority.proofs.Lists.{any_same, filter_same, filter_filter, filter_all, all_from}
 use Rattle.hub_authority.proofs.Rows.{AreOnce, once_push, once_filter, stays, rows_dropped, next_dropped}
 
@@ -397,7 +397,7 @@ retraction_leads k oid h w to es x (Some (Row m)) found stood walked =
       walked = walked_freed h t u x.next x.ports walked
           (ap (λ v. v.next) is ∙ next_dropped (actor_of k) m (plan_of k w x))
           (subst (AllByRecursion (λ r. r.handle < x.next)) (sym rows)
-          (all_filter _ (stays (actor_of k) m) t.rows walked.below))
+          (all_kept _ (stays (actor_of k) m) t.rows walked.below))
           (subst AreOnce (sym rows) (once_filter (stays (actor_of k) m) t.rows walked.once));
       later = omega arith;
       same = taken_leads k h m oid to es t u x.next x.ports found stood walked rows;

@@ -7,6 +7,7 @@ use Rattle.std.specs.Map.{keys_of}
 use Rattle.ac_table.specs.Tables.{is_live}
 use Rattle.ac_world.specs.declared.spreads.Spread.{Spread as SpreadOf}
 use Rattle.ac_world.specs.Worlds.{WorldState, actor_of, entry_of, without_entry, ended_of, gone}
+use Rattle.ac_world.specs.Lemmas.Entries.{out_other}
 use Rattle.rl_ports.specs.Ports.{PortsState}
 use Rattle.hub_machine.specs.declared.faults.Fault.{Fault}
 use Rattle.hub_machine.specs.declared.faults.Fault.TheVariants.{Spread}
@@ -14,7 +15,6 @@ use Rattle.hub_machine.specs.State.{State, ports_of, is_there}
 use Rattle.hub_machine.specs.Endings.{closed, failed, failed_where, spread_out}
 use Rattle.hub_machine.specs.Endings.{all_spread_out, overrun_of, all_overrun, finished}
 use Rattle.hub_authority.proofs.Actors.{live_ended}
-use Rattle.hub_authority.proofs.Entries.{out_other}
 
 -- what connection k had before, with the same exports
 pub record HadThem (k : ℕ) (s : State) (p : PortsState) : Type 0 where

@@ -1,7 +1,6 @@
 pub mod Actors
 pub mod Asking
 pub mod Endings
-pub mod Entries
 pub mod Exporting
 pub mod Lists
 pub mod Orderly

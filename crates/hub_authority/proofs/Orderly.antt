@@ -12,6 +12,7 @@ use Rattle.ac_world.specs.Outboxes.{Plan, plan_over, retractions}
 use Rattle.ac_world.specs.Turns.{After as TurnOf, turn_first, turn, space_turn, plain_turn, connection_turn}
 use Rattle.ac_world.specs.Turns.{all_answered}
 use Rattle.ac_world.specs.Worlds.{WorldState, actor_of, ended_of, gone, is_space, is_system, without_entry}
+use Rattle.ac_world.specs.Lemmas.Entries.{each_with, each_without, each_found, KeysAscend, ascend_none}
 use Rattle.rl_packet.specs.declared.packets.TurnEvent.{TurnEvent}
 use Rattle.rl_ports.specs.Ports.{PortsState, ports_to, with_exports}
 use Rattle.hub_machine.specs.declared.faults.Fault.{Fault}
@@ -32,7 +33,6 @@ use Rattle.hub_machine.specs.Replays.{run_from, replay}
 use Rattle.hub_valid.specs.Validity.{IsValid}
 use Rattle.hub_valid.specs.Lemmas.Hubs.{stays_valid}
 use Rattle.hub_valid.specs.Lemmas.Values.{all_weaker}
-use Rattle.hub_valid.specs.Lemmas.WorldLists.{all_with, all_without, all_found}
 use Rattle.hub_laws.specs.Laws.{AreAllowed}
 use Rattle.hub_laws.proofs.Kept.{IsSound, IsHub}
 use Rattle.hub_laws.proofs.Opening.{replay_hub}
@@ -43,7 +43,6 @@ use Rattle.hub_laws.proofs.Turns.{without_first, turning_of, space_runs}
 use Rattle.hub_authority.specs.Laws.{TakenPackets}
 use Rattle.hub_authority.proofs.Asking.{StandBelow, HaveLed, plan_of, all_led}
 use Rattle.hub_authority.proofs.Endings.{finished_keeps}
-use Rattle.hub_authority.proofs.Entries.{KeysAscend, ascend_none}
 use Rattle.hub_authority.proofs.Taking.{IsOrderly, walked_from, taken_does}
 
 -- what a connection names, where next is the next handle
@@ -76,7 +75,7 @@ next_ended a w = by (is_live a w.table)
 closed_in_order : (k : ℕ) (s : State) → AreInOrder s → AreInOrder (closed k s)
 closed_in_order k s all =
     subst (λ n. AllByRecursion (IsInOrder n) (without_entry k s.connections)) (sym (next_ended (actor_of k) s.world))
-    (all_without (IsInOrder s.world.table.next) k s.connections all)
+    (each_without (IsInOrder s.world.table.next) k s.connections all)
 
 failed_in_order : (k : ℕ) (f : Fault) (s : State) → AreInOrder s → AreInOrder (failed k f s)
 failed_in_order k f s all = closed_in_order k s all
@@ -91,7 +90,7 @@ arrive_in_order : (o : Option Reply) (space : ℕ) (s : State) → AreInOrder s
 arrive_in_order (Some r) space s all = all
 arrive_in_order None space s all =
     finished_in_order [] (opened space s)
-    (all_with (IsInOrder s.world.table.next) (s.world.opened + 1) (ports_to (actor_reference space))
+    (each_with (IsInOrder s.world.table.next) (s.world.opened + 1) (ports_to (actor_reference space))
     s.connections (ascend_none, λ h n is. absurd cc) all)
 
 -- ---- packets
@@ -103,15 +102,15 @@ accepted_in_order k ports es x s led all =
     let next : x.next ≡ (accepted k x (nameless k s)).world.table.next =
     sym ((posted_table (actor_of k) plan.out plan.table).1 ∙ led.walked.next_is) in
     subst (λ n. AllByRecursion (IsInOrder n) (accepted k x (nameless k s)).connections) next
-    (all_with (IsInOrder x.next) k x.ports (without_entry k s.connections) (led.walked.ascend, led.walked.stand)
+    (each_with (IsInOrder x.next) k x.ports (without_entry k s.connections) (led.walked.ascend, led.walked.stand)
     (later_in_order s.world.table.next x.next (without_entry k s.connections) led.later
-    (all_without (IsInOrder s.world.table.next) k s.connections all)))
+    (each_without (IsInOrder s.world.table.next) k s.connections all)))
 
 -- what a connection names is in order, and the table is one
 orderly_of : (k : ℕ) (ports : PortsState) (s : State) → IsHub [] s → AreInOrder s → ports_of k s ≡ Some ports
     → IsOrderly s ports
 orderly_of k ports s h all is =
-    let i = all_found (IsInOrder s.world.table.next) k ports s.connections all (named_of k ports s is).kept in
+    let i = each_found (IsInOrder s.world.table.next) k ports s.connections all (named_of k ports s is).kept in
     (h.sound.table, i.0, i.1)
 
 judged_in_order : (k : ℕ) (ports : PortsState) (es : List TurnEvent) (d : Admitted) (s : State) → IsOrderly s ports
@@ -188,8 +187,8 @@ told_in_order : (o : Option Fault) (k : ℕ) (ports : PortsState) (b : Batch) (s
 told_in_order (Some f) k ports b s all is = finished_in_order [] (failed k f s) (failed_in_order k f s all)
 told_in_order None k ports b s all is =
     finished_in_order [] (exporting k b ports s)
-    (all_with (IsInOrder s.world.table.next) k (with_exports (exports_after k b ports) ports) s.connections
-    (all_found (IsInOrder s.world.table.next) k ports s.connections all (named_of k ports s is).kept) all)
+    (each_with (IsInOrder s.world.table.next) k (with_exports (exports_after k b ports) ports) s.connections
+    (each_found (IsInOrder s.world.table.next) k ports s.connections all (named_of k ports s is).kept) all)
 
 tell_in_order : (k : ℕ) (o : Option PortsState) (b : Batch) (s : State) → AreInOrder s → ports_of k s ≡ o
     → AreInOrder (tell k o b s).state

@@ -21,6 +21,7 @@ use Rattle.ac_world.specs.declared.acts.Act.TheVariants as act
 use Rattle.ac_world.specs.Outboxes.{Outbox, told_to, told, posted, Plan, plan_over, drop_row, drop_own, dropped, acted}
 use Rattle.ac_world.specs.Outboxes.{all_acted, retractions}
 use Rattle.ac_world.specs.Worlds.{WorldState, actor_of, entry_of}
+use Rattle.ac_world.specs.Lemmas.Entries.{KeysAscend, ascend_with, entry_of_with, entry_of_above}
 use Rattle.rl_packet.specs.declared.packets.Event.{Event}
 use Rattle.rl_packet.specs.declared.packets.Event.TheVariants.{Assert, Retract, Message, Sync}
 use Rattle.rl_packet.specs.declared.packets.TurnEvent.{TurnEvent}
@@ -34,7 +35,6 @@ use Rattle.hub_machine.specs.Admission.{cap_at}
 use Rattle.hub_authority.specs.Asked.{cap_under, let_in, message_to, message_asked, messages_asked, message_in}
 use Rattle.hub_authority.specs.Asked.{messages_in, events_of}
 use Rattle.hub_authority.proofs.Asking.{plan_of, all_acted_more}
-use Rattle.hub_authority.proofs.Entries.{KeysAscend, ascend_with, entry_of_with, entry_of_above}
 use Rattle.hub_authority.proofs.Lists.{flat_map_append}
 use Rattle.hub_authority.proofs.Telling.{exports_after}
 

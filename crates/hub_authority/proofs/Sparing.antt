@@ -8,12 +8,12 @@ use Rattle.ac_table.specs.declared.batches.Batch.{Batch}
 use Rattle.ac_table.specs.Tables.{Actor, TableState, find_actor, is_live, ended, rows_of}
 use Rattle.ac_world.specs.Outboxes.{told_to, retractions}
 use Rattle.ac_world.specs.Worlds.{WorldState, actor_of, gone, ended_of}
+use Rattle.ac_world.specs.Lemmas.Entries.{ascend_none}
 use Rattle.hub_machine.specs.declared.faults.Fault.{Fault}
 use Rattle.hub_machine.specs.State.{State}
 use Rattle.hub_machine.specs.Endings.{failed_where, overrun_of, all_overrun, finished}
 use Rattle.hub_authority.specs.Asked.{messages_in, events_of}
 use Rattle.hub_authority.proofs.Actors.{live_posted, live_gone, rows_posted}
-use Rattle.hub_authority.proofs.Entries.{ascend_none}
 use Rattle.hub_authority.proofs.Lists.{filter_same, filter_filter, flat_map_append, all_from}
 use Rattle.hub_authority.proofs.Saying.{said_retractions, ascend_retractions, posted_events}
 

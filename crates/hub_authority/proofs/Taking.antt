@@ -7,6 +7,7 @@ use Rattle.sr_caveat.specs.declared.caps.Cap.{Cap}
 use Rattle.ac_table.specs.Tables.{Actor, IsTable, find_actor, is_live}
 use Rattle.ac_world.specs.Outboxes.{Plan, plan_over, told_to}
 use Rattle.ac_world.specs.Worlds.{actor_of}
+use Rattle.ac_world.specs.Lemmas.Entries.{KeysAscend, ascend_none}
 use Rattle.rl_packet.specs.declared.packets.Event.{Event}
 use Rattle.rl_packet.specs.declared.packets.Event.TheVariants.{Assert, Retract, Message, Sync}
 use Rattle.rl_packet.specs.declared.packets.TurnEvent.{TurnEvent}
@@ -19,8 +20,8 @@ use Rattle.hub_machine.specs.Endings.{nameless, finished}
 use Rattle.hub_machine.specs.Machine.{is_worn, unchanged, accepted, judged, packet_at, step}
 use Rattle.hub_machine.specs.declared.steps.Step.TheVariants.{Packet}
 use Rattle.hub_machine.specs.declared.steps.Reply.TheVariants.{Worn, Taken}
+use Rattle.hub_valid.specs.Lemmas.Filtered.{all_kept}
 use Rattle.hub_valid.specs.Lemmas.Values.{all_weaker, all_append}
-use Rattle.hub_valid.specs.Lemmas.WorldLists.{all_filter}
 use Rattle.hub_laws.proofs.Steps.{named_of}
 use Rattle.hub_authority.specs.Asked.{takes_back, cap_under, let_in, row_of, row_asked, next_after, rows_asked}
 use Rattle.hub_authority.specs.Asked.{rows_left, messages_asked}
@@ -28,7 +29,6 @@ use Rattle.hub_authority.specs.Asked.{messages_in, events_of}
 use Rattle.hub_authority.specs.Laws.{DoesWhatIsAsked}
 use Rattle.hub_authority.proofs.Actors.{live_committed, rows_posted}
 use Rattle.hub_authority.proofs.Asking.{StandBelow, plan_of, IsWalked, all_led}
-use Rattle.hub_authority.proofs.Entries.{KeysAscend, ascend_none}
 use Rattle.hub_authority.proofs.Lists.{filter_all, flat_map_append}
 use Rattle.hub_authority.proofs.Plans.{actors_all_acted}
 use Rattle.hub_authority.proofs.Rows.{once_sorted}
@@ -128,7 +128,7 @@ made_live k ports es s t table live made =
     filter_all _ t.world.table.rows
     (subst (AllByRecursion (λ r. is_live r.owner t.world.table ≡ true)) (sym made.rows)
     (all_append _ (rows_left k ports es s.world.table.rows) (rows_asked ports.exports k s.world.table.next es)
-    (all_filter _ _ s.world.table.rows
+    (all_kept _ _ s.world.table.rows
     (all_weaker _ _ (λ r is. made.live r.owner ∙ is) s.world.table.rows table.owners_live))
     (all_weaker _ _ (λ r own. ap (λ a. is_live a t.world.table) own ∙ made.live (actor_of k) ∙ live)
     (rows_asked ports.exports k s.world.table.next es) (rows_owned ports.exports k s.world.table.next es))))

@@ -15,6 +15,7 @@ use Rattle.ac_world.specs.Outboxes.{plan_over, all_acted, committed}
 use Rattle.ac_world.specs.Worlds.{WorldState, actor_of, entry_of, with_entry, without_entry, is_space, is_system}
 use Rattle.ac_world.specs.Turns.{After as TurnOf, turn_first, turn_with, begin_turn, all_turned, all_answered}
 use Rattle.ac_world.specs.Turns.{space_turn, plain_turn, connection_turn}
+use Rattle.ac_world.specs.Lemmas.Entries.{put_found, put_other, out_other}
 use Rattle.rl_packet.specs.declared.packets.Event.{Event}
 use Rattle.rl_packet.specs.declared.packets.Event.TheVariants.{Assert, Retract, Message, Sync}
 use Rattle.rl_packet.specs.declared.packets.TurnEvent.{TurnEvent}
@@ -42,7 +43,6 @@ use Rattle.hub_authority.specs.Named.{batch_sent, told_by, first_by, opened_as}
 use Rattle.hub_authority.proofs.Actors.{live_placed, live_committed, live_with_inbox}
 use Rattle.hub_authority.proofs.Endings.{HadThem, Keeps, keeps_all, keeps_then, keeps_failed, keeps_closed}
 use Rattle.hub_authority.proofs.Endings.{keeps_finished}
-use Rattle.hub_authority.proofs.Entries.{put_found, put_other, out_other}
 use Rattle.hub_authority.proofs.Exporting.{Tells, WasTold, CameWith, tells_nothing, tells_then}
 use Rattle.hub_authority.proofs.Plans.{actors_all_acted, actors_all_turned, actors_all_answered}
 

@@ -5,10 +5,11 @@ ghost use Rattle.hub_machine.specs.Endings.{departed, departed_for, closed, fail
 ghost use Rattle.hub_machine.specs.Endings.{spread_out, all_spread_out, overrun_by, overrun_of};
 ghost use Rattle.hub_machine.specs.Endings.{all_overrun, finished};
 
-use crate::hub::{FIRST_CONNECTION, Hub};
+use crate::hub::Hub;
 use ac_world::{Load, Spread};
 use ds_space::Space;
 use hub_machine::{DELIVERIES, DELIVERIES_WEIGHT, Fault, Reply, overrun};
+use hub_packets::FIRST_CONNECTION;
 use pv_value::NoMemory;
 use std::alloc::Global;
 

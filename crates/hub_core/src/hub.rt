@@ -19,9 +19,6 @@ use std::alloc::Global;
 use std::collections::BTreeMap;
 use std::marker::Model;
 
-/// The actors from this one on are connections, 17 being connection 1.
-pub(crate) const FIRST_CONNECTION: u32 = 17;
-
 /// The state of the server: its world, what each live connection names, and the faults of which
 /// connections are still to be told.
 #[derive(Drop)]

@@ -3,21 +3,18 @@
 //!
 //! What contracts see of a [`Hub`] is the state of `hub_machine`'s `specs/State.antt`, and
 //! [`Hub::step`] is the machine of its `specs/Machine.antt`, over any body of [`ds_space::Space`].
+//! What a packet does, and what a connection is told of a batch, is told by `hub_packets`.
 #![tactic(auto)]
 
-mod admitting;
 mod endings;
 mod hub;
 mod packets;
-mod refusals;
-mod telling;
 mod turns;
 
 pub use hub::Hub;
 pub use hub_machine::{
     BACKLOG, BACKLOG_WEIGHT, CONNECTIONS, DATASPACES, DELIVERIES, DELIVERIES_WEIGHT, Fault,
-    HANDLES, PACKET_BYTES, ROWS_WEIGHT, Reply, Step, TURN_EVENTS, VALUE_DEPTH, VALUE_WEIGHT,
-    WANTED_WEIGHT, refusals_change_nothing, refused_packets_have_their_cause,
-    refused_packets_leave_nothing,
+    HANDLES, ROWS_WEIGHT, Reply, Step, TURN_EVENTS, WANTED_WEIGHT, refusals_change_nothing,
+    refused_packets_have_their_cause, refused_packets_leave_nothing,
 };
 pub use rl_ports::Inbound;

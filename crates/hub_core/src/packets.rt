@@ -1,5 +1,5 @@
 //! What connections send: packets, what is none, and their going.
-ghost use Rattle.std.specs.Prelude.{◌≡◌, ◌≤◌, ◌<◌, ◌^◌, true, [], IfOk, IfErr, IfSome};
+ghost use Rattle.std.specs.Prelude.{◌≡◌, ◌≤◌, ◌<◌, ◌^◌, true, [], IfOk, IfSome};
 ghost use Rattle.std.specs.Prelude.{is_some, if◌then◌else◌};
 ghost use Rattle.std.specs.BTreeMap.{IsOrdered};
 ghost use Rattle.std.specs.List.Sorted.{IsStrictlySortedBy};
@@ -8,18 +8,17 @@ ghost use Rattle.std.specs.Ordering.{nat_cmp};
 ghost use Rattle.ac_table.specs.Tables.{is_live};
 ghost use Rattle.ac_world.specs.Worlds.{actor_of};
 ghost use Rattle.hub_machine.specs.State.{ports_of};
-ghost use Rattle.hub_machine.specs.Admission.{admission, admitted};
+ghost use Rattle.hub_machine.specs.Admission.{admission};
 ghost use Rattle.hub_machine.specs.Endings.{nameless, departed_for, finished};
 ghost use Rattle.hub_machine.specs.Machine.{judged, accepted, packet_at, bad_at, close_at};
 ghost use Rattle.hub_machine.specs.declared.steps.Reply.TheVariants as reply;
 ghost use Rattle.hub_valid.specs.Validity.{IsValid, IsValidEntry};
-ghost use Rattle.hub_core.specs.Refusals.{IsRefusedFor, IsCauseAnd};
+ghost use Rattle.hub_packets.specs.Refusals.{IsCauseAnd};
 
-use crate::admitting::Admitting;
 use crate::hub::Hub;
-use crate::refusals::{Refusal, refuse_for};
 use ds_space::Space;
-use hub_machine::{Fault, Reply, TURN_EVENTS, over};
+use hub_machine::{Fault, Reply};
+use hub_packets::{Admitting, Refusal, admission};
 use pv_value::NoMemory;
 use rl_packet::Turn;
 use rl_ports::Ports;
@@ -49,27 +48,6 @@ impl<S: Space + Drop> Hub<S> {
             return None;
         }
         self.connections.remove(&connection)
-    }
-
-    /// What the events of a packet do, or why one of them is refused.
-    fn admission(
-        &self,
-        alloc: Global,
-        connection: u32,
-        ports: Ports,
-        turn: &Turn,
-    ) -> Result<Admitting, Refusal>
-        requires small { connection ≤ 2 ^ 31 }
-        requires next { self.now.world.table.next < 2 ^ 62 }
-        ensures admitted { IfOk result
-            (λ x. admission connection ports self.now.world turn.now ≡ admitted x) }
-        ensures refused { IfErr result
-            (IsRefusedFor (admission connection ports self.now.world turn.now)) }
-    {
-        refuse_for(over(TURN_EVENTS, 3, turn.len() as u64))?;
-        let mut admitting = Admitting::new(alloc, connection, ports, &self.world);
-        admitting.admit_all(alloc, connection, turn.as_slice(), &self.world)?;
-        Ok(admitting)
     }
 
     /// What a packet does is done, and its connection names what it leaves.
@@ -140,7 +118,7 @@ impl<S: Space + Drop> Hub<S> {
         ensures reply { IfOk result (λ done. done.1
             ≡ (judged connection (admission connection ports self.world turn.now) self).reply) }
     {
-        match self.admission(alloc, connection, ports, turn) {
+        match admission(alloc, connection, ports, turn, &self.world) {
             Ok(admitting) => {
                 let _wired = turn.as_slice();
                 let hub = self.accept(alloc, connection, admitting)?;

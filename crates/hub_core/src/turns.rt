@@ -8,12 +8,12 @@ ghost use Rattle.hub_machine.specs.Machine.{work_by, telling_fault};
 ghost use Rattle.hub_valid.specs.Validity.{IsValid, IsValidBatch, IsValidEntry};
 ghost use Rattle.hub_core.specs.Telling.{IsToldSoundly, told_by};
 
-use crate::hub::{FIRST_CONNECTION, Hub};
-use crate::telling::all_to_send;
+use crate::hub::Hub;
 use ac_table::Batch;
 use ac_world::Turned;
 use ds_space::Space;
 use hub_machine::Reply;
+use hub_packets::{FIRST_CONNECTION, all_to_send};
 use pv_value::NoMemory;
 use rl_packet::{Packet, Turn};
 use rl_ports::Ports;

@@ -9,18 +9,18 @@ use Rattle.pv_value.specs.Plain.{Plain}
 use Rattle.ac_table.specs.declared.batches.Row.{Row}
 use Rattle.ac_table.specs.declared.batches.Batch.{Batch}
 use Rattle.ac_table.specs.Tables.{Actor, find_actor, is_live}
+use Rattle.ac_table.proofs.Lists.{all_weaker}
 use Rattle.ac_world.specs.Worlds.{WorldState, Deliveries, seat_of, held_by, entry_of, is_space, actor_of, arrived}
+use Rattle.ac_world.specs.Lemmas.Entries.{put_found, put_other, ascend_none, ascend_with}
 use Rattle.rl_ports.specs.Ports.{PortsState, ports_to}
 use Rattle.hub_machine.specs.State.{State}
 use Rattle.hub_machine.specs.Machine.{opened, actor_reference}
 use Rattle.hub_laws.specs.Standing.{stands, value_alone, at_object}
-use Rattle.hub_laws.proofs.Entries.{put_found, put_other}
 use Rattle.hub_laws.proofs.Joining.{above_is_new, joined_is_table, joined_new, joined_other, joined_live}
 use Rattle.hub_laws.proofs.Joining.{joined_live_other}
 use Rattle.hub_laws.proofs.Kept.{IsNear, IsGood, FitsBatch, IsServedBy, IsServed, IsSound, IsHub}
 use Rattle.hub_laws.proofs.Knowing.{known_more, good_more, fits_more}
 use Rattle.hub_laws.proofs.Leaving.{one_or_not}
-use Rattle.hub_laws.proofs.Lists.{all_weaker, ascend_none, ascend_with}
 
 -- nothing stands at an actor that no row names
 none_stands : {X : Type 0} (f : ℕ → Plain → X) (a n : ℕ) (rows : List Row) → n < a → AllByRecursion (IsGood n) rows

@@ -10,9 +10,10 @@ use Rattle.ac_table.specs.declared.batches.Batch.{Batch}
 use Rattle.ac_table.specs.Tables.{TableState, Actor, IsTable, find_actor, find_row, is_live}
 use Rattle.ac_world.specs.Outboxes.{Plan, committed, posted, told_to}
 use Rattle.ac_world.specs.Worlds.{WorldState, seat_of, held_by, entry_of, is_space}
+use Rattle.ac_world.specs.Lemmas.Entries.{KeysAscend}
 use Rattle.hub_laws.specs.Standing.{value_alone, at_object}
 use Rattle.hub_laws.specs.Wanting.{IsMet}
-use Rattle.hub_laws.proofs.Kept.{KeysAscend, IsKnown, IsGood, Moves, AreGood, IsServedBy, IsServed, IsSound}
+use Rattle.hub_laws.proofs.Kept.{IsKnown, IsGood, Moves, AreGood, IsServedBy, IsServed, IsSound}
 use Rattle.hub_laws.proofs.Promised.{PostedTo, PostedTable, ServedAfter, IsPostedTo}
 
 -- the world u, whose table is the one over which the plan began, but for the wants, which are met over the plan's rows

@@ -11,10 +11,11 @@ use Rattle.ac_table.specs.declared.batches.Row.{Row}
 use Rattle.ac_table.specs.declared.batches.Event.TheVariants.{Retract}
 use Rattle.ac_table.specs.Tables.{TableState, Actor, IsTable, find_actor, find_row, is_live, ended, handles, rows_of}
 use Rattle.ac_table.specs.Tables.{rows_of_others, without_row}
+use Rattle.ac_table.proofs.Lists.{all_filter}
 use Rattle.ac_world.specs.Outboxes.{Outbox, Plan, plan_over, drop_row, drop_own, told, told_to, retractions}
-use Rattle.hub_laws.proofs.Kept.{KeysAscend, FitsEvent, Moves}
+use Rattle.ac_world.specs.Lemmas.Entries.{KeysAscend, AreAbove, all_append, ascend_none, ascend_with}
+use Rattle.hub_laws.proofs.Kept.{FitsEvent, Moves}
 use Rattle.hub_laws.proofs.Promised.{RetractionsAscend, EndedTable, ServedAfterEnd}
-use Rattle.hub_laws.proofs.Lists.{AreAbove, all_append, all_filter, ascend_none, ascend_with}
 use Rattle.hub_laws.proofs.Finding.{Ascend, ascend_filter, unless_own, find_row-others}
 use Rattle.hub_laws.proofs.Moving.{event_for, told_to-told, begin_moves, dropped_moves}
 use Rattle.hub_laws.proofs.Serving.{leads_from, served_on}

@@ -20,6 +20,7 @@ use Rattle.rl_packet.specs.declared.holding.Holding.{Holding}
 use Rattle.ac_table.specs.declared.batches.Row.{Row}
 use Rattle.ac_table.specs.declared.batches.Batch.{Batch}
 use Rattle.ac_table.specs.Tables.{TableState, Actor, IsTable, find_actor, is_live, waiting_in}
+use Rattle.ac_table.proofs.Lists.{all_weaker}
 use Rattle.ac_world.specs.Worlds.{WorldState, seat_of, held_by, is_space, actor_of}
 use Rattle.ac_world.specs.declared.held.Held.{Held}
 use Rattle.hub_machine.specs.State.{State, opening}
@@ -34,7 +35,7 @@ use Rattle.hub_laws.specs.Standing.{stands, took_all, events_of, value_alone, at
 use Rattle.hub_laws.proofs.Bags.{map_flat, permutation_flat, filter_alike, filter_filter, by_number}
 use Rattle.hub_laws.proofs.Finding.{all_from_found, found_owner}
 use Rattle.hub_laws.proofs.Kept.{IsNear, IsServedBy, IsServed, IsSound, IsHub}
-use Rattle.hub_laws.proofs.Lists.{all_weaker, near_exact, kept_of, entry_of-stands}
+use Rattle.hub_laws.proofs.Lists.{near_exact, kept_of, entry_of-stands}
 use Rattle.hub_laws.proofs.OwnRows.{pair_of_row, own_are_meant}
 use Rattle.hub_laws.proofs.Owned.{rows_of_met}
 use Rattle.hub_laws.proofs.Told.{goes_to, goes_passing, pair_by, wants_are_told}

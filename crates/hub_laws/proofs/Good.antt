@@ -7,10 +7,11 @@ use Rattle.ac_table.specs.declared.batches.Row.{Row}
 use Rattle.ac_table.specs.declared.batches.Event.{Event}
 use Rattle.ac_table.specs.declared.batches.Event.TheVariants.{Assert, Retract, Message, Sync}
 use Rattle.ac_table.specs.Tables.{TableState, find_row, without_row}
+use Rattle.ac_table.proofs.Lists.{all_filter}
 use Rattle.ac_world.specs.Outboxes.{Outbox, Plan, drop_row, drop_own, told_to, told}
+use Rattle.ac_world.specs.Lemmas.Entries.{all_append}
 use Rattle.hub_laws.proofs.Kept.{made_in, IsOwnedBy, FitsEvent, Moves, AreGood}
 use Rattle.hub_laws.proofs.Promised.{IsSaid, BeginGood, PutGood, DroppedGood, SaidGood}
-use Rattle.hub_laws.proofs.Lists.{all_append, all_filter}
 use Rattle.hub_laws.proofs.Finding.{row_next, find_row-without, find_row-asserted}
 use Rattle.hub_laws.proofs.Moving.{told_to-told}
 

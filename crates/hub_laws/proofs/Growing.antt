@@ -20,13 +20,12 @@ use Rattle.ac_world.specs.declared.aims.Aim.{Aim}
 use Rattle.ac_world.specs.Turns.{aim_at, say_at, deliver, answered, all_answered}
 use Rattle.ac_world.specs.Worlds.{WorldState, held_by, without_entry, is_space, is_system, actor_of, all_delivered}
 use Rattle.ac_world.specs.Worlds.{arrived, sent, gone, ended_of}
+use Rattle.ac_world.specs.Lemmas.Entries.{put_other, out_other, KeysAscend, ascend_none}
 use Rattle.hub_laws.proofs.Committing.{done_in}
 use Rattle.hub_laws.proofs.EndingActors.{retractions_ascend, ended_none, ended_other}
-use Rattle.hub_laws.proofs.Entries.{put_other, out_other}
 use Rattle.hub_laws.proofs.Joining.{joined_other}
-use Rattle.hub_laws.proofs.Kept.{KeysAscend, made_in, IsLog, IsSound, Moves}
+use Rattle.hub_laws.proofs.Kept.{made_in, IsLog, IsSound, Moves}
 use Rattle.hub_laws.proofs.Leaving.{one_or_not}
-use Rattle.hub_laws.proofs.Lists.{ascend_none}
 use Rattle.hub_laws.proofs.Moving.{made_in-told, begin_moves, put_moves, dropped_moves, said_moves}
 use Rattle.hub_laws.proofs.Posting.{posted_to, posted_table, table-popped, found-popped_other}
 use Rattle.hub_laws.proofs.Serving.{events_posted, log_posted}

@@ -14,6 +14,7 @@ use Rattle.ac_table.specs.declared.batches.Event.{Event}
 use Rattle.ac_table.specs.declared.batches.Event.TheVariants.{Assert, Retract, Message, Sync}
 use Rattle.ac_world.specs.Worlds.{with_entry, without_entry}
 use Rattle.ac_world.specs.declared.held.Held.{Held}
+use Rattle.ac_world.specs.Lemmas.Entries.{AreAbove}
 use Rattle.rl_packet.specs.Holding.{retracted_by, all_kept}
 use Rattle.rl_packet.specs.declared.holding.Holding.{Holding}
 use Rattle.rl_packet.specs.declared.packets.TurnEvent.{TurnEvent}
@@ -21,7 +22,6 @@ use Rattle.hub_machine.specs.Machine.{sent_event}
 use Rattle.hub_laws.specs.Settled.{holding_of}
 use Rattle.hub_laws.specs.Standing.{took_all, at_object}
 use Rattle.hub_laws.proofs.Kept.{made_in}
-use Rattle.hub_laws.proofs.Lists.{AreAbove}
 use Rattle.hub_laws.proofs.Logs.{one_of_all, log_took}
 use Rattle.hub_laws.proofs.Moving.{with_entry-above}
 use Rattle.hub_laws.proofs.Turns.{ascend_before}

@@ -11,16 +11,15 @@ use Rattle.ac_table.specs.Tables.{TableState, Actor, IsTable, find_actor, find_r
 use Rattle.ac_world.specs.declared.spreads.Spread.{Spread as SpreadOf}
 use Rattle.ac_world.specs.Worlds.{WorldState, entry_of, with_entry, without_entry, is_space, actor_of, gone}
 use Rattle.ac_world.specs.Worlds.{ended_of}
+use Rattle.ac_world.specs.Lemmas.Entries.{put_found, put_other, out_other, out_gone, ascend_without, ascend_with}
 use Rattle.rl_ports.specs.Ports.{PortsState}
 use Rattle.hub_machine.specs.declared.faults.Fault.{Fault}
 use Rattle.hub_machine.specs.declared.faults.Fault.TheVariants.{Spread}
 use Rattle.hub_machine.specs.State.{State, is_there}
 use Rattle.hub_machine.specs.Endings.{closed, failed, failed_where, spread_out, all_spread_out, overrun_of, all_overrun}
 use Rattle.hub_machine.specs.Endings.{finished}
-use Rattle.hub_laws.proofs.Entries.{put_found, put_other, out_other, out_gone, out_ascends}
 use Rattle.hub_laws.proofs.Kept.{is_in, IsExcused, IsNear, IsServed, IsSound, IsHub, actors_in}
 use Rattle.hub_laws.proofs.Leaving.{Endings, one_or_not, gone_not_live, gone_others_live, gone_live_before, gone_sound}
-use Rattle.hub_laws.proofs.Lists.{ascend_with}
 
 -- ---- a connection ends
 
@@ -59,7 +58,7 @@ left_live P ends k s live h = record {
         ∙ h.nameless j
         (sym (gone_others_live P (actor_of k) (actor_of j) s.world h.sound.table (other_number j k ne)) ∙ is)
   ];
-  names_ascend = out_ascends k s.connections h.names_ascend;
+  names_ascend = ascend_without k s.connections h.names_ascend;
 }
 
 left_dead : (ends : List ℕ) (k : ℕ) (s : State) → is_live (actor_of k) s.world.table ≡ false
@@ -75,7 +74,7 @@ left_dead ends k s dead h = record {
     | inl same ↦ ap (λ i. entry_of i (without_entry k s.connections)) same ∙ out_gone k s.connections h.names_ascend
     | inr ne ↦ out_other k j s.connections ne ∙ h.nameless j is
   ];
-  names_ascend = out_ascends k s.connections h.names_ascend;
+  names_ascend = ascend_without k s.connections h.names_ascend;
 }
 
 pub closed_hub : (P : Endings) (ends : List ℕ) (k : ℕ) (s : State) → IsHub ends s → IsHub ends (closed k s)

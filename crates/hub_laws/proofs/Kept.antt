@@ -19,15 +19,13 @@ use Rattle.ac_world.specs.declared.spreads.Spread.{Spread}
 use Rattle.ac_world.specs.Outboxes.{Plan, told_to}
 use Rattle.ac_world.specs.Turns.{Turning, observer_in}
 use Rattle.ac_world.specs.Worlds.{WorldState, seat_of, held_by, entry_of, is_space, actor_of}
+use Rattle.ac_world.specs.Lemmas.Entries.{KeysAscend}
 use Rattle.hub_machine.specs.State.{State}
 use Rattle.rl_ports.specs.Ports.{PortsState}
 use Rattle.hub_laws.specs.Standing.{stands, took_all, events_of, value_alone, at_object}
 use Rattle.hub_laws.specs.Wanting.{IsMet}
 
 -- ---- lists by handle
-
-abbrev pub KeysAscend : {X : Type 0} → List (ℕ × X) → Type 0
-KeysAscend es = IsStrictlySortedBy nat_cmp (keys_of es)
 
 -- the handles of the assertions among events, in order
 abbrev pub made_by : Event → List ℕ

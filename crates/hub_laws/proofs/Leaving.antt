@@ -11,10 +11,10 @@ use Rattle.ac_table.specs.Tables.{Actor, IsTable, find_actor, find_row, is_live,
 use Rattle.ac_table.specs.Tables.{rows_of_others}
 use Rattle.ac_world.specs.Outboxes.{told_to, retractions}
 use Rattle.ac_world.specs.Worlds.{WorldState, seat_of, held_by, entry_of, without_entry, is_space, gone}
+use Rattle.ac_world.specs.Lemmas.Entries.{out_other, out_gone, ascend_without}
 use Rattle.hub_laws.specs.Standing.{value_alone, at_object}
 use Rattle.hub_laws.specs.Wanting.{IsMet}
 use Rattle.hub_laws.proofs.Asked.{MetKept, OthersFound, OthersKeep}
-use Rattle.hub_laws.proofs.Entries.{out_other, out_gone, out_ascends}
 use Rattle.hub_laws.proofs.Kept.{IsGood, IsServedBy, IsServed, IsSound}
 use Rattle.hub_laws.proofs.Promised.{PostedTo, PostedTable, ServedAfterEnd, RetractionsAscend, EndedTable, IsPostedTo}
 
@@ -142,7 +142,7 @@ gone_sound P ends a w far k =
       known = k.known;
       idle = λ h r found.
           k.idle h r (P.others_found a h w.table.rows r k.table.rows_ascend (ap (find_row h) (sym q.0) ∙ found)).0;
-      held_ascends = out_ascends a w.held k.held_ascends;
+      held_ascends = ascend_without a w.held k.held_ascends;
       unheld = λ b is. elim (one_or_not b a) [
         | inl same ↦
             ap (λ c. entry_of c (without_entry a w.held)) same ∙ out_gone a w.held k.held_ascends

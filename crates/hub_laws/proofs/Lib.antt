@@ -4,7 +4,6 @@ pub mod Bags
 pub mod Committing
 pub mod Distinct
 pub mod EndingActors
-pub mod Entries
 pub mod Finding
 pub mod FromScratch
 pub mod Good

@@ -1,6 +1,6 @@
 -- Entries by ascending number: what is found among them, and which lists of them are the same.
-use Rattle.std.proofs.Common.{◌≡◌, ℕ, ◌<◌, ◌==◌, List, [], ◌∷◌, ◌++◌, Bool, true, false, cond, Option, Some, None}
-use Rattle.std.proofs.Common.{◌⊎◌, inl, inr, Ordering, Less, Equal, Greater, refl, sym, ◌∙◌, arith}
+use Rattle.std.proofs.Common.{◌≡◌, ℕ, ◌<◌, ◌==◌, List, [], ◌∷◌, Bool, true, false, cond, Option, Some, None}
+use Rattle.std.proofs.Common.{◌⊎◌, inl, inr, refl, sym, ◌∙◌, arith}
 use Rattle.std.specs.BTreeMap.{is_at}
 use Rattle.std.specs.List.{AllByRecursion}
 use Rattle.std.specs.List.Sorted.{IsStrictlySortedBy}
@@ -9,124 +9,27 @@ use Rattle.std.specs.Ordering.{nat_cmp}
 use Rattle.std.proofs.lemmas.Bool.Decides.{nat_tests}
 use Rattle.std.proofs.lemmas.Map.Keys.{sorted_head, sorted_tail}
 use Rattle.pv_value.specs.Plain.{Plain}
-pub use Rattle.ac_table.proofs.Lists.{all_weaker, all_filter}
 use Rattle.ac_table.specs.declared.batches.Row.{Row}
 use Rattle.ac_table.specs.declared.batches.Event.{Event}
 use Rattle.ac_table.specs.declared.batches.Event.TheVariants.{Assert, Retract, Message, Sync}
 use Rattle.ac_table.specs.Tables.{find_row, handles}
-use Rattle.ac_world.specs.Worlds.{entry_of, with_entry, without_entry}
+use Rattle.ac_world.specs.Worlds.{entry_of}
+use Rattle.ac_world.specs.Lemmas.Entries.{KeysAscend, AreAbove, above_lower, entry_of_with, entry_of_above}
+use Rattle.ac_world.specs.Lemmas.Entries.{entry_of_without, ascend_none, ascend_cons, ascend_with, ascend_without}
 use Rattle.hub_laws.specs.Standing.{stands, took, took_all}
-use Rattle.hub_laws.proofs.Kept.{KeysAscend, IsNear, IsExcused, is_in}
+use Rattle.hub_laws.proofs.Kept.{IsNear, IsExcused, is_in}
 use Rattle.hub_laws.proofs.Promised.{TookAllAppend, NearTook}
 
 pub took_all_append : TookAllAppend
 took_all_append X f [] ds got = refl
 took_all_append X f (e ∷ es) ds got = took_all_append X f es ds (took f e got)
 
--- ---- lists of which each element passes
-
-pub all_append : {X : Type 0} (P : X → Type 0) (xs ys : List X) → AllByRecursion P xs → AllByRecursion P ys
-    → AllByRecursion P (xs ++ ys)
-all_append P [] ys a b = b
-all_append P (x ∷ xs) ys a b = (a.0, all_append P xs ys a.1 b)
-
 -- ---- what is found
 
 pub is_at_same : (a k : ℕ) → is_at (nat_cmp a) k ≡ (a == k)
 is_at_same a k = grind (arith, nat_tests)
 
-pub entry_of-with : {X : Type 0} (h k : ℕ) (x : X) (es : List (ℕ × X))
-    → entry_of h (with_entry k x es) ≡ cond (k == h) (Some x) (entry_of h es)
-entry_of-with h k x [] = grind (arith, nat_tests)
-entry_of-with h k x (e ∷ es) = grind (arith, nat_tests, entry_of-with h k x es)
-
--- each number here is above k
-abbrev pub AreAbove : ℕ → List ℕ → Type 0
-AreAbove k ks = AllByRecursion (λ j. nat_cmp k j ≡ Less) ks
-
-pub entry_of-above : {X : Type 0} (h : ℕ) (es : List (ℕ × X)) → AreAbove h (keys_of es) → entry_of h es ≡ None
-entry_of-above h [] a = refl
-entry_of-above h (e ∷ es) a = grind (arith, a.0, entry_of-above h es a.1)
-
-pub entry_of-without : {X : Type 0} (h k : ℕ) (es : List (ℕ × X)) → KeysAscend es
-    → entry_of h (without_entry k es) ≡ cond (k == h) None (entry_of h es)
-entry_of-without h k [] s = grind arith
-entry_of-without h k (e ∷ es) s =
-    grind (
-      arith,
-      nat_tests,
-      entry_of-without h k es (sorted_tail nat_cmp _ _ s),
-      λ (same : e.0 ≡ h). entry_of-above h es (rw (← same) (sorted_head nat_cmp _ _ s)),
-    )
-
 -- ---- numbers that ascend
-
-pub ascend_none : IsStrictlySortedBy nat_cmp []
-unfolding IsStrictlySortedBy
-ascend_none = tt
-
-pub ascend_cons : (k : ℕ) (ks : List ℕ) → AreAbove k ks → IsStrictlySortedBy nat_cmp ks
-    → IsStrictlySortedBy nat_cmp (k ∷ ks)
-unfolding IsStrictlySortedBy
-ascend_cons k ks a s = (a, s)
-
-pub above_lower : (k m : ℕ) (ks : List ℕ) → k < m → AreAbove m ks → AreAbove k ks
-above_lower k m [] l above = tt
-above_lower k m (j ∷ ks) l above = (grind (arith, above.0), above_lower k m ks l above.1)
-
--- one more, above all
-pub ascend_push : (ks : List ℕ) (k : ℕ) → AllByRecursion (λ j. j < k) ks → IsStrictlySortedBy nat_cmp ks
-    → IsStrictlySortedBy nat_cmp (ks ++ k ∷ [])
-ascend_push [] k below s = ascend_cons k [] tt ascend_none
-ascend_push (j ∷ ks) k below s =
-    let last : nat_cmp j k ≡ Less = grind (arith, nat_tests, below.0) in
-    ascend_cons j (ks ++ k ∷ []) (all_append _ ks (k ∷ []) (sorted_head nat_cmp _ _ s) (last, tt))
-    (ascend_push ks k below.1 (sorted_tail nat_cmp _ _ s))
-
-pub all_with : {X : Type 0} (P : ℕ → Type 0) (k : ℕ) (x : X) (es : List (ℕ × X)) → P k → AllByRecursion P (keys_of es)
-    → AllByRecursion P (keys_of (with_entry k x es))
-all_with P k x [] p a = (p, tt)
-all_with {X = X} P k x (e ∷ es) p a = split (nat_cmp k e.0) refl (all_with P k x es p a.1)
-  where
-    split : (o : Ordering) → nat_cmp k e.0 ≡ o → AllByRecursion P (keys_of (with_entry k x es))
-        → AllByRecursion P (keys_of (with_entry k x (e ∷ es)))
-    split Less is rest = rw is (p, a)
-    split Equal is rest = rw is a
-    split Greater is rest = rw is (a.0, rest)
-
-pub all_without : {X : Type 0} (P : ℕ → Type 0) (k : ℕ) (es : List (ℕ × X)) → AllByRecursion P (keys_of es)
-    → AllByRecursion P (keys_of (without_entry k es))
-all_without P k [] a = tt
-all_without P k (e ∷ es) a = split (is_at (nat_cmp k) e.0) refl (all_without P k es a.1)
-  where
-    split : (b : Bool) → is_at (nat_cmp k) e.0 ≡ b → AllByRecursion P (keys_of (without_entry k es))
-        → AllByRecursion P (keys_of (without_entry k (e ∷ es)))
-    split true is rest = rw is a.1
-    split false is rest = rw is (a.0, rest)
-
-pub ascend_with : {X : Type 0} (k : ℕ) (x : X) (es : List (ℕ × X)) → KeysAscend es → KeysAscend (with_entry k x es)
-ascend_with k x [] s = ascend_cons k [] tt ascend_none
-ascend_with k x (e ∷ es) s = split (nat_cmp k e.0) refl (ascend_with k x es (sorted_tail nat_cmp _ _ s))
-  where
-    split : (o : Ordering) → nat_cmp k e.0 ≡ o → KeysAscend (with_entry k x es)
-        → KeysAscend (with_entry k x (e ∷ es))
-    split Less is rest =
-        let lower : k < e.0 = grind (arith, nat_tests) in
-        rw is (ascend_cons k _ (is, above_lower k e.0 _ lower (sorted_head nat_cmp _ _ s)) s)
-    split Equal is rest = rw is s
-    split Greater is rest =
-        let lower : nat_cmp e.0 k ≡ Less = grind (arith, nat_tests) in
-        rw is (ascend_cons e.0 _ (all_with _ k x es lower (sorted_head nat_cmp _ _ s)) rest)
-
-pub ascend_without : {X : Type 0} (k : ℕ) (es : List (ℕ × X)) → KeysAscend es → KeysAscend (without_entry k es)
-ascend_without k [] s = s
-ascend_without k (e ∷ es) s =
-    split (is_at (nat_cmp k) e.0) refl (ascend_without k es (sorted_tail nat_cmp _ _ s))
-  where
-    split : (b : Bool) → is_at (nat_cmp k) e.0 ≡ b → KeysAscend (without_entry k es)
-        → KeysAscend (without_entry k (e ∷ es))
-    split true is rest = rw is (sorted_tail nat_cmp _ _ s)
-    split false is rest = rw is (ascend_cons e.0 _ (all_without _ k es (sorted_head nat_cmp _ _ s)) rest)
 
 pub took_ascends : {X : Type 0} (f : ℕ → Plain → X) (e : Event) (got : List (ℕ × X)) → KeysAscend got
     → KeysAscend (took f e got)
@@ -149,7 +52,7 @@ none_lower : {X : Type 0} (x y : ℕ × X) (xs ys : List (ℕ × X)) → x.0 < y
     → FindTheSame (x ∷ xs) (y ∷ ys) → ⊥
 none_lower x y xs ys l t same =
     let above : AreAbove x.0 (keys_of ys) = above_lower x.0 y.0 _ l (sorted_head nat_cmp _ _ t) in
-    let none : entry_of x.0 (y ∷ ys) ≡ None = entry_of-above x.0 (y ∷ ys) (grind arith, above) in
+    let none : entry_of x.0 (y ∷ ys) ≡ None = entry_of_above x.0 (y ∷ ys) (grind arith, above) in
     let some : entry_of x.0 (x ∷ xs) ≡ Some x.1 = grind arith in
     let clash : Some x.1 ≡ None = sym some ∙ same x.0 ∙ none in
     absurd cc
@@ -168,8 +71,8 @@ same_later x y xs ys s t key same h =
     grind (
       arith,
       nat_tests,
-      λ (e : x.0 ≡ h). entry_of-above h xs (rw (← e) (sorted_head nat_cmp _ _ s)),
-      λ (e : y.0 ≡ h). entry_of-above h ys (rw (← e) (sorted_head nat_cmp _ _ t)),
+      λ (e : x.0 ≡ h). entry_of_above h xs (rw (← e) (sorted_head nat_cmp _ _ s)),
+      λ (e : y.0 ≡ h). entry_of_above h ys (rw (← e) (sorted_head nat_cmp _ _ t)),
     )
 
 pub same_entries : {X : Type 0} (xs ys : List (ℕ × X)) → KeysAscend xs → KeysAscend ys → FindTheSame xs ys → xs ≡ ys
@@ -197,13 +100,13 @@ near_took_one : {X : Type 0} (f : ℕ → Plain → X) (ends : List ℕ) (rows :
 near_took_one f ends rows (Assert h entity v) should kept n = record {
   should_ascends = ascend_with h (f entity v) should n.should_ascends;
   kept_ascends = ascend_with h (f entity v) kept n.kept_ascends;
-  near = λ q. rw (entry_of-with q h (f entity v) kept, entry_of-with q h (f entity v) should)
+  near = λ q. rw (entry_of_with q h (f entity v) kept, entry_of_with q h (f entity v) should)
       (changed_alike _ (h == q) _ _ _ (n.near q));
 }
 near_took_one f ends rows (Retract h entity) should kept n = record {
   should_ascends = ascend_without h should n.should_ascends;
   kept_ascends = ascend_without h kept n.kept_ascends;
-  near = λ q. rw (entry_of-without q h kept n.kept_ascends, entry_of-without q h should n.should_ascends)
+  near = λ q. rw (entry_of_without q h kept n.kept_ascends, entry_of_without q h should n.should_ascends)
       (changed_alike _ (h == q) _ _ _ (n.near q));
 }
 near_took_one f ends rows (Message entity v) should kept n = n
@@ -267,6 +170,6 @@ entry_of-stands f a h (r ∷ rs) s =
       arith,
       nat_tests,
       entry_of-stands f a h rs (sorted_tail nat_cmp _ _ s),
-      λ (same : r.handle ≡ h). entry_of-above h (stands f a rs)
+      λ (same : r.handle ≡ h). entry_of_above h (stands f a rs)
           (all_stand _ f a rs (rw (← same) (sorted_head nat_cmp _ _ s))),
     )

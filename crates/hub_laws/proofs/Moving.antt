@@ -12,13 +12,16 @@ use Rattle.ac_table.specs.declared.batches.Row.{Row}
 use Rattle.ac_table.specs.declared.batches.Event.{Event}
 use Rattle.ac_table.specs.declared.batches.Event.TheVariants.{Assert, Retract, Message, Sync}
 use Rattle.ac_table.specs.Tables.{TableState, Actor, find_row, find_actor, without_row}
+use Rattle.ac_table.proofs.Lists.{all_weaker}
 use Rattle.ac_world.specs.Outboxes.{Outbox, Plan, drop_row, drop_own, told_to, told}
 use Rattle.ac_world.specs.Worlds.{entry_of, with_entry}
+use Rattle.ac_world.specs.Lemmas.Entries.{entry_of_with, entry_of_without, all_append, ascend_none, ascend_push}
+use Rattle.ac_world.specs.Lemmas.Entries.{ascend_with, ascend_without}
 use Rattle.hub_laws.specs.Standing.{stands, took_all}
 use Rattle.hub_laws.proofs.Kept.{made_by, made_in, Moves}
 use Rattle.hub_laws.proofs.Promised.{IsSaid, BeginMoves, PutMoves, DroppedMoves, SaidMoves}
-use Rattle.hub_laws.proofs.Lists.{took_all_append, entry_of-with, entry_of-without, all_weaker, all_append, all_stand}
-use Rattle.hub_laws.proofs.Lists.{ascend_none, ascend_push, ascend_with, ascend_without, same_entries, stands_ascend}
+use Rattle.hub_laws.proofs.Lists.{took_all_append, all_stand}
+use Rattle.hub_laws.proofs.Lists.{same_entries, stands_ascend}
 use Rattle.hub_laws.proofs.Lists.{kept_of, entry_of-stands}
 use Rattle.hub_laws.proofs.Finding.{Ascend, row_next, found_handle, find_row-push_old, find_row-asserted, all_handles}
 use Rattle.hub_laws.proofs.Finding.{find_row-without, ascend_filter, asserted_table, retracted_table}
@@ -31,7 +34,7 @@ event_for b target e = cond (target == b) (e ∷ []) []
 pub told_to-told : (b target : ℕ) (e : Event) (out : Outbox)
     → told_to b (told target e out) ≡ told_to b out ++ event_for b target e
 told_to-told b target e out =
-    rw (entry_of-with b target (told_to target out ++ e ∷ []) out) (split (target == b) refl)
+    rw (entry_of_with b target (told_to target out ++ e ∷ []) out) (split (target == b) refl)
   where
     split : (c : Bool) → (target == b) ≡ c
         → unwrap_or (cond c (Some (told_to target out ++ e ∷ [])) (entry_of b out)) []
@@ -187,7 +190,7 @@ drop_stands {X = X} f b rows r s is = split (r.target == b) refl
     split true at =
         same_entries _ _ (ascend_without r.handle _ (stands_ascend f b rows s))
         (stands_ascend f b (without_row r.handle rows) (ascend_filter _ rows s))
-        (λ h. entry_of-without h r.handle (stands f b rows) (stands_ascend f b rows s)
+        (λ h. entry_of_without h r.handle (stands f b rows) (stands_ascend f b rows s)
         ∙ ap (cond (r.handle == h) None) (entry_of-stands f b h rows s) ∙ here h (r.handle == h) ∙ sym (found h))
     split false other =
         same_entries _ _ (stands_ascend f b rows s)

@@ -4,6 +4,7 @@ use Rattle.std.proofs.Common.{refl, sym, ap, ◌∙◌, subst, arith, inl, inr, 
 use Rattle.std.proofs.lemmas.Bool.Decides.{nat_tests}
 use Rattle.ac_table.specs.Tables.{Actor, IsTable, find_actor, is_live, joined}
 use Rattle.ac_world.specs.Worlds.{first_actors, beginning, is_space}
+use Rattle.ac_world.specs.Lemmas.Entries.{ascend_none}
 use Rattle.hub_machine.specs.State.{opening}
 use Rattle.hub_machine.specs.Replays.{replay}
 use Rattle.hub_machine.specs.declared.steps.Step.{Step}
@@ -11,7 +12,6 @@ use Rattle.hub_laws.specs.Laws.{AreAllowed}
 use Rattle.hub_laws.proofs.Joining.{joined_is_table, joined_new, joined_other, joined_live, joined_live_other}
 use Rattle.hub_laws.proofs.Kept.{IsServed, IsSound, IsHub}
 use Rattle.hub_laws.proofs.Leaving.{one_or_not}
-use Rattle.hub_laws.proofs.Lists.{ascend_none}
 use Rattle.hub_laws.proofs.Owned.{no_wants_met}
 use Rattle.hub_laws.proofs.Steps.{run_hub}
 use Rattle.hub_valid.specs.Lemmas.Hubs.{stays_valid}

@@ -12,14 +12,13 @@ use Rattle.ac_world.specs.Worlds.{WorldState, Deliveries, seat_of, held_by, with
 use Rattle.ac_world.specs.Worlds.{is_system}
 use Rattle.ac_world.specs.Worlds.{all_delivered}
 use Rattle.ac_world.specs.declared.turns.Turned.TheVariants as turned
+use Rattle.ac_world.specs.Lemmas.Entries.{put_found, put_other, ascend_with}
 use Rattle.hub_laws.specs.Standing.{took_all, at_object}
 use Rattle.hub_laws.specs.Wanting.{IsMet}
 use Rattle.hub_laws.proofs.Committing.{IsPlanned, commit_sound, live_done}
-use Rattle.hub_laws.proofs.Entries.{put_found, put_other}
 use Rattle.hub_laws.proofs.Good.{begin_good}
 use Rattle.hub_laws.proofs.Kept.{Moves, AreGood, IsServedBy, IsServed, IsSound}
 use Rattle.hub_laws.proofs.Leaving.{one_or_not}
-use Rattle.hub_laws.proofs.Lists.{ascend_with}
 use Rattle.hub_laws.proofs.Logs.{connection_took}
 use Rattle.hub_laws.proofs.Moving.{begin_moves}
 use Rattle.hub_laws.proofs.Posting.{posted_to, posted_table, live-popped, table-popped, found-popped}

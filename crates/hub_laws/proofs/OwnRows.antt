@@ -14,12 +14,12 @@ use Rattle.dp_pattern.specs.Matching.{same}
 use Rattle.ds_space.specs.Lemmas.Keys.{same_is, same_self, same_turns}
 use Rattle.ac_table.specs.declared.batches.Row.{Row}
 use Rattle.ac_table.specs.Tables.{find_row, handles}
+use Rattle.ac_table.proofs.Lists.{all_filter, all_weaker}
 use Rattle.ac_world.specs.Turns.{handle_for}
 use Rattle.ac_world.specs.Worlds.{actor_of}
 use Rattle.hub_laws.specs.Scratch.{Pair, pair_at}
 use Rattle.hub_laws.proofs.Distinct.{distinct_none, same_members}
 use Rattle.hub_laws.proofs.Finding.{Ascend, found_handle, all_from_found, ascend_filter}
-use Rattle.hub_laws.proofs.Lists.{all_filter, all_weaker}
 use Rattle.hub_laws.proofs.Owned.{HasRows}
 use Rattle.hub_laws.proofs.Told.{is_at_actor, goes_to, pair_or, pair_by, any_map}
 

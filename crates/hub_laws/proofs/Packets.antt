@@ -10,6 +10,7 @@ use Rattle.ac_world.specs.declared.acts.Act.{Act}
 use Rattle.ac_world.specs.declared.acts.Act.TheVariants as act
 use Rattle.ac_world.specs.Outboxes.{Plan, plan_over, acted, all_acted}
 use Rattle.ac_world.specs.Worlds.{WorldState, Seat, seat_of, entry_of, with_entry, without_entry, is_space, actor_of}
+use Rattle.ac_world.specs.Lemmas.Entries.{put_found, put_other, out_other, ascend_without, ascend_with}
 use Rattle.hub_machine.specs.State.{State}
 use Rattle.hub_machine.specs.Admission.{Admitting}
 use Rattle.hub_machine.specs.Endings.{nameless}
@@ -18,12 +19,10 @@ use Rattle.hub_valid.specs.Validity.{IsValidAct}
 use Rattle.hub_laws.specs.Wanting.{IsMet}
 use Rattle.hub_laws.proofs.Asked.{MetKept}
 use Rattle.hub_laws.proofs.Committing.{IsPlanned, done_in, commit_sound, live_done}
-use Rattle.hub_laws.proofs.Entries.{put_found, put_other, out_other, out_ascends}
 use Rattle.hub_laws.proofs.Good.{begin_good, put_good, dropped_good, said_good}
 use Rattle.hub_laws.proofs.Kept.{Moves, AreGood, IsSound, IsHub}
 use Rattle.hub_laws.proofs.Knowing.{known_objects}
 use Rattle.hub_laws.proofs.Leaving.{one_or_not}
-use Rattle.hub_laws.proofs.Lists.{ascend_with}
 use Rattle.hub_laws.proofs.Moving.{begin_moves, put_moves, dropped_moves, said_moves}
 use Rattle.hub_laws.proofs.Posting.{posted_to, posted_table}
 use Rattle.hub_laws.proofs.Serving.{served_after}
@@ -133,5 +132,6 @@ accepted_hub met_kept k x s far live valid h =
           ap (λ i. is_live (actor_of i) w.table) same ∙ live in cc) in
           put_other k j x.ports (without_entry k s.connections) ne ∙
           (out_other k j s.connections ne ∙ h.nameless j before);
-      names_ascend = ascend_with k x.ports (without_entry k s.connections) (out_ascends k s.connections h.names_ascend);
+      names_ascend =
+          ascend_with k x.ports (without_entry k s.connections) (ascend_without k s.connections h.names_ascend);
     }

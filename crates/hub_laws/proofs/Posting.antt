@@ -10,10 +10,11 @@ use Rattle.std.proofs.lemmas.Map.Keys.{sorted_head, sorted_tail}
 use Rattle.ac_table.specs.declared.batches.Batch.{Batch}
 use Rattle.ac_table.specs.Tables.{TableState, Actor, IsTable, find_actor, is_live, with_inbox, pushed, popped}
 use Rattle.ac_table.specs.Tables.{first_batch}
+use Rattle.ac_table.proofs.Lists.{all_weaker}
 use Rattle.ac_world.specs.Outboxes.{Outbox, told_to, posted}
 use Rattle.ac_world.specs.Worlds.{entry_of}
+use Rattle.ac_world.specs.Lemmas.Entries.{AreAbove, entry_of_above}
 use Rattle.hub_laws.proofs.Promised.{IsPostedTo, PostedTo, PostedTable}
-use Rattle.hub_laws.proofs.Lists.{AreAbove, all_weaker, entry_of-above}
 
 -- ---- one inbox changes
 
@@ -134,7 +135,7 @@ posted_to from b (o ∷ os) t x ascend is = split (is_at (nat_cmp b) o.0) refl
         let above : AreAbove b (keys_of os) =
         subst (λ (k : ℕ). AreAbove k (keys_of os)) same (sorted_head nat_cmp _ _ ascend) in
         let pushed_is : find_actor b (with_inbox o.0 (λ bs. bs ++ batch ∷ []) t.actors) ≡ Some x =
-        sym (posted_none from b os (pushed o.0 batch t) (entry_of-above b os above)) ∙ is in
+        sym (posted_none from b os (pushed o.0 batch t) (entry_of_above b os above)) ∙ is in
         let r : IsFrom (λ bs. bs ++ batch ∷ []) (find_actor b t.actors) x =
         from_changed _ _ x (sym (found-with_inbox b (λ bs. bs ++ batch ∷ []) t.actors) ∙ rw same at pushed_is) in
         (r.before, r.found, rw here (inr r.inbox))

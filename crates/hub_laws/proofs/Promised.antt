@@ -15,9 +15,10 @@ use Rattle.ac_table.specs.Tables.{TableState, Actor, IsTable, find_actor, is_liv
 use Rattle.ac_table.specs.Tables.{rows_of_others}
 use Rattle.ac_world.specs.Outboxes.{Outbox, Plan, plan_over, put, dropped, said, told_to, posted, retractions}
 use Rattle.ac_world.specs.Turns.{Turning, regot, all_turned}
+use Rattle.ac_world.specs.Lemmas.Entries.{KeysAscend}
 use Rattle.hub_laws.specs.Standing.{took_all, value_alone}
 use Rattle.hub_laws.specs.Wanting.{IsMet}
-use Rattle.hub_laws.proofs.Kept.{KeysAscend, made_in, IsNear, IsKnown, IsGood, FitsEvent, Moves, AreGood, Runs}
+use Rattle.hub_laws.proofs.Kept.{made_in, IsNear, IsKnown, IsGood, FitsEvent, Moves, AreGood, Runs}
 use Rattle.hub_laws.proofs.Kept.{IsServedBy}
 
 -- ---- lists

@@ -13,9 +13,11 @@ use Rattle.ac_table.specs.declared.batches.Event.{Event}
 use Rattle.ac_table.specs.declared.batches.Event.TheVariants.{Assert, Retract, Message, Sync}
 use Rattle.ac_table.specs.declared.batches.Batch.{Batch}
 use Rattle.ac_table.specs.Tables.{Actor, find_actor, is_live, lowest, first_batch}
+use Rattle.ac_table.proofs.Lists.{all_weaker}
 use Rattle.ac_world.specs.declared.turns.Turned.TheVariants as turned
 use Rattle.ac_world.specs.Turns.{After as TurnOf, deliver, turn_with, turn_first}
 use Rattle.ac_world.specs.Worlds.{WorldState, held_by, entry_of, is_space, is_system, actor_of, all_delivered, arrived}
+use Rattle.ac_world.specs.Lemmas.Entries.{put_found, ascend_none, all_append}
 use Rattle.rl_packet.specs.Holding.{events_in, all_kept, holdings_in_order, held}
 use Rattle.rl_packet.specs.declared.packets.Event.TheVariants as wire
 use Rattle.rl_packet.specs.declared.packets.TurnEvent.{TurnEvent}
@@ -42,14 +44,13 @@ use Rattle.hub_laws.specs.Scratch.{exports_in, exports_of}
 use Rattle.hub_laws.specs.Settled.{holding_of, HasNumbers, AreWhatItGot}
 use Rattle.hub_laws.proofs.Numbered.{numbered}
 use Rattle.hub_laws.specs.Standing.{took_all, events_of, at_object}
-use Rattle.hub_laws.proofs.Entries.{put_found}
 use Rattle.hub_laws.proofs.Growing.{arrived_grows}
 use Rattle.hub_laws.proofs.Holding.{kept_is_taken}
 use Rattle.hub_laws.proofs.Hubs.{is_far}
 use Rattle.hub_laws.proofs.Joining.{above_is_new, joined_new}
 use Rattle.hub_laws.proofs.Kept.{made_in, IsLog, IsSound, IsHub}
 use Rattle.hub_laws.proofs.Leaving.{one_or_not}
-use Rattle.hub_laws.proofs.Lists.{took_all_append, ascend_none, all_append, all_weaker}
+use Rattle.hub_laws.proofs.Lists.{took_all_append}
 use Rattle.hub_laws.proofs.Logs.{connection_took}
 use Rattle.hub_laws.proofs.Moving.{made_in-append}
 use Rattle.hub_laws.proofs.Posting.{found-popped, live-popped}

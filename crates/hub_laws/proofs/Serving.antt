@@ -14,8 +14,10 @@ use Rattle.ac_table.specs.declared.batches.Event.{Event}
 use Rattle.ac_table.specs.declared.batches.Event.TheVariants.{Assert, Retract, Message, Sync}
 use Rattle.ac_table.specs.declared.batches.Batch.{Batch}
 use Rattle.ac_table.specs.Tables.{TableState, IsTable, find_row, handles}
+use Rattle.ac_table.proofs.Lists.{all_weaker}
 use Rattle.ac_world.specs.Outboxes.{Plan, told_to}
 use Rattle.ac_world.specs.Worlds.{entry_of}
+use Rattle.ac_world.specs.Lemmas.Entries.{all_append, ascend_cons}
 use Rattle.hub_laws.specs.Standing.{stands, took_all, events_of}
 use Rattle.hub_laws.proofs.Kept.{made_by, made_in, IsLog, is_in, IsExcused, IsNear, IsOwnedBy, FitsEvent, FitsBatch}
 use Rattle.hub_laws.proofs.Kept.{IsServedBy, Moves}
@@ -23,7 +25,7 @@ use Rattle.hub_laws.proofs.Promised.{IsPostedTo, ServedAfter}
 use Rattle.hub_laws.proofs.Finding.{find_row-below}
 use Rattle.hub_laws.proofs.Logs.{log_took_all, all_took_all}
 use Rattle.hub_laws.proofs.Moving.{made_in-append}
-use Rattle.hub_laws.proofs.Lists.{all_weaker, all_append, ascend_cons, took_all_append, near_took, kept_of}
+use Rattle.hub_laws.proofs.Lists.{took_all_append, near_took, kept_of}
 use Rattle.hub_laws.proofs.Lists.{entry_of-stands}
 
 -- ---- lists that are joined

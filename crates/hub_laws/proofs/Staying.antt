@@ -14,6 +14,7 @@ use Rattle.ac_world.specs.Outboxes.{retractions}
 use Rattle.ac_world.specs.Turns.{After as TurnOf, space_turn, plain_turn, connection_turn, turn_first, turn}
 use Rattle.ac_world.specs.Worlds.{WorldState, entry_of, with_entry, without_entry, is_space, is_system, actor_of, gone}
 use Rattle.ac_world.specs.Worlds.{ended_of}
+use Rattle.ac_world.specs.Lemmas.Entries.{put_found, put_other, out_other}
 use Rattle.rl_packet.specs.declared.packets.Event.{Event}
 use Rattle.rl_packet.specs.declared.packets.Event.TheVariants.{Assert, Retract, Message, Sync}
 use Rattle.rl_packet.specs.declared.packets.TurnEvent.{TurnEvent}
@@ -34,7 +35,6 @@ use Rattle.hub_machine.specs.Machine.{work_by}
 use Rattle.hub_machine.specs.declared.steps.Reply.TheVariants.{Halted, Idle}
 use Rattle.hub_laws.specs.Scratch.{exports_in}
 use Rattle.hub_laws.proofs.EndingActors.{retractions_ascend, ended_none}
-use Rattle.hub_laws.proofs.Entries.{put_found, put_other, out_other}
 use Rattle.hub_laws.proofs.Growing.{Grows, grows_not, grows_on, ended_grows, sent_grows, other_turn_grows}
 use Rattle.hub_laws.proofs.Kept.{IsSound}
 use Rattle.hub_laws.proofs.Leaving.{one_or_not}

@@ -8,6 +8,7 @@ use Rattle.ac_world.specs.Turns.{After as TurnOf, turn}
 use Rattle.ac_world.specs.Worlds.{WorldState, entry_of, without_entry, is_system, actor_of}
 use Rattle.ac_world.specs.declared.turns.Turned.{Turned}
 use Rattle.ac_world.specs.declared.turns.Turned.TheVariants as turned
+use Rattle.ac_world.specs.Lemmas.Entries.{each_found}
 use Rattle.rl_packet.specs.declared.packets.TurnEvent.{TurnEvent}
 use Rattle.rl_ports.specs.Ports.{PortsState}
 use Rattle.hub_machine.specs.declared.faults.Fault.{Fault}
@@ -27,7 +28,6 @@ use Rattle.hub_valid.specs.Validity.{IsValid, IsValidEntry}
 use Rattle.hub_laws.specs.Laws.{AreAllowed}
 use Rattle.hub_laws.proofs.Arriving.{opened_hub}
 use Rattle.hub_laws.proofs.EndingActors.{retractions_ascend, ended_table, served_after_end, others_found, others_keep}
-use Rattle.hub_laws.proofs.Entries.{all_found}
 use Rattle.hub_laws.proofs.Hubs.{finished_hub, failed_hub, closed_hub, with_names, with_faults, with_stop}
 use Rattle.hub_laws.proofs.Kept.{IsHub}
 use Rattle.hub_laws.proofs.Leaving.{Endings}
@@ -87,7 +87,7 @@ judged_hub k p es (admitted x) s valid h n wired is =
     ended_well _
     (accepted_hub still_met k x s (far_actor k) n.live
     (acts_are_valid k p es x s valid
-    (all_found (IsValidEntry s.world.opened) k p s.connections valid.named n.kept) wired
+    (each_found (IsValidEntry s.world.opened) k p s.connections valid.named n.kept) wired
     is) h)
 
 packet_hub : (k : ℕ) (o : Option PortsState) (es : List TurnEvent) (s : State) → IsValid s → IsHub [] s

@@ -21,13 +21,14 @@ use Rattle.ac_world.specs.Outboxes.{Plan}
 use Rattle.ac_world.specs.Turns.{Turning, is_listed, spread_by, by_assertion, by_message, regot, spreading}
 use Rattle.ac_world.specs.Turns.{taken_in, turned_by, all_turned}
 use Rattle.ac_world.specs.Worlds.{entry_of, with_entry, without_entry}
+use Rattle.ac_world.specs.Lemmas.Entries.{entry_of_with, ascend_with}
 use Rattle.hub_laws.specs.Standing.{took, took_all, value_alone}
 use Rattle.hub_laws.specs.Wanting.{IsMet}
 use Rattle.hub_laws.proofs.Kept.{made_by, made_in, is_in, IsExcused, IsNear, IsKnown, IsGood, IsOwnedBy}
 use Rattle.hub_laws.proofs.Kept.{FitsEvent, actors_in, Runs}
 use Rattle.hub_laws.proofs.Promised.{TurnRuns}
 use Rattle.hub_laws.proofs.Finding.{found_all, found_owner}
-use Rattle.hub_laws.proofs.Lists.{entry_of-with, ascend_with, near_took}
+use Rattle.hub_laws.proofs.Lists.{near_took}
 use Rattle.hub_laws.proofs.Logs.{one_of_all, log_turned_by}
 use Rattle.hub_laws.proofs.Meeting.{regot_met}
 use Rattle.hub_laws.proofs.Saying.{OnlySays, answer_only, say_all_only}
@@ -131,7 +132,7 @@ near_passed : {X : Type 0} (ends : List ℕ) (rows : List Row) (h : ℕ) (x : X)
 near_passed {X = X} ends rows h x should kept none out n = record {
   should_ascends = ascend_with h x should n.should_ascends;
   kept_ascends = n.kept_ascends;
-  near = λ k. rw (entry_of-with k h x should) (split k (h == k) refl);
+  near = λ k. rw (entry_of_with k h x should) (split k (h == k) refl);
 }
   where
     split : (k : ℕ) (b : Bool) → (h == k) ≡ b

@@ -15,21 +15,22 @@ use Rattle.ac_table.specs.declared.batches.Row.{Row}
 use Rattle.ac_table.specs.declared.batches.Batch.{Batch}
 use Rattle.ac_table.specs.Tables.{TableState, Actor, find_actor, find_row, is_live, first_batch, first_in}
 use Rattle.ac_table.specs.Tables.{popped}
+use Rattle.ac_table.proofs.Lists.{all_weaker}
 use Rattle.ac_world.specs.Turns.{After as TurnOf, Turning, begin_turn, all_turned, space_turn}
 use Rattle.ac_world.specs.Worlds.{WorldState, Seat, seat_of, held_by, with_entry, is_space}
 use Rattle.ac_world.specs.Worlds.{no_seat}
 use Rattle.ac_world.specs.declared.turns.Turned.{Turned}
 use Rattle.ac_world.specs.declared.turns.Turned.TheVariants as turned
+use Rattle.ac_world.specs.Lemmas.Entries.{put_found, put_other, KeysAscend, ascend_none, ascend_cons}
 use Rattle.hub_laws.specs.Standing.{stands, took_all, events_of, value_alone, at_object}
 use Rattle.hub_laws.specs.Wanting.{IsMet}
 use Rattle.hub_laws.proofs.Committing.{IsPlanned, commit_sound, live_done}
-use Rattle.hub_laws.proofs.Entries.{put_found, put_other}
 use Rattle.hub_laws.proofs.Good.{begin_good}
-use Rattle.hub_laws.proofs.Kept.{KeysAscend, IsExcused, IsNear, IsKnown, Runs}
+use Rattle.hub_laws.proofs.Kept.{IsExcused, IsNear, IsKnown, Runs}
 use Rattle.hub_laws.proofs.Kept.{IsServedBy, FitsBatch}
 use Rattle.hub_laws.proofs.Kept.{IsServed, IsSound, actors_in, made_in, IsLog}
 use Rattle.hub_laws.proofs.Leaving.{one_or_not}
-use Rattle.hub_laws.proofs.Lists.{took_all_append, near_took, ascend_none, ascend_cons, all_weaker}
+use Rattle.hub_laws.proofs.Lists.{took_all_append, near_took}
 use Rattle.hub_laws.proofs.Logs.{space_log}
 use Rattle.hub_laws.proofs.Moving.{begin_moves, made_in-append}
 use Rattle.hub_laws.proofs.Owned.{met_kept}

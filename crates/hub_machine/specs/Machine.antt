@@ -1,5 +1,5 @@
 -- The machine: what a step makes of the state, and its reply. What actors do is the world's (`ac_world`).
-use Rattle.std.specs.Prelude.{◌≡◌, ◌≢◌, ℕ, ◌+◌, ◌-◌, ◌^◌, List, [], Bool, true, ◌||◌, nat_lt, nat_le, map}
+use Rattle.std.specs.Prelude.{◌≢◌, ℕ, ◌+◌, ◌-◌, ◌^◌, List, [], Bool, true, ◌||◌, nat_lt, nat_le, map}
 use Rattle.std.specs.Prelude.{Option, Some, None, option_and_then, length, if◌then◌else◌}
 use Rattle.std.specs.List.{flat_map}
 use Rattle.pv_value.specs.Plain.{Plain, embedded}

@@ -11,12 +11,6 @@ pub const HANDLES: u64 = 4_096;
 /// The greatest weight of all that a connection asserts. A fault tells it as 5.
 pub const ROWS_WEIGHT: u64 = 4_194_304;
 
-/// The greatest weight of one value that is asserted or said. A fault tells it as 6.
-pub const VALUE_WEIGHT: u64 = 1_048_576;
-
-/// How deep a value may nest that is asserted or said. A fault tells it as 7.
-pub const VALUE_DEPTH: u32 = 48;
-
 /// The most events of a connection's that wait for the system's actors. A fault tells it as 10.
 pub const BACKLOG: u64 = 65_536;
 
@@ -34,9 +28,6 @@ pub const CONNECTIONS: usize = 32;
 
 /// The last dataspace; the first is 1.
 pub const DATASPACES: u8 = 8;
-
-/// A packet's greatest length on the wire, in bytes.
-pub const PACKET_BYTES: usize = 262_144;
 
 /// No step is done where a handle of this number or more would be drawn.
 pub const WORN_HANDLE: u64 = 1 << 62;

@@ -3,11 +3,11 @@ pub mod Admitted
 pub mod Aims
 pub mod Captured
 pub mod Crossed
+pub mod Filtered
 pub mod Hubs
 pub mod Passed
 pub mod Turns
 pub mod Values
-pub mod WorldLists
 pub mod WorldPlans
 pub mod WorldTables
 pub mod Worlds

@@ -1,7 +1,13 @@
--- How bytes are written: the forms by their names, and texts that stand for themselves.
-use Rattle.std.specs.Prelude.{ℕ, List, Bool, Option, Some, None, if◌then◌else◌, codes, nat_eq}
-use Rattle.std.specs.List.{list_any}
+-- How bytes are written: the forms by their names, and what a body in each stands for.
+use Rattle.std.specs.Prelude.{◌≡◌, ℕ, ◌==◌, ◌++◌, List, [], ◌∷◌, take, drop, Bool, true, false, Option, Some, None, Ok}
+use Rattle.std.specs.Prelude.{if◌then◌else◌, codes}
+use Rattle.std.specs.List.{slice_split, repeat}
 use Rattle.std.specs.Str.{bytes_eq}
+use Rattle.std.specs.Str.Parse.{ParsesUnsigned}
+use Rattle.std.specs.Str.Pattern.{FindsText, FindsChar, SplitsAroundMatch}
+use Rattle.hex.specs.Hex.{decode_of, encode_lower}
+use Rattle.row_cases.specs.Calls.{AreWritten}
+use Rattle.row_cases.specs.declared.faults.Fault.{Fault}
 use Rattle.row_cases.specs.declared.spelling.Form.{Form}
 use Rattle.row_cases.specs.declared.spelling.Form.TheVariants.{Text, Hex, Values}
 
@@ -13,6 +19,78 @@ form_named word =
     else (if bytes_eq word (codes "values") then Some Values
     else None))
 
--- whether a percent sign stands among the bytes
-abbrev pub has_percent : List ℕ → Bool
-has_percent bytes = list_any (λ b. nat_eq b 37) bytes
+-- ---- parts
+
+-- each part stands for bytes by Is, and the bytes are these, one behind another
+abbrev pub PartByPart : (List ℕ → List ℕ → Type 0) → List (List ℕ) → List ℕ → Type 0
+PartByPart Is [] bytes = bytes ≡ []
+PartByPart Is (part ∷ parts) bytes =
+    (b : List ℕ) × (rest : List ℕ) × Is part b × PartByPart Is parts rest × (bytes ≡ b ++ rest)
+
+-- pairs of hexadecimal digits, between which blanks don't count
+abbrev pub ArePair : List ℕ → List ℕ → Type 0
+ArePair digits bytes = decode_of digits ≡ Ok bytes
+
+abbrev pub AreDigits : List ℕ → List ℕ → Type 0
+AreDigits line bytes = PartByPart ArePair (slice_split (λ b. b == 32) line) bytes
+
+-- lines of such pairs
+abbrev pub AreLines : List ℕ → List ℕ → Type 0
+AreLines body bytes = PartByPart AreDigits (slice_split (λ b. b == 10) body) bytes
+
+-- what stands behind a percent sign: two digits of a byte, and what follows them
+abbrev pub IsEscape : List ℕ → List ℕ → Type 0
+IsEscape part bytes = (byte : List ℕ) × AreDigits (take 2 part) byte × (bytes ≡ byte ++ drop 2 part)
+
+-- a part between percent signs: before the first it stands for itself
+abbrev pub IsPart : Bool → List ℕ → List ℕ → Type 0
+IsPart false part bytes = bytes ≡ part
+IsPart true part bytes = IsEscape part bytes
+
+-- the parts between percent signs: the first stands for itself
+abbrev pub AreEscaped : List (List ℕ) → List ℕ → Type 0
+AreEscaped [] bytes = bytes ≡ []
+AreEscaped (first ∷ parts) bytes = (rest : List ℕ) × PartByPart IsEscape parts rest × (bytes ≡ first ++ rest)
+
+-- a text with a byte HH for each %HH
+abbrev pub IsEscaped : List ℕ → List ℕ → Type 0
+IsEscaped body bytes = AreEscaped (slice_split (λ b. b == 37) body) bytes
+
+-- ---- brackets
+
+-- what stands between the opening and the next closing is shown so, and what follows that likewise
+pub data IsExpanded (opening closing : List ℕ) (IsShown : List ℕ → List ℕ → Type 0)
+    : List ℕ → List ℕ → Type 0 where
+  unopened : (body : List ℕ) → FindsText opening body None → IsExpanded opening closing IsShown body body
+  opened : (body front behind inside after shown expanded : List ℕ)
+      → SplitsAroundMatch (FindsText opening) body front behind
+      → SplitsAroundMatch (FindsText closing) behind inside after
+      → IsShown inside shown → IsExpanded opening closing IsShown after expanded
+      → IsExpanded opening closing IsShown body (front ++ (shown ++ expanded))
+
+-- N and a text behind a blank: the text so often, which has no repetition in it
+abbrev pub IsRepetition : List ℕ → List ℕ → Type 0
+IsRepetition inside shown =
+    (count : List ℕ) × (text : List ℕ) × (n : ℕ) × SplitsAroundMatch (FindsChar 32) inside count text
+    × ParsesUnsigned {E = Fault} 32 10 count (Ok n) × (shown ≡ repeat n text)
+
+-- values: their written spellings as a byte string in hexadecimal
+abbrev pub IsPacked : List ℕ → List ℕ → Type 0
+IsPacked inside shown =
+    (text : List ℕ) × (bytes : List ℕ) × IsEscaped inside text × AreWritten text bytes
+    × (shown ≡ codes "#x\"" ++ (encode_lower bytes ++ codes "\""))
+
+-- ---- bodies
+
+-- by the form, where repetitions and packets are written out
+abbrev pub IsPlainly : Form → List ℕ → List ℕ → Type 0
+IsPlainly Text body bytes = IsEscaped body bytes
+IsPlainly Hex body bytes = AreLines body bytes
+IsPlainly Values body bytes = (text : List ℕ) × IsEscaped body text × AreWritten text bytes
+
+-- the bytes that are written so
+abbrev pub IsIn : Form → List ℕ → List ℕ → Type 0
+IsIn form body bytes =
+    (repeated : List ℕ) × (packed : List ℕ)
+    × IsExpanded (codes "%(") (codes "%)") IsRepetition body repeated
+    × IsExpanded (codes "%[") (codes "%]") IsPacked repeated packed × IsPlainly form packed bytes

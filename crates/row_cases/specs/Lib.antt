@@ -1,5 +1,11 @@
 pub mod Answers
+pub mod Calls
+pub mod Cases
 pub mod Findings
 pub mod Forms
+pub mod Lemmas
+pub mod Names
 pub mod Outcomes
+pub mod Shown
 pub mod Tables
+pub mod Told

@@ -1,6 +1,14 @@
--- The tables of cases by their names.
-use Rattle.std.specs.Prelude.{ℕ, List, Option, Some, None, if◌then◌else◌, codes}
+-- The tables of cases by their names, and the call that each tries: how what it is given is written, what it has to
+-- answer, and what it answers.
+use Rattle.std.specs.Prelude.{◌≡◌, ℕ, List, Option, Some, None, if◌then◌else◌, codes, string_bytes}
 use Rattle.std.specs.Str.{bytes_eq}
+use Rattle.row_cases.specs.Calls.{GivesWritten, GivesFirst, GivesPrinted, GivesCanonical, GivesFirstEnd}
+use Rattle.row_cases.specs.Calls.{GivesLaterStop, GivesNext, GivesTokens, GivesRead, GivesSpelled, GivesFronts}
+use Rattle.row_cases.specs.Forms.{IsIn}
+use Rattle.row_cases.specs.declared.codecs.Answer.{Answer}
+use Rattle.row_cases.specs.declared.codecs.Answer.TheVariants as answer
+use Rattle.row_cases.specs.declared.spelling.Form.{Form}
+use Rattle.row_cases.specs.declared.spelling.Form.TheVariants as form
 use Rattle.row_cases.specs.declared.tables.Table.{Table}
 use Rattle.row_cases.specs.declared.tables.Table.TheVariants.{TextFaults, LaterTextFaults}
 use Rattle.row_cases.specs.declared.tables.Table.TheVariants.{Texts, FirstValues, NextValues}
@@ -25,3 +33,55 @@ table_named name =
     else (if bytes_eq name (codes "text_fronts") then Some TextFronts
     else (if bytes_eq name (codes "binary_fronts") then Some BinaryFronts
     else None)))))))))))))
+
+-- how what is given to the call is written
+abbrev pub given_form : Table → Form
+given_form BinaryFaults = form.Hex
+given_form Binary = form.Hex
+given_form BinaryFronts = form.Hex
+given_form table = form.Text
+
+-- ---- what has to be answered, of what stands behind the arrow
+
+-- bytes in hexadecimal
+abbrev pub WantsBytes : List ℕ → Answer → Type 0
+WantsBytes text (answer.Bytes b) = IsIn form.Hex text b.items
+WantsBytes text a = ⊥
+
+-- a fault and its place, as they stand
+abbrev pub WantsStop : List ℕ → Answer → Type 0
+WantsStop text (answer.Stops s) = string_bytes s ≡ text
+WantsStop text a = ⊥
+
+-- a text
+abbrev pub WantsText : List ℕ → Answer → Type 0
+WantsText text (answer.Text s) = IsIn form.Text text (string_bytes s)
+WantsText text a = ⊥
+
+abbrev pub IsWanted : Table → List ℕ → Answer → Type 0
+IsWanted Texts text a = WantsBytes text a
+IsWanted Canonical text a = WantsBytes text a
+IsWanted TextFaults text a = WantsStop text a
+IsWanted LaterTextFaults text a = WantsStop text a
+IsWanted NextFaults text a = WantsStop text a
+IsWanted BinaryFaults text a = WantsStop text a
+IsWanted TokenFaults text a = WantsStop text a
+IsWanted table text a = WantsText text a
+
+-- ---- what the call answers
+
+abbrev pub Gives : Table → List ℕ → Answer → Type 0
+Gives TextFaults given a = GivesFirstEnd given a
+Gives LaterTextFaults given a = GivesLaterStop given a
+Gives Texts given a = GivesWritten given a
+Gives FirstValues given a = GivesFirst given a
+Gives NextValues given a = GivesNext given a
+Gives NextFaults given a = GivesNext given a
+Gives BinaryFaults given a = GivesRead given a
+Gives Binary given a = GivesSpelled given a
+Gives Printed given a = GivesPrinted given a
+Gives Canonical given a = GivesCanonical given a
+Gives Tokens given a = GivesTokens given a
+Gives TokenFaults given a = GivesTokens given a
+Gives TextFronts given a = GivesFronts GivesFirstEnd (codes "Unclosed at ") given a
+Gives BinaryFronts given a = GivesFronts GivesRead (codes "Truncated at ") given a

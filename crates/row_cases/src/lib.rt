@@ -5,6 +5,7 @@
 mod codecs;
 mod differences;
 mod faults;
+mod names;
 mod shown;
 mod spelling;
 mod tables;

@@ -1,6 +1,9 @@
 //! Tables of cases: a line each, with what a call of the codecs is given and what it answers.
-ghost use Rattle.std.specs.Prelude.{◌≡◌, IfOk, IsSome};
-ghost use Rattle.row_cases.specs.Tables.{table_named};
+ghost use Rattle.std.specs.Prelude.{◌≡◌, ◌+◌, ℕ, List, None, IfOk, IfSome, OnOk, All, count_by};
+ghost use Rattle.std.specs.Prelude.{[], length, string_bytes, IsSomeAnd};
+ghost use Rattle.row_cases.specs.Tables.{table_named, given_form, IsWanted, Gives};
+ghost use Rattle.row_cases.specs.Cases.{lines_of, is_case, SidesPass, Passes, LinePasses};
+ghost use Rattle.row_cases.specs.Cases.{IsJudged, case_told};
 
 use crate::codecs::{
     Answer, binary_fronts, binary_stop, canonical, first_stop, first_value, later_stop, next_of,
@@ -70,7 +73,9 @@ pub fn find_table(name: &str) -> Option<Table>
 
 impl Table {
     /// How what is given to the call is written.
-    fn given_form(self) -> Form {
+    fn given_form(self) -> Form
+        ensures { result ≡ given_form self }
+    {
         match self {
             Table::BinaryFaults | Table::Binary | Table::BinaryFronts => Form::Hex,
             _ => Form::Text,
@@ -78,7 +83,9 @@ impl Table {
     }
 
     /// What has to be answered, of what stands behind the arrow.
-    fn wanted(self, alloc: Global, text: &str) -> Result<Answer, Fault> {
+    fn wanted(self, alloc: Global, text: &str) -> Result<Answer, Fault>
+        ensures { IfOk result (λ a. IsWanted self text.now a) }
+    {
         match self {
             Table::Texts | Table::Canonical => {
                 Ok(Answer::Bytes(bytes_in(alloc, Form::Hex, text)?))
@@ -96,7 +103,9 @@ impl Table {
     }
 
     /// What the call answers.
-    fn answer(self, alloc: Global, given: &[u8]) -> Result<Answer, Fault> {
+    fn answer(self, alloc: Global, given: &[u8]) -> Result<Answer, Fault>
+        ensures { IfOk result (λ a. Gives self given.now a) }
+    {
         match self {
             Table::TextFaults => first_stop(alloc, given),
             Table::LaterTextFaults => later_stop(alloc, given),
@@ -114,20 +123,33 @@ impl Table {
     }
 
     /// What differs in a case, none where nothing does.
-    fn difference(self, alloc: Global, line: &str) -> Result<Option<String>, Fault> {
+    fn difference(self, alloc: Global, line: &str) -> Result<Option<String>, Fault>
+        ensures { IfOk result (λ found. found ≡ None → Passes self line.now) }
+    {
         let Some((given, wanted)) = line.split_once("=>") else {
             return Err(Fault::Form("no => in the line"));
         };
-        let given = bytes_in(alloc, self.given_form(), given.trim_matches(' '))?;
-        let wanted = self.wanted(alloc, wanted.trim_matches(' '))?;
+        self.sides_differ(alloc, given.trim_matches(' '), wanted.trim_matches(' '))
+    }
+
+    /// What differs between what is wanted and what the call answers of what is given.
+    fn sides_differ(self, alloc: Global, given: &str, wanted: &str) -> Result<Option<String>, Fault>
+        ensures { IfOk result (λ found. found ≡ None → SidesPass self given.now wanted.now) }
+    {
+        let given = bytes_in(alloc, self.given_form(), given)?;
+        let wanted = self.wanted(alloc, wanted)?;
         let answer = self.answer(alloc, &given)?;
         Ok(answers_differ(alloc, &wanted, &answer)?)
     }
 }
 
-/// What came of the cases of the table of a file's name, the lines of its text.
+/// What came of the cases of the table of a file's name, the lines of its text: each is counted,
+/// and where nothing differs each passes.
 pub fn judge_table(alloc: Global, name: &str, text: &str) -> Result<Findings, Fault>
-    ensures { IfOk result (λ found. IsSome (table_named name.now)) }
+    ensures counted { IfOk result (λ found. found.passed + length found.differences.items
+        ≡ count_by is_case (lines_of text.now)) }
+    ensures passing { IfOk result (λ found. found.differences.items ≡ []
+        → IsSomeAnd (table_named name.now) (λ table. All (LinePasses table) (lines_of text.now))) }
 {
     match find_table(name) {
         Some(table) => judge_cases(alloc, table, text),
@@ -135,18 +157,42 @@ pub fn judge_table(alloc: Global, name: &str, text: &str) -> Result<Findings, Fa
     }
 }
 
-fn judge_cases(alloc: Global, table: Table, text: &str) -> Result<Findings, Fault> {
+fn judge_cases(alloc: Global, table: Table, text: &str) -> Result<Findings, Fault>
+    ensures counted { IfOk result (λ found. found.passed + length found.differences.items
+        ≡ count_by is_case (lines_of text.now)) }
+    ensures passing { IfOk result (λ found. found.differences.items ≡ []
+        → All (LinePasses table) (lines_of text.now)) }
+{
     let mut findings = Findings::new(alloc);
-    for (i, line) in text.split('\n').enumerate() {
-        if is_case(line) {
-            findings.note(judge_case(alloc, table, i.saturating_add(1), line)?)?;
-        }
+    let mut place = 0usize;
+    for line in text.split('\n') {
+        place = place.saturating_add(1);
+        judge_line(alloc, table, place, line, &mut findings)?;
     }
     Ok(findings)
 }
 
+/// Notes what came of a line at its place: nothing, where it is no case.
+fn judge_line(
+    alloc: Global,
+    table: Table,
+    place: usize,
+    line: &str,
+    findings: &mut Findings,
+) -> Result<(), AllocError>
+    ensures { OnOk result (IsJudged table line.now findings.old findings.new) }
+{
+    if is_case(line) {
+        let found = judge_case(alloc, table, place, line)?;
+        findings.note(found)?;
+    }
+    Ok(())
+}
+
 /// Whether a line is neither empty nor a comment.
-fn is_case(line: &str) -> bool {
+fn is_case(line: &str) -> bool
+    ensures { result ≡ is_case line.now }
+{
     !line.is_empty() && !line.starts_with("# ") && line != "#"
 }
 
@@ -156,7 +202,11 @@ fn judge_case(
     table: Table,
     place: usize,
     line: &str,
-) -> Result<Option<String>, AllocError> {
+) -> Result<Option<String>, AllocError>
+    ensures passing { IfOk result (λ found. found ≡ None → Passes table line.now) }
+    ensures told { IfOk result (λ found. IfSome found (λ s.
+        (why : List ℕ) × (string_bytes s ≡ case_told place line.now why))) }
+{
     match table.difference(alloc, line) {
         Ok(None) => Ok(None),
         Ok(Some(what)) => Ok(Some(named(alloc, place, line, what.as_str())?)),
@@ -167,6 +217,8 @@ fn judge_case(
     }
 }
 
-fn named(alloc: Global, place: usize, line: &str, what: &str) -> Result<String, AllocError> {
+fn named(alloc: Global, place: usize, line: &str, what: &str) -> Result<String, AllocError>
+    ensures { IfOk result (λ s. string_bytes s ≡ case_told place line.now what.now) }
+{
     format!(in alloc; "{place}: {line}: {what}")
 }

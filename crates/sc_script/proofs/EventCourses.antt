@@ -1,25 +1,38 @@
 -- The course of an event, where its test holds: that of the bytes, of the step or of the turn that it is.
 use Rattle.std.proofs.Common.{◌≡◌, ℕ, Bool, true, List, sym, ap, ◌∙◌, if◌then◌else◌}
 use Rattle.hub_machine.specs.declared.steps.Step.TheVariants as step
-use Rattle.sc_script.specs.Events.{ScriptEvent, Bytes, Close, Turn}
-use Rattle.sc_script.specs.Runs.{Running, Course, stops, bad, Decider, stepped, turned, bytes_come, was_opened}
-use Rattle.sc_script.specs.Runs.{may_turn, after_event}
+use Rattle.sc_events.specs.declared.events.ScriptEvent.{ScriptEvent}
+use Rattle.sc_events.specs.declared.events.ScriptEvent.TheVariants.{Open, Bytes, Close, Turn, Drain}
+use Rattle.sc_script.specs.Runs.{Running, RunState, Course, stops, bad, Decider, stepped, turned, drained, bytes_come}
+use Rattle.sc_script.specs.Runs.{was_opened, may_turn, after_event, IsAt}
 
-module _ (N : Decider) (n : ℕ) (r : Running) where
-  where_so : (b : Bool) (c : Course) → b ≡ true → c ≡ (if b then c else stops (bad n))
-  where_so b c is = ap (λ x. if x then c else stops (bad n)) (sym is)
+-- the event runs as this part does, from where the run is
+abbrev pub IsPart : RunState → ℕ → ScriptEvent → (Decider → Running → Course) → Type 0
+IsPart s n e part = (N : Decider) (r : Running) → IsAt r s → part N r ≡ after_event N n e r
 
-  pub course_of_event : (e f : ScriptEvent) → f ≡ e → after_event N n e r ≡ after_event N n f r
-  course_of_event e f is = ap (λ x. after_event N n x r) (sym is)
+-- there the test holds
+abbrev pub Holds : RunState → (Running → Bool) → Type 0
+Holds s test = (r : Running) → IsAt r s → true ≡ test r
 
-  pub course_of_bytes : (k : ℕ) (b : List ℕ) (f : ScriptEvent) → f ≡ Bytes k b → was_opened k r ≡ true
-      → bytes_come N k b r ≡ after_event N n f r
-  course_of_bytes k b f is may = where_so _ _ may ∙ course_of_event (Bytes k b) f is
+where_so : (n : ℕ) (b : Bool) (c : Course) → true ≡ b → c ≡ (if b then c else stops (bad n))
+where_so n b c is = ap (λ x. if x then c else stops (bad n)) is
 
-  pub course_of_close : (k : ℕ) (f : ScriptEvent) → f ≡ Close k → was_opened k r ≡ true
-      → stepped (step.Close k) r ≡ after_event N n f r
-  course_of_close k f is may = where_so _ _ may ∙ course_of_event (Close k) f is
+module _ (s : RunState) (n : ℕ) (e : ScriptEvent) where
+  same_event : (f : ScriptEvent) (N : Decider) (r : Running) → e ≡ f → after_event N n f r ≡ after_event N n e r
+  same_event f N r is = ap (λ x. after_event N n x r) (sym is)
 
-  pub course_of_turn : (a : ℕ) (f : ScriptEvent) → f ≡ Turn a → may_turn a r ≡ true
-      → turned a r ≡ after_event N n f r
-  course_of_turn a f is may = where_so _ _ may ∙ course_of_event (Turn a) f is
+  pub open_part : (space : ℕ) → e ≡ Open space → IsPart s n e (λ N. stepped (step.Arrive space))
+  open_part space is N r at = same_event (Open space) N r is
+
+  pub bytes_part : (k : ℕ) (b : List ℕ) → e ≡ Bytes k b → Holds s (was_opened k)
+      → IsPart s n e (λ N. bytes_come N k b)
+  bytes_part k b is may N r at = where_so n _ _ (may r at) ∙ same_event (Bytes k b) N r is
+
+  pub close_part : (k : ℕ) → e ≡ Close k → Holds s (was_opened k) → IsPart s n e (λ N. stepped (step.Close k))
+  close_part k is may N r at = where_so n _ _ (may r at) ∙ same_event (Close k) N r is
+
+  pub turn_part : (a : ℕ) → e ≡ Turn a → Holds s (may_turn a) → IsPart s n e (λ N. turned a)
+  turn_part a is may N r at = where_so n _ _ (may r at) ∙ same_event (Turn a) N r is
+
+  pub drain_part : (m : ℕ) → e ≡ Drain m → IsPart s n e (λ N. drained m)
+  drain_part m is N r at = same_event (Drain m) N r is

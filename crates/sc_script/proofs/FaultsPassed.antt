@@ -1,10 +1,8 @@
 -- What is passed on of a call's result: a fact of its value, or of its fault, which `?` hands on.
 use Rattle.std.proofs.Common.{◌≡◌, Result, Ok, Err, IfOk, IfErr, subst, sym}
 use Rattle.std.specs.Result.{IsErrAnd}
-use Rattle.sc_script.specs.declared.faults.ScriptFault.{ScriptFault}
 
-pub err_so : {T : Type 0} (P : ScriptFault → Type 0) (r : Result T ScriptFault) (f : ScriptFault)
-    → IsErrAnd r (λ x. x ≡ f) → P f → IfErr r P
+pub err_so : {T E : Type 0} (P : E → Type 0) (r : Result T E) (f : E) → IsErrAnd r (λ x. x ≡ f) → P f → IfErr r P
 err_so P (Ok t) f is h = tt
 err_so P (Err x) f is h = subst P (sym is) h
 

@@ -7,11 +7,11 @@ use Rattle.rl_packet.specs.declared.packets.Packet.{Packet}
 use Rattle.rl_stream.specs.Nexts.{IsNext, OneNext, front_of}
 use Rattle.rl_stream.specs.declared.nexts.Next.{Next}
 use Rattle.rl_stream.specs.declared.nexts.Next.TheVariants.{Whole}
-use Rattle.sc_script.specs.Runs.{Running, StreamState, Decider, Decides, with_next, all_read, read_off}
+use Rattle.sc_script.specs.Runs.{Running, StreamState, Decider, AllTell, with_next, all_read, read_off}
 
-pub next_is : OneNext → (N : Decider) → Decides N → (rest : List ℕ) (place : ℕ) (x : Next) → AreBytes rest
-    → IsNext rest place x → N rest place ≡ x
-next_is one N decides rest place x are h = one rest place (N rest place) x are (decides rest place are) h
+pub all_tell : OneNext → (rest : List ℕ) (place : ℕ) (x : Next) → AreBytes rest → IsNext rest place x
+    → AllTell rest place x
+all_tell one rest place x are is N decides = one rest place (N rest place) x are (decides rest place are) is
 
 pub read_first : (N : Decider) (k most : ℕ) (st : StreamState) (r : Running) (x : Next) → length st.rest < most
     → N st.rest st.place ≡ x

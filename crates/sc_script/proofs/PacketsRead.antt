@@ -1,28 +1,17 @@
 -- The packets in a stream: how the course of all that are read goes on behind each, ends or stops.
-use Rattle.std.proofs.Common.{◌≡◌, ℕ, suc, ◌<◌, List, Option, Some, None, length, refl, sym, ap, ◌∙◌}
+use Rattle.std.proofs.Common.{◌≡◌, ℕ, suc, ◌<◌, ◌≤◌, List, Option, Some, None, Result, IfOk, IfErr, length}
+use Rattle.std.proofs.Common.{refl, sym, ap, ◌∙◌}
 use Rattle.std.proofs.Common.{subst, arith, length-drop}
-use Rattle.pv_binary.specs.OneOfThree.{AreBytes}
 use Rattle.rl_packet.specs.declared.packets.Packet.{Packet}
-use Rattle.rl_stream.specs.Nexts.{IsNext, OneNext}
+use Rattle.rl_stream.specs.Nexts.{IsNext}
 use Rattle.rl_stream.specs.declared.nexts.Next.{Next}
 use Rattle.rl_stream.specs.declared.nexts.Next.TheVariants.{Whole, BadBytes, BadPacket, Waits}
 use Rattle.sc_script.specs.declared.faults.ScriptFault.{ScriptFault}
-use Rattle.sc_script.specs.Runs.{Running, RunState, StreamState, Course, Decider, Decides, with_packet, with_next}
+use Rattle.sc_script.specs.Runs.{Running, RunState, StreamState, Course, Decider, Decides, AllTell}
+use Rattle.sc_script.specs.Runs.{with_packet, with_next}
 use Rattle.sc_script.specs.Runs.{with_no_packet, all_read, read_off, ReadsOn, RunsAs, StopsAs, IsAt, HasRun, IsStopped}
-use Rattle.sc_script.proofs.Nexts.{next_is, read_first, whole_fits, less_left}
-
--- ---- what is next in the rest
-
-pub next_in : (xs rest : List ℕ) (at place : ℕ) (x y : Next) → xs ≡ rest → at ≡ place → x ≡ y → IsNext xs at x
-    → IsNext rest place y
-next_in xs rest at place x y is_rest is_place is h =
-    subst (IsNext rest place) is (subst (λ a. IsNext rest a x) is_place (subst (λ b. IsNext b at x) is_rest h))
-
-pub whole_is_less : (st behind left : StreamState) (p : Packet) (size : ℕ) → IsNext st.rest st.place (Whole p size)
-    → behind ≡ read_off size st → left ≡ behind → length left.rest < length st.rest
-whole_is_less st behind left p size is so same =
-    let fits = whole_fits st.rest st.place size p is in
-    omega (arith, fits.0, fits.1, length-drop size st.rest, ap (λ (s : StreamState). length s.rest) (same ∙ so))
+use Rattle.sc_script.proofs.FaultsPassed.{ok_too, err_too}
+use Rattle.sc_script.proofs.Nexts.{read_first, whole_fits, less_left}
 
 -- ---- courses
 
@@ -43,49 +32,51 @@ not_whole k (BadBytes number place) st more r not = refl
 not_whole k BadPacket st more r not = refl
 not_whole k Waits st more r not = refl
 
-next_first : OneNext → (N : Decider) → Decides N → (k : ℕ) (st : StreamState) (s : RunState) (whole : Course)
-    (x : Next) → AreBytes st.rest → IsNext st.rest st.place x → (from : ReadsFrom N k st s whole)
-    → (m : ℕ) × (from.0 ≡ suc m) × (whole ≡ with_next k x st (λ size. all_read N k m (read_off size st)) from.2)
-next_first one N decides k st s whole x are is from =
-    let f = read_first N k from.0 st from.2 x from.1 (next_is one N decides st.rest st.place x are is) in
-    (f.0, f.1, from.4 ∙ f.2)
-
-module _ (one : OneNext) (k : ℕ) (st : StreamState) (are : AreBytes st.rest) (before s : RunState)
+module _ (k : ℕ) (st : StreamState) (x : Next) (told : AllTell st.rest st.place x) (before s : RunState)
     (part : Decider → Running → Course) (from : ReadsAs before part k st s) where
+  next_first : (N : Decider) (d : Decides N) (r : Running) (at : IsAt r before)
+      → (m : ℕ) × ((from N d r at).0 ≡ suc m)
+      × (part N r ≡ with_next k x st (λ size. all_read N k m (read_off size st)) (from N d r at).2)
+  next_first N d r at =
+      let w = from N d r at in
+      let f = read_first N k w.0 st w.2 x w.1 (told N d) in
+      (f.0, f.1, w.4 ∙ f.2)
+
   -- what is next is no packet
-  module _ (x : Next) (is : IsNext st.rest st.place x) (not : (p : Packet) (size : ℕ) → x ≡ Whole p size → ⊥) where
+  module _ (not : (p : Packet) (size : ℕ) → x ≡ Whole p size → ⊥) (y : Result RunState ScriptFault) where
     no_packet : (N : Decider) → Decides N → (r : Running) → IsAt r before
         → (now : Running) × IsAt now s × (part N r ≡ with_no_packet k x st now)
     no_packet N d r at =
-        let so = from N d r at in
-        let f = next_first one N d k st s (part N r) x are is so in
-        (so.2, so.3, f.2 ∙ not_whole k x st (λ size. all_read N k f.0 (read_off size st)) so.2 not)
+        let w = from N d r at in
+        let f = next_first N d r at in
+        (w.2, w.3, f.2 ∙ not_whole k x st (λ size. all_read N k f.0 (read_off size st)) w.2 not)
 
-    pub no_packet_runs : (t : RunState) → RunsAs s (λ N. with_no_packet k x st) t → RunsAs before part t
-    no_packet_runs t runs = λ N d r at.
+    pub no_packet_runs : IfOk y (RunsAs s (λ N. with_no_packet k x st)) → IfOk y (RunsAs before part)
+    no_packet_runs = ok_too _ _ y (λ t runs N d r at.
         let e = no_packet N d r at in
-        subst (λ c. HasRun c t) (sym e.2) (runs N d e.0 e.1)
+        subst (λ c. HasRun c t) (sym e.2) (runs N d e.0 e.1))
 
-    pub no_packet_stops : (f : ScriptFault) → StopsAs s (λ N. with_no_packet k x st) f → StopsAs before part f
-    no_packet_stops f stop = λ N d r at.
+    pub no_packet_stops : IfErr y (StopsAs s (λ N. with_no_packet k x st)) → IfErr y (StopsAs before part)
+    no_packet_stops = err_too _ _ y (λ f stop N d r at.
         let e = no_packet N d r at in
-        subst (λ c. IsStopped c f) (sym e.2) (stop N d e.0 e.1)
+        subst (λ c. IsStopped c f) (sym e.2) (stop N d e.0 e.1))
 
   -- a packet is next; the stream behind it
-  module _ (p : Packet) (size : ℕ) (is : IsNext st.rest st.place (Whole p size)) (behind : StreamState)
+  module _ (is : IsNext st.rest st.place x) (p : Packet) (size : ℕ) (whole : x ≡ Whole p size) (behind : StreamState)
       (so : behind ≡ read_off size st) where
     a_packet : (N : Decider) → Decides N → (r : Running) → IsAt r before
         → (m : ℕ) × (length behind.rest < m) × (now : Running) × IsAt now s
         × (part N r ≡ with_packet k p behind (all_read N k m behind) now)
     a_packet N d r at =
         let w = from N d r at in
-        let f = next_first one N d k st s (part N r) (Whole p size) are is w in (
+        let f = next_first N d r at in (
           f.0,
           subst (λ (b : StreamState). length b.rest < f.0) (sym so)
-              (less_left st.rest st.place size w.0 f.0 p is w.1 f.1),
+              (less_left st.rest st.place size w.0 f.0 p (subst (IsNext st.rest st.place) whole is) w.1 f.1),
           w.2,
           w.3,
-          f.2 ∙ ap (λ b. with_packet k p b (all_read N k f.0 b) w.2) (sym so),
+          f.2 ∙ ap (λ y. with_next k y st (λ n. all_read N k f.0 (read_off n st)) w.2) whole
+              ∙ ap (λ b. with_packet k p b (all_read N k f.0 b) w.2) (sym so),
         )
 
     -- the packet is done with, and the stream is kept where more is read
@@ -119,3 +110,15 @@ module _ (one : OneNext) (k : ℕ) (st : StreamState) (are : AreBytes st.rest) (
     packet_stops f stop = λ N d r at.
         let a = a_packet N d r at in
         subst (λ c. IsStopped c f) (sym a.4) (stop (all_read N k a.0 behind) N d a.2 a.3)
+
+-- ---- what is left behind a packet is shorter
+
+pub whole_size : (rest : List ℕ) (place size : ℕ) (x : Next) (p : Packet) → IsNext rest place x → x ≡ Whole p size
+    → size ≤ length rest
+whole_size rest place size x p is whole = (whole_fits rest place size p (subst (IsNext rest place) whole is)).1
+
+pub whole_is_less : (st behind left : StreamState) (x : Next) (p : Packet) (size : ℕ) → IsNext st.rest st.place x
+    → x ≡ Whole p size → behind ≡ read_off size st → left ≡ behind → length left.rest < length st.rest
+whole_is_less st behind left x p size is whole so same =
+    let fits = whole_fits st.rest st.place size p (subst (IsNext st.rest st.place) whole is) in
+    omega (arith, fits.0, fits.1, length-drop size st.rest, ap (λ (s : StreamState). length s.rest) (same ∙ so))

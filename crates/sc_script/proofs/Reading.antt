@@ -1,22 +1,10 @@
 -- A connection's packets: how a course goes on behind each that is read.
 use Rattle.std.proofs.Common.{◌≡◌, ℕ, refl, sym, ap, ◌∙◌, subst}
 use Rattle.std.proofs.Common.{Option, Some, None, true, false, cond}
-use Rattle.std.proofs.Common.{Result, Ok, Err, IfErr}
-use Rattle.std.specs.Result.{IsErrAnd}
 use Rattle.hub_machine.specs.State.{is_there}
 use Rattle.sc_script.specs.Runs.{Running, StreamState, Cause, Course, goes, stops, goes_on, with_stream}
 use Rattle.sc_script.specs.Runs.{read_where, ReadsOn, RunState, IsAt}
 use Rattle.sc_script.specs.Runs.{HasRun, StopsFor}
-
--- what `?` passes on of a fault
-pub err_so : {T E : Type 0} (P : E → Type 0) (r : Result T E) (f : E) → IsErrAnd r (λ x. x ≡ f) → P f → IfErr r P
-err_so P (Ok t) f is h = tt
-err_so P (Err x) f is h = subst P (sym is) h
-
--- where a course has a run, it goes on from there
-pub gone : (c : Course) (s : RunState) → HasRun c s → (r : Running) × IsAt r s × (c ≡ goes r)
-gone (goes r) s h = (r, h, refl)
-gone (stops c) s h = absurd h
 
 -- what stops a first part stops the whole
 pub stops_first : (later : Running → Course) (c : Course) (o : Option Cause) → StopsFor c o

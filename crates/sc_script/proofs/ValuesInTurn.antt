@@ -3,8 +3,8 @@ use Rattle.std.proofs.Common.{◌≡◌, ℕ, ◌+◌, ◌≤◌, ◌<◌, Bool,
 use Rattle.std.proofs.Common.{sym, ap, ◌∙◌, subst, add-one, drop-cons}
 use Rattle.std.proofs.lemmas.List.{drop_all}
 use Rattle.pv_value.specs.Plain.{Plain}
+use Rattle.sc_events.specs.Events.{event_of}
 use Rattle.sc_script.specs.declared.faults.ScriptFault.{ScriptFault}
-use Rattle.sc_script.specs.Events.{event_of}
 use Rattle.sc_script.specs.Runs.{Running, RunState, stops, bad, goes_on, Decider, beginning, after_value}
 use Rattle.sc_script.specs.Runs.{after_values, ended, course_of, cause_in, IsAt, HasRun, IsStopped}
 use Rattle.sc_script.proofs.Courses.{GoesOn, part_goes, part_stops}

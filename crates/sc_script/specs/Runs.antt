@@ -1,5 +1,5 @@
 -- The run of a script: the steps that its values make, one event after another, or the first cause that stops it.
-use Rattle.std.specs.Prelude.{◌≡◌, ◌≢◌, ℕ, zero, suc, ◌+◌, ◌-◌, List, [], ◌∷◌, ◌++◌, drop, length, Bool, ◌&&◌, ◌||◌}
+use Rattle.std.specs.Prelude.{◌≡◌, ℕ, zero, suc, ◌+◌, ◌-◌, List, [], ◌∷◌, ◌++◌, drop, length, Bool, ◌&&◌, ◌||◌}
 use Rattle.std.specs.Prelude.{◌==◌, nat_lt, nat_le, Option, Some, None, unwrap_or, if◌then◌else◌}
 use Rattle.std.specs.List.{flat_map}
 use Rattle.pv_value.specs.Plain.{Plain}
@@ -21,9 +21,12 @@ use Rattle.hub_machine.specs.declared.steps.Step.TheVariants as step
 use Rattle.hub_machine.specs.declared.steps.Reply.{Reply}
 use Rattle.hub_machine.specs.declared.steps.Reply.TheVariants as reply
 use Rattle.hub_laws.specs.Laws.{AreAllowed}
+use Rattle.sc_events.specs.Events.{event_of}
+use Rattle.sc_events.specs.declared.events.ScriptEvent.{ScriptEvent}
+use Rattle.sc_events.specs.declared.events.ScriptEvent.TheVariants.{Open, Bytes, Close, Turn, Drain}
+use Rattle.sc_events.specs.declared.events.ScriptEvent.TheVariants.{LongDrain, Schema, Unbuilt}
 use Rattle.sc_script.specs.declared.faults.ScriptFault.{ScriptFault}
 use Rattle.sc_script.specs.declared.faults.ScriptFault.TheVariants as script
-use Rattle.sc_script.specs.Events.{ScriptEvent, Open, Bytes, Close, Turn, Drain, LongDrain, Schema, Unbuilt, event_of}
 
 -- ---- how far a run is, and what stops one
 
@@ -128,6 +131,10 @@ Decides N = (rest : List ℕ) (place : ℕ) → AreBytes rest → IsNext rest pl
 -- there is one
 abbrev pub HasDecider : Type 0
 HasDecider = (N : Decider) × Decides N
+
+-- what each of them tells
+abbrev pub AllTell : List ℕ → ℕ → Next → Type 0
+AllTell rest place x = (N : Decider) → Decides N → N rest place ≡ x
 
 -- more is read where the connection is still there; st is its stream
 abbrev pub read_where : ℕ → StreamState → (Running → Course) → Running → Course
@@ -284,7 +291,3 @@ abbrev pub ReadsOn : RunState → Option StreamState → StreamState → ((Runni
 ReadsOn t None st part = (more : Running → Course) → HasRun (part more) t
 ReadsOn t (Some left) st part =
     (left ≡ st) × (r : Running) × IsAt r t × ((more : Running → Course) → part more ≡ more r)
-
--- an event that opens a connection names a dataspace
-abbrev pub NamesASpace : ScriptEvent → Type 0
-NamesASpace e = (s : ℕ) → e ≡ Open s → s ≢ 0

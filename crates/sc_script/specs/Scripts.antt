@@ -1,29 +1,17 @@
 -- What stands of an input as a script: a run of all its values, or the first cause that stops it. The length of the
 -- input is looked at first, and whether a text is UTF-8; then its values in order, each done before the next is judged.
-use Rattle.std.specs.Prelude.{◌≡◌, ℕ, ◌<◌, ◌≤◌, ◌⊎◌, Bool, false, List, [], length}
+use Rattle.std.specs.Prelude.{◌≡◌, ℕ, ◌<◌, ◌≤◌, ◌⊎◌, Bool, List, length}
 use Rattle.std.specs.Prelude.{Option, Some, None}
-use Rattle.std.specs.Str.{IsUtf8}
 use Rattle.pv_value.specs.Plain.{Plain}
 use Rattle.hub_machine.specs.State.{opening}
 use Rattle.hub_laws.specs.Laws.{AreAllowed}
+use Rattle.sc_events.specs.declared.inputs.Form.{Form}
+use Rattle.sc_events.specs.Readings.{AreReadAs}
 use Rattle.sc_script.specs.declared.faults.ScriptFault.{ScriptFault}
-use Rattle.sc_script.specs.declared.scripts.Form.{Form}
-use Rattle.sc_script.specs.declared.scripts.Form.TheVariants.{Binary, Text}
-use Rattle.sc_script.specs.Inputs.{AreRead}
-use Rattle.sc_script.specs.TextInputs.{AreTextRead}
 use Rattle.sc_script.specs.Runs.{Decider, Decides, Cause, limit, Course, goes, stops, course_of, Running, RunState}
 use Rattle.sc_script.specs.Runs.{IsAt, cause_in}
 use Rattle.sc_report.specs.Reports.{RanState}
 use Rattle.sc_script.specs.Leavings.{ran_of}
-
--- no value is read of what isn't UTF-8
-abbrev pub IsNoText : List ℕ → List Plain → Bool → Type 0
-IsNoText text vs whole = (IsUtf8 text → ⊥) × (vs ≡ []) × (whole ≡ false)
-
--- the values up to the end of the input, or to where it goes on with none
-abbrev pub AreReadAs : Form → List ℕ → List Plain → Bool → Type 0
-AreReadAs Binary bytes vs whole = AreRead bytes vs whole
-AreReadAs Text text vs whole = (IsUtf8 text × AreTextRead text vs whole) ⊎ IsNoText text vs whole
 
 abbrev pub IsCourseOfValues : Decider → Form → List ℕ → Course → Type 0
 IsCourseOfValues N form bytes c =

@@ -1,10 +1,9 @@
-//! Scripts: their reading, their runs over the machine, and what these leave.
+//! Scripts: their runs over the machine, and what these leave. What scripts hold is `sc_events`.
 //!
 //! What stands of an input is its course in `specs/Scripts.antt`: it runs through the steps that
 //! its values make, or stops for the first cause.
 #![tactic(auto)]
 
-mod events;
 mod faults;
 mod laws;
 mod outs;
@@ -14,6 +13,6 @@ mod scripts;
 mod streams;
 
 pub use faults::ScriptFault;
-pub use laws::{next_is_decided, one_course, one_reading};
+pub use laws::{next_is_decided, one_course};
 pub use ran::run_script;
-pub use scripts::{Form, is_text};
+pub use sc_events::{Form, is_text, one_reading};

@@ -6,11 +6,12 @@ ghost use Rattle.sc_script.specs.Scripts.{LeavesAs, StopsAt};
 
 use crate::faults::ScriptFault;
 use crate::runs::Run;
-use crate::scripts::{Form, run_of};
+use crate::scripts::run_of;
 use ds_space::Space;
 use pv_binary::write_into;
 use pv_value::{Blob, NoMemory};
 use rl_packet::{Packet, held, packet_value};
+use sc_events::Form;
 use sc_report::{Connection, Ran};
 use std::alloc::Global;
 

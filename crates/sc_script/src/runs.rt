@@ -2,17 +2,16 @@
 ghost use Rattle.std.specs.Prelude.{◌≡◌, ◌≢◌, ◌+◌, ◌<◌, ◌≤◌, ℕ, IfOk, IfErr, IfSome};
 ghost use Rattle.hub_machine.specs.Machine.{IsAllowed};
 ghost use Rattle.hub_machine.specs.declared.steps.Step.TheVariants as steps;
+ghost use Rattle.sc_events.specs.Events.{event_of, NamesASpace};
 ghost use Rattle.sc_script.specs.declared.faults.ScriptFault.TheVariants as fault;
-ghost use Rattle.sc_script.specs.Events.{event_of};
 ghost use Rattle.sc_script.specs.Runs.{Running, Decider, Decides, Course, goes, beginning, stepped};
 ghost use Rattle.sc_script.specs.Runs.{turned, drained, with_stream, with_no_packet};
 ghost use Rattle.sc_script.specs.Runs.{packets_read, bytes_come, was_opened, may_turn, after_event};
 ghost use Rattle.sc_script.specs.Runs.{after_value, course_of, turning, size_of, noted, IsAt};
 ghost use Rattle.sc_script.specs.Runs.{HasRun};
-ghost use Rattle.sc_script.specs.Runs.{IsStopped, RunsAs, StopsAs, NamesASpace, with_packet};
+ghost use Rattle.sc_script.specs.Runs.{IsStopped, RunsAs, StopsAs, with_packet};
 ghost use Rattle.sc_script.specs.Runs.{ReadsOn};
 
-use crate::events::{ScriptEvent, event_of};
 use crate::faults::ScriptFault;
 use crate::outs::Outs;
 use crate::streams::{Stream, Streams};
@@ -21,7 +20,8 @@ use hub_core::{Fault, Hub, Reply, Step};
 use pv_binary::write_into;
 use pv_value::{NoMemory, Value};
 use rl_packet::{Packet, Turn, packet_value};
-use rl_stream::{Next, next_packet, one_next};
+use rl_stream::Next;
+use sc_events::{ScriptEvent, event_of};
 use std::alloc::Global;
 use std::marker::Model;
 
@@ -274,10 +274,9 @@ impl<S: Space + Drop> Run<S> {
         ensures stop { IfErr result
             (StopsAs self (λ N. packets_read N connection stream)) }
     {
-        one_next();
         let mut run = self;
         loop {
-            let next = next_packet(alloc, stream.rest(), stream.place())?;
+            let next = stream.first(alloc)?;
             let Next::Whole(packet, size) = next else {
                 return run.stop_reading(alloc, connection, next, stream);
             };

@@ -1,9 +1,11 @@
 //! What connections have sent, and how far it is read.
 ghost use Rattle.std.specs.Prelude.{◌≡◌, ◌+◌, ◌≤◌, ◌<◌, ◌^◌, [], length, unwrap_or, IfOk, OnOk};
 ghost use Rattle.ac_world.specs.Worlds.{entry_of, with_entry, without_entry};
-ghost use Rattle.sc_script.specs.Runs.{no_stream, with_bytes, read_off};
+ghost use Rattle.rl_stream.specs.Nexts.{IsNext};
+ghost use Rattle.sc_script.specs.Runs.{no_stream, with_bytes, read_off, AllTell};
 
 use pv_value::NoMemory;
+use rl_stream::{Next, next_packet, one_next};
 use std::alloc::Global;
 use std::collections::BTreeMap;
 use std::marker::Model;
@@ -27,6 +29,16 @@ impl Model for Stream {
     ghost invariant = { λ s. s.read ≤ length s.bytes.items };
 }
 
+/// What is next in bytes whose first is at this place, as each decider tells it.
+fn next_in(alloc: Global, rest: &[u8], place: u64) -> Result<Next, NoMemory>
+    requires { place + length rest.now < 2 ^ 63 }
+    ensures next { IfOk result (IsNext rest.now place) }
+    ensures told { IfOk result (AllTell rest.now place) }
+{
+    one_next();
+    next_packet(alloc, rest, place)
+}
+
 impl Stream {
     fn new(alloc: Global) -> Stream
         ensures { result ≡ no_stream }
@@ -38,7 +50,7 @@ impl Stream {
     }
 
     /// The bytes that aren't read yet.
-    pub(crate) fn rest(&self) -> &[u8]
+    fn rest(&self) -> &[u8]
         ensures rest { result.now ≡ self.now.rest }
         ensures few { self.now.place + length self.now.rest < 2 ^ 63 }
     {
@@ -46,10 +58,18 @@ impl Stream {
     }
 
     /// Where they begin in all that was sent.
-    pub(crate) fn place(&self) -> u64
+    fn place(&self) -> u64
         ensures { result ≡ self.now.place }
     {
         self.read as u64
+    }
+
+    /// What is next in them.
+    pub(crate) fn first(&self, alloc: Global) -> Result<Next, NoMemory>
+        ensures next { IfOk result (IsNext self.now.rest self.now.place) }
+        ensures told { IfOk result (AllTell self.now.rest self.now.place) }
+    {
+        next_in(alloc, self.rest(), self.place())
     }
 
     /// More bytes come.

@@ -3,7 +3,8 @@ use Rattle.std.proofs.Common.{◌≡◌, ℕ, ◌+◌, List, [], ◌∷◌, ◌+
 use Rattle.std.proofs.Common.{Option, Some, None}
 use Rattle.std.proofs.Common.{is_some, option_map, option_and_then, unwrap_or, refl, sym, ap, ◌∙◌, arith}
 use Rattle.pv_value.specs.Plain.{Plain, Plains, no_more, then_more, PlainPairs}
-use Rattle.dp_pattern.specs.Matching.{same, both, value_under}
+use Rattle.dp_pattern.specs.Lemmas.Found.{If, if_map, if_both, found_is, counted_is}
+use Rattle.dp_pattern.specs.Matching.{same, value_under}
 use Rattle.sr_caveat.specs.Patterns.{Pattern, discard, of_kind, bind, all_of, none_of, literal, record_with}
 use Rattle.sr_caveat.specs.Patterns.{sequence_with, dictionary_with, Patterns, no_patterns, then_pattern}
 use Rattle.sr_caveat.specs.Binding.{is_kind, fields_of, items_of, pairs_of, with_value, under_keys, where_true}
@@ -12,16 +13,6 @@ use Rattle.sr_caveat.specs.Gathered.{gathered, all_gathered, each_gathered, gath
 use Rattle.sr_caveat.specs.Written.{binds, all_binds}
 use Rattle.sr_caveat.specs.Laws.{BindingsAreBinds}
 
--- a fact about each list of bindings that was found
-abbrev If : Option (List Plain) → (List Plain → Type 0) → Type 0
-If None P = Unit {0}
-If (Some bs) P = P bs
-
-if_bound : (P Q : List Plain → Type 0) (v : Plain) (o : Option (List Plain)) → ((ds : List Plain) → P ds → Q (v ∷ ds))
-    → If o P → If (option_map (λ ds. v ∷ ds) o) Q
-if_bound P Q v None f h = tt
-if_bound P Q v (Some ds) f h = f ds h
-
 if_true : (Q : List Plain → Type 0) (b : Bool) → Q [] → If (where_true b) Q
 if_true Q true h = h
 if_true Q false h = tt
@@ -29,12 +20,6 @@ if_true Q false h = tt
 if_none : (Q : List Plain → Type 0) (o : Option (List Plain)) → Q [] → If (where_none o) Q
 if_none Q None h = h
 if_none Q (Some bs) h = tt
-
-if_both : (P Q R : List Plain → Type 0) (m n : Option (List Plain))
-    → ((ds es : List Plain) → P ds → Q es → R (ds ++ es)) → If m P → If n Q → If (both m n) R
-if_both P Q R None n f a b = tt
-if_both P Q R (Some ds) None f a b = tt
-if_both P Q R (Some ds) (Some es) f a b = f ds es a b
 
 -- where there is something to look at
 if_there : {A : Type 0} (f : A → Option (List Plain)) (g : A → List Plain) (o : Option A)
@@ -77,8 +62,8 @@ mutual
   bound_gathered discard v = refl
   bound_gathered (of_kind k) v = if_true (λ bs. bs ≡ []) (is_kind k v) refl
   bound_gathered (bind p) v =
-      if_bound (λ bs. bs ≡ gathered p v) (λ bs. bs ≡ v ∷ gathered p v) v (bound p v) (λ ds e. ap (λ xs. v ∷ xs) e)
-      (bound_gathered p v)
+      if_map (λ ds. v ∷ ds) (λ bs. bs ≡ gathered p v) (λ bs. bs ≡ v ∷ gathered p v) (bound p v)
+      (λ ds e. ap (λ xs. v ∷ xs) e) (bound_gathered p v)
   bound_gathered (all_of ps) v = all_are_gathered ps v
   bound_gathered (none_of p) v = if_none (λ bs. bs ≡ []) (bound p v) refl
   bound_gathered (literal u) v = if_true (λ bs. bs ≡ []) (same u v) refl
@@ -117,18 +102,7 @@ mutual
       (λ x ds es is a b. joined p (value_under qs k) x ds es (gathered_under ps ks qs) is a b)
 
 pub found_gathered : (p : Pattern) (v : Plain) → is_some (bound p v) ≡ true → Some (gathered p v) ≡ bound p v
-found_gathered p v e = by (bound p v) (bound_gathered p v) e
-  where
-    by : (o : Option (List Plain)) → If o (λ bs. bs ≡ gathered p v) → is_some o ≡ true → Some (gathered p v) ≡ o
-    by None h e = cc
-    by (Some bs) h e = ap Some (sym h)
-
-pub none_found : (p : Pattern) (v : Plain) → is_some (bound p v) ≡ false → None ≡ bound p v
-none_found p v e = by (bound p v) e
-  where
-    by : (o : Option (List Plain)) → is_some o ≡ false → None ≡ o
-    by None e = refl
-    by (Some bs) e = cc
+found_gathered p v = found_is (bound p v) (gathered p v) (bound_gathered p v)
 
 -- ---- how many values are bound
 
@@ -145,8 +119,8 @@ mutual
   bound_binds discard v = refl
   bound_binds (of_kind k) v = if_true (λ bs. length bs ≡ 0) (is_kind k v) refl
   bound_binds (bind p) v =
-      if_bound (λ bs. length bs ≡ binds p) (λ bs. length bs ≡ 1 + binds p) v (bound p v) (λ ds e. omega arith)
-      (bound_binds p v)
+      if_map (λ ds. v ∷ ds) (λ bs. length bs ≡ binds p) (λ bs. length bs ≡ 1 + binds p) (bound p v)
+      (λ ds e. omega arith) (bound_binds p v)
   bound_binds (all_of ps) v = all_are_binds ps v
   bound_binds (none_of p) v = if_none (λ bs. length bs ≡ 0) (bound p v) refl
   bound_binds (literal u) v = if_true (λ bs. length bs ≡ 0) (same u v) refl
@@ -175,8 +149,4 @@ mutual
       (bound_binds p x) (each_is_binds ps xs)
 
 pub bindings_binds : BindingsAreBinds
-bindings_binds p v bs e = by (bound p v) (bound_binds p v) e
-  where
-    by : (o : Option (List Plain)) → If o (λ ds. length ds ≡ binds p) → o ≡ Some bs → length bs ≡ binds p
-    by None h e = absurd cc
-    by (Some ds) h e = let f : ds ≡ bs = cc in sym (ap length f) ∙ h
+bindings_binds p v bs = counted_is (bound p v) (binds p) bs (bound_binds p v)

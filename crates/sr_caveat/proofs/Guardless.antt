@@ -18,7 +18,7 @@ use Rattle.sr_caveat.specs.Written.{templates_in_pairs, caveats_of, caveats_in, 
 use Rattle.sr_caveat.specs.Laws.{guards_in_template, guards_in_templates, guards_in, guards_in_caveats}
 use Rattle.sr_caveat.specs.Laws.{guards_in_rewrites}
 use Rattle.sr_caveat.specs.Laws.{NoGuardFromTheWire}
-use Rattle.sr_caveat.specs.Lemmas.Found.{If, if_cond, if_map}
+use Rattle.dp_pattern.specs.Lemmas.Found.{If, if_cond, if_map}
 
 no_more_guards : (xs ys : List (List ℕ)) → xs ≡ [] → ys ≡ [] → xs ++ ys ≡ []
 no_more_guards xs ys e f = λ i. e i ++ f i

@@ -9,18 +9,16 @@ use Rattle.pv_value.specs.Plain.{Plain, record_of, sequence}
 use Rattle.pv_value.specs.Plain.{dictionary, embedded, Plains, no_more, then_more, plains, listed}
 use Rattle.pv_value.specs.Weight.{weight, size_with, sizes_with, pair_sizes_with}
 use Rattle.pv_value.specs.Depth.{depth, deepest, deepest_pair}
-use Rattle.dp_pattern.specs.Matching.{same}
-use Rattle.ds_space.specs.Lemmas.Keys.{same_is}
 use Rattle.sr_caveat.specs.Patterns.{Template, attenuate, binding, constant, record_from, sequence_from, dictionary_of}
 use Rattle.sr_caveat.specs.Patterns.{Templates, no_templates, then_template, Caveat, Caveats, caveats, listed_caveats}
 use Rattle.sr_caveat.specs.Patterns.{no_caveats, then_caveat}
 use Rattle.sr_caveat.specs.Spelled.{caveat_values, paired_with}
-use Rattle.sr_caveat.specs.Caps.{Cap, cap_of, cap_read, cap_value, if_spelled, attenuated}
+use Rattle.sr_caveat.specs.Caps.{Cap, cap_of, cap_value, attenuated}
 use Rattle.sr_caveat.specs.Filling.{is_reference, if_reference, reference_with, dictionary_under, with_first, filled}
 use Rattle.sr_caveat.specs.Filling.{all_filled}
 use Rattle.sr_caveat.specs.Passing.{fits, if_fits}
 use Rattle.sr_caveat.specs.Lemmas.Capped.{cap_is}
-use Rattle.sr_caveat.specs.Lemmas.Found.{If}
+use Rattle.dp_pattern.specs.Lemmas.Found.{If}
 use Rattle.std.proofs.Common.{◌<◌, get_or}
 use Rattle.sr_caveat.specs.Sizes.{Size, weights_of, depths_of}
 use Rattle.sr_caveat.specs.Sizes.{in_place, filled_weight, filled_weights, filled_depth, filled_depths}

@@ -3,6 +3,5 @@ pub mod Capped
 pub mod CaveatsBack
 pub mod Coded
 pub mod Falls
-pub mod Found
 pub mod Measures
 pub mod PatternsBack

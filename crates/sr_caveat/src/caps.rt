@@ -33,6 +33,7 @@ impl Model for Caveats {
 }
 
 impl Caveats {
+    /// These caveats, the oldest first. For want of memory the list is gone.
     pub fn from_vec(alloc: Global, list: Vec<Caveat>) -> Result<Caveats, NoMemory>
         ensures { IfOk result (λ cs. cs ≡ list.items) }
     {
@@ -40,6 +41,7 @@ impl Caveats {
         Ok(Caveats { list })
     }
 
+    /// The caveats, the oldest first.
     pub fn as_slice(&self) -> &[Caveat]
         ensures { result.now ≡ self.now }
     {

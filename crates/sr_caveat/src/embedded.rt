@@ -6,6 +6,8 @@ ghost use Rattle.sr_caveat.specs.Embedded.{has_embedded, any_embedded, any_pair_
 
 use pv_value::{Entry, Node, Value};
 
+/// Whether a value is embedded, or an embedded one stands in it at any depth: in a label, a field,
+/// an item, an element, a key or what stands under one.
 #[cycle(embedded)]
 pub fn has_embedded(value: &Value) -> bool
     ensures { result ≡ has_embedded value.now }

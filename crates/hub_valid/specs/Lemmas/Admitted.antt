@@ -10,7 +10,7 @@ use Rattle.pv_value.specs.Weight.{weight}
 use Rattle.dp_pattern.specs.Words.{number_in}
 use Rattle.sr_caveat.specs.declared.caps.Cap.{Cap}
 use Rattle.sr_caveat.specs.Caps.{cap_of}
-use Rattle.sr_caveat.specs.Lemmas.Found.{If, if_cond}
+use Rattle.dp_pattern.specs.Lemmas.Found.{If, if_cond}
 use Rattle.ac_world.specs.Worlds.{WorldState}
 use Rattle.rl_packet.specs.declared.packets.Event.{Event}
 use Rattle.rl_packet.specs.declared.packets.Event.TheVariants.{Assert, Retract, Message, Sync}

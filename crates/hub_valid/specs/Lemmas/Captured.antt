@@ -13,7 +13,7 @@ use Rattle.dp_pattern.specs.Matching.{matched_fields}
 use Rattle.ds_space.specs.Wants.{observer_of, captured, keys_for, keys_by, wants}
 use Rattle.ds_space.specs.declared.space.Fanned.{Fanned}
 use Rattle.ds_space.specs.Fans.{fan_for, fan_of}
-use Rattle.sr_caveat.specs.Lemmas.Found.{If, if_cond}
+use Rattle.dp_pattern.specs.Lemmas.Found.{If, if_cond}
 use Rattle.rl_wire.specs.Crossing.{held_in, all_held_in}
 use Rattle.rl_wire.specs.Lemmas.Later.{all_of_front, all_of_rest}
 use Rattle.hub_valid.specs.Validity.{IsObjectValue, HoldsObjects}

@@ -16,6 +16,7 @@ use Rattle.ac_world.specs.declared.turns.Turned.{Turned}
 use Rattle.ac_world.specs.declared.turns.Turned.TheVariants as turned
 use Rattle.ac_world.specs.Worlds.{actor_of, entry_of, without_entry, is_system, gone}
 use Rattle.ac_world.specs.Turns.{turn}
+use Rattle.ac_world.specs.Lemmas.Entries.{each_with, each_without, each_found}
 use Rattle.rl_packet.specs.declared.packets.TurnEvent.{TurnEvent}
 use Rattle.rl_packet.specs.Wired.{IsTurnEvent}
 use Rattle.rl_ports.specs.Ports.{PortsState, ports_to, with_exports, place_of, exported}
@@ -41,7 +42,6 @@ use Rattle.hub_valid.specs.Promises.{OpenedIsValid, AcceptedIsValid, NamelessIsV
 use Rattle.hub_valid.specs.Promises.{TakenIsValid, ExportingIsValid}
 use Rattle.hub_valid.specs.Lemmas.Admitted.{acts_are_valid, exports_stay}
 use Rattle.hub_valid.specs.Lemmas.Values.{all_flat, all_weaker, all_append, cap_is_object, later_inside}
-use Rattle.hub_valid.specs.Lemmas.WorldLists.{all_with, all_without, all_found}
 use Rattle.hub_valid.specs.Lemmas.Worlds.{beginning_valid, arrived_valid, sent_valid, gone_valid}
 use Rattle.hub_valid.specs.Lemmas.Turns.{turn_valid, turn_opens_none, taken_valid, taken_valid_after}
 
@@ -60,7 +60,7 @@ ports_valid : (k : ℕ) (ports : PortsState) (s : State) → IsValid s → ports
 ports_valid k ports s v is = by (is_live (actor_of k) s.world.table) is
   where
     by : (b : Bool) → cond b (entry_of k s.connections) None ≡ Some ports → IsValidEntry s.world.opened (k, ports)
-    by true found = all_found (IsValidEntry s.world.opened) k ports s.connections v.named found
+    by true found = each_found (IsValidEntry s.world.opened) k ports s.connections v.named found
     by false found = absurd cc
 
 -- ---- the promises
@@ -69,7 +69,7 @@ pub opened_is_valid : OpenedIsValid
 opened_is_valid space s low few v = record {
   few = omega (arith, few);
   world = arrived_valid s.world v.world;
-  named = all_with (IsValidEntry (s.world.opened + 1)) (s.world.opened + 1)
+  named = each_with (IsValidEntry (s.world.opened + 1)) (s.world.opened + 1)
       (ports_to (actor_reference space)) s.connections (omega arith, (first, tt))
       (all_weaker (IsValidEntry s.world.opened) (IsValidEntry (s.world.opened + 1))
       (λ e. later_entry s.world.opened (s.world.opened + 1) e (omega arith)) s.connections v.named);
@@ -82,7 +82,7 @@ opened_is_valid space s low few v = record {
 
 pub nameless_is_valid : NamelessIsValid
 nameless_is_valid k s v =
-    record { few = v.few; world = v.world; named = all_without (IsValidEntry s.world.opened) k s.connections v.named }
+    record { few = v.few; world = v.world; named = each_without (IsValidEntry s.world.opened) k s.connections v.named }
 
 pub departed_is_valid : DepartedIsValid
 departed_is_valid k s v = by (is_live (actor_of k) s.world.table)
@@ -107,7 +107,7 @@ pub accepted_is_valid : AcceptedIsValid
 accepted_is_valid k ports es x s v entry wired is = record {
   few = v.few;
   world = sent_valid (actor_of k) x.acts s.world (acts_are_valid k ports es x s v entry wired is) v.world;
-  named = all_with (IsValidEntry s.world.opened) k x.ports s.connections (
+  named = each_with (IsValidEntry s.world.opened) k x.ports s.connections (
     entry.0,
     subst (AllByRecursion (IsObjectValue (16 + s.world.opened))) (sym (exports_stay k ports s.world es x is))
         entry.1,
@@ -157,7 +157,7 @@ pub exporting_is_valid : ExportingIsValid
 exporting_is_valid k b ports s v entry fits = record {
   few = v.few;
   world = v.world;
-  named = all_with (IsValidEntry s.world.opened) k (with_exports (exports_after k b ports) ports) s.connections (
+  named = each_with (IsValidEntry s.world.opened) k (with_exports (exports_after k b ports) ports) s.connections (
     entry.0,
     all_exported_pass (IsObjectValue (16 + s.world.opened)) ports.exports (foreign_to k b) entry.1
         (all_flat (IsValidEvent (16 + s.world.opened) s.world.table.next) (IsObjectValue (16 + s.world.opened))

@@ -29,7 +29,7 @@ use Rattle.sr_caveat.specs.Written.{standing, names_of, pattern_of, template_of,
 use Rattle.sr_caveat.specs.Written.{templates_under_keys, templates_in_pairs, caveats_of, caveats_in, caveat_in}
 use Rattle.sr_caveat.specs.Written.{rewrites_of, rewrites_in}
 use Rattle.sr_caveat.specs.Passing.{if_fits, fits, rewritten, ruled, applied, passed, no_names}
-use Rattle.sr_caveat.specs.Lemmas.Found.{If, if_cond, if_map}
+use Rattle.dp_pattern.specs.Lemmas.Found.{If, if_cond, if_map}
 use Rattle.sr_caveat.specs.Lemmas.CaveatsBack.{read_back, nothing_embedded}
 use Rattle.sr_caveat.specs.Lemmas.Capped.{cap_sound}
 use Rattle.rl_wire.specs.Crossing.{held_in, all_held_in, all_pairs_held_in}

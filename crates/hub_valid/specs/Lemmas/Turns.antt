@@ -4,7 +4,7 @@ use Rattle.std.proofs.Common.{ap, sym, subst, unwrap_or, nat_lt}
 use Rattle.std.specs.List.{AllByRecursion}
 use Rattle.std.specs.Map.{values_of}
 use Rattle.pv_value.specs.Plain.{Plain, boolean, sequence, plains}
-use Rattle.sr_caveat.specs.Lemmas.Found.{If}
+use Rattle.dp_pattern.specs.Lemmas.Found.{If}
 use Rattle.ds_space.specs.Spaces.{Rows, changed, has_row}
 use Rattle.ds_space.specs.declared.space.SpaceEvent.TheVariants.{Add, Gone}
 use Rattle.ds_space.specs.declared.space.Change.{Change}
@@ -27,11 +27,12 @@ use Rattle.ac_world.specs.Turns.{changed_by, all_changed, changes, with_rows, re
 use Rattle.ac_world.specs.Turns.{by_message, applied, taken_in, say_at, say_all, passed_on, answer_to, turned_by}
 use Rattle.ac_world.specs.Turns.{all_turned, answered, all_answered, begin_turn, space_turn, plain_turn}
 use Rattle.ac_world.specs.Turns.{connection_turn, After, turn_first, turn}
+use Rattle.ac_world.specs.Lemmas.Entries.{values_pass, values_all, each_with, each_without, each_found}
+use Rattle.hub_valid.specs.Lemmas.Filtered.{all_kept}
 use Rattle.hub_valid.specs.Validity.{IsObjectValue, HoldsObjects, IsValidEvent, IsValidBatch, IsValidSeat, IsValidWorld}
 use Rattle.hub_valid.specs.Lemmas.Captured.{wants_hold, fan_holds}
 use Rattle.hub_valid.specs.Lemmas.Aims.{IsAimed, sent_aims, told_aims, key_aims}
 use Rattle.hub_valid.specs.Lemmas.Values.{all_append, sequence_holds}
-use Rattle.hub_valid.specs.Lemmas.WorldLists.{all_filter, all_with, all_without, all_found, values_pass, values_all}
 use Rattle.hub_valid.specs.Lemmas.WorldTables.{popped_valid, first_valid}
 use Rattle.hub_valid.specs.Lemmas.WorldPlans.{IsValidPlan, begin_valid, put_valid, dropped_valid, said_valid}
 use Rattle.hub_valid.specs.Lemmas.WorldPlans.{committed_valid}
@@ -94,7 +95,7 @@ changes_valid n before after all =
     all_append (IsValidChange n) (map Left (without before after)) (map Came (without after before))
     (all_left n (without before after))
     (all_came n (without after before)
-    (all_filter (HoldsObjects n) (λ k. not (among k before)) after all))
+    (all_kept (HoldsObjects n) (λ k. not (among k before)) after all))
 
 regot_valid : (n a : ℕ) (rows : Rows) (t : Turning) → AllByRecursion (HoldsObjects n) (values_of rows)
     → IsValidTurning n t → IsValidTurning n (regot a rows t)
@@ -113,13 +114,13 @@ added_holds : (n h : ℕ) (x : Plain) (rows : Rows) → HoldsObjects n x → All
     → AllByRecursion (HoldsObjects n) (values_of (changed rows (Add h x)))
 added_holds n h x rows holds all =
     values_all (HoldsObjects n) (changed rows (Add h x))
-    (all_with (λ e. HoldsObjects n e.1) h x rows holds (values_pass (HoldsObjects n) rows all))
+    (each_with (λ e. HoldsObjects n e.1) h x rows holds (values_pass (HoldsObjects n) rows all))
 
 gone_holds : (n h : ℕ) (rows : Rows) → AllByRecursion (HoldsObjects n) (values_of rows)
     → AllByRecursion (HoldsObjects n) (values_of (changed rows (Gone h)))
 gone_holds n h rows all =
     values_all (HoldsObjects n) (changed rows (Gone h))
-    (all_without (λ e. HoldsObjects n e.1) h rows (values_pass (HoldsObjects n) rows all))
+    (each_without (λ e. HoldsObjects n e.1) h rows (values_pass (HoldsObjects n) rows all))
 
 added_valid : (n a from h : ℕ) (x : Plain) (t : Turning) → HoldsObjects n x → IsValidTurning n t
     → IsValidTurning n (applied a from (Add h x) t)
@@ -218,7 +219,7 @@ seat_valid n a w all = by (entry_of a w.spaces) refl
     by : (o : Option Seat) → entry_of a w.spaces ≡ o
         → AllByRecursion (HoldsObjects n) (values_of (unwrap_or o no_seat).got)
     by None found = tt
-    by (Some x) found = all_found (IsValidSeat n) a x w.spaces all found
+    by (Some x) found = each_found (IsValidSeat n) a x w.spaces all found
 
 -- w is the world without the batch
 space_turn_valid : (a : ℕ) (b : Batch) (w : WorldState) → IsValidBatch (16 + w.opened) w.table.next b
@@ -231,7 +232,8 @@ space_turn_valid a b w fits v =
     }) in
     world_with (space_turn a b w).world
     (committed_valid (16 + w.opened) a (all_turned a b.from b.events (begin_turn a w)).plan t.plan)
-    (all_with (IsValidSeat (16 + w.opened)) a (all_turned a b.from b.events (begin_turn a w)).seat w.spaces t.got v.got)
+    (each_with (IsValidSeat (16 + w.opened)) a (all_turned a b.from b.events (begin_turn a w)).seat w.spaces t.got
+    v.got)
 
 plain_turn_valid : (a : ℕ) (b : Batch) (w : WorldState) → IsValidBatch (16 + w.opened) w.table.next b
     → IsValidWorld w → IsValidWorld (plain_turn a b w).world

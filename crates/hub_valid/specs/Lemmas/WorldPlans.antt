@@ -12,9 +12,10 @@ use Rattle.ac_world.specs.declared.acts.Act.TheVariants as act
 use Rattle.ac_world.specs.Outboxes.{Outbox, told_to, told, posted, Plan, plan_over, put, drop_row, drop_own, dropped}
 use Rattle.ac_world.specs.Outboxes.{said, committed, acted, all_acted, retractions}
 use Rattle.ac_world.specs.Worlds.{entry_of}
+use Rattle.ac_world.specs.Lemmas.Entries.{each_with, each_found}
+use Rattle.hub_valid.specs.Lemmas.Filtered.{all_kept}
 use Rattle.hub_valid.specs.Validity.{HoldsObjects, IsValidRow, IsValidEvent, IsValidAct}
 use Rattle.hub_valid.specs.Lemmas.Values.{all_weaker, all_append}
-use Rattle.hub_valid.specs.Lemmas.WorldLists.{all_filter, all_with, all_found}
 use Rattle.hub_valid.specs.Lemmas.WorldTables.{later_event, rows_later, inboxes_later, IsValidTable, row_found}
 use Rattle.hub_valid.specs.Lemmas.WorldTables.{pushed_valid}
 
@@ -30,13 +31,13 @@ told_to_pass P target out all = by (entry_of target out) refl
   where
     by : (o : Option (List Event)) → entry_of target out ≡ o → AllByRecursion P (unwrap_or o [])
     by None found = tt
-    by (Some es) found = all_found (λ o. AllByRecursion P o.1) target es out all found
+    by (Some es) found = each_found (λ o. AllByRecursion P o.1) target es out all found
 
 -- one more event, where it passes
 pub told_pass : (P : Event → Type 0) (target : ℕ) (e : Event) (out : Outbox) → P e → AreTold P out
     → AreTold P (told target e out)
 told_pass P target e out p all =
-    all_with (λ o. AllByRecursion P o.1) target (told_to target out ++ e ∷ []) out
+    each_with (λ o. AllByRecursion P o.1) target (told_to target out ++ e ∷ []) out
     (all_append P (told_to target out) (e ∷ []) (told_to_pass P target out all) (p, tt)) all
 
 pub told_weaker : (P Q : Event → Type 0) (out : Outbox) → ((e : Event) → P e → Q e) → AreTold P out → AreTold Q out
@@ -89,7 +90,7 @@ put_valid n owner target entity x p low small holds v = record {
 
 retracted_valid : (n h : ℕ) (t : TableState) → IsValidTable n t → IsValidTable n (retracted h t)
 retracted_valid n h t v = record {
-  rows = all_filter (IsValidRow n t.next) _ t.rows v.rows;
+  rows = all_kept (IsValidRow n t.next) _ t.rows v.rows;
   inboxes = v.inboxes;
 }
 

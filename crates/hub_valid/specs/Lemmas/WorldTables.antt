@@ -10,8 +10,8 @@ use Rattle.ac_table.specs.declared.batches.Batch.{Batch}
 use Rattle.ac_table.specs.Tables.{TableState, Actor, find_actor, find_row, placed, joined, ended, with_inbox, pushed}
 use Rattle.ac_table.specs.Tables.{popped, first_batch, first_in}
 use Rattle.ac_world.specs.Worlds.{Seat}
+use Rattle.hub_valid.specs.Lemmas.Filtered.{all_kept}
 use Rattle.hub_valid.specs.Validity.{HoldsObjects, IsValidRow, IsValidEvent, IsValidBatch, IsValidActor, IsValidSeat}
-use Rattle.hub_valid.specs.Lemmas.WorldLists.{all_filter}
 use Rattle.hub_valid.specs.Lemmas.Values.{all_weaker, all_append, later_value, later_inside}
 
 -- ---- what is valid stays so with more actors and later handles
@@ -95,8 +95,8 @@ joined_valid n a t v = record {
 
 pub ended_valid : (n a : ℕ) (t : TableState) → IsValidTable n t → IsValidTable n (ended a t)
 ended_valid n a t v = record {
-  rows = all_filter (IsValidRow n t.next) (λ r. not (r.owner == a)) t.rows v.rows;
-  inboxes = all_filter (IsValidActor n t.next) (λ x. not (x.number == a)) t.actors v.inboxes;
+  rows = all_kept (IsValidRow n t.next) (λ r. not (r.owner == a)) t.rows v.rows;
+  inboxes = all_kept (IsValidActor n t.next) (λ x. not (x.number == a)) t.actors v.inboxes;
 }
 
 -- ---- inboxes

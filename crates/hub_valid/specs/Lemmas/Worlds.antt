@@ -5,9 +5,9 @@ use Rattle.ac_table.specs.Tables.{TableState, rows_of, ended}
 use Rattle.ac_world.specs.declared.acts.Act.{Act}
 use Rattle.ac_world.specs.Outboxes.{plan_over, all_acted, retractions}
 use Rattle.ac_world.specs.Worlds.{WorldState, first_actors, beginning, arrived, sent, gone}
+use Rattle.hub_valid.specs.Lemmas.Filtered.{all_kept}
 use Rattle.hub_valid.specs.Validity.{IsValidRow, IsValidSeat, IsValidAct, IsValidWorld}
 use Rattle.hub_valid.specs.Lemmas.Values.{all_weaker}
-use Rattle.hub_valid.specs.Lemmas.WorldLists.{all_filter}
 use Rattle.hub_valid.specs.Lemmas.WorldTables.{IsValidTable, later_seat, rows_later, inboxes_later, joined_valid}
 use Rattle.hub_valid.specs.Lemmas.WorldTables.{ended_valid}
 use Rattle.hub_valid.specs.Lemmas.WorldPlans.{retractions_valid, posted_valid, begin_valid, all_acted_valid}
@@ -60,5 +60,5 @@ gone_valid a w v = world_with (gone a w)
     (posted_valid (16 + w.opened) a (retractions (rows_of a w.table.rows) []) (ended a w.table)
     (ended_valid (16 + w.opened) a w.table (table_of w v))
     (retractions_valid (16 + w.opened) w.table.next (rows_of a w.table.rows) []
-    (all_filter (IsValidRow (16 + w.opened) w.table.next) _ w.table.rows v.rows) tt))
+    (all_kept (IsValidRow (16 + w.opened) w.table.next) _ w.table.rows v.rows) tt))
     v.got

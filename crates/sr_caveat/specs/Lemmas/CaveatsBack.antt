@@ -21,7 +21,7 @@ use Rattle.sr_caveat.specs.Written.{templates_under_keys, templates_in_pairs, ca
 use Rattle.sr_caveat.specs.Written.{rewrites_of, rewrites_in, caveat_of}
 use Rattle.sr_caveat.specs.Laws.{CaveatsAreReadBack}
 use Rattle.sr_caveat.specs.Caps.{IsReadBack}
-use Rattle.sr_caveat.specs.Lemmas.Found.{If, if_cond, if_map}
+use Rattle.dp_pattern.specs.Lemmas.Found.{If, if_cond, if_map}
 use Rattle.sr_caveat.specs.Lemmas.PatternsBack.{pattern_back}
 
 -- ---- tests

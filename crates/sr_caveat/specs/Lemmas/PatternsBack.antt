@@ -11,7 +11,7 @@ use Rattle.sr_caveat.specs.Spelled.{kind_name, paired_with, pattern_value, patte
 use Rattle.sr_caveat.specs.Written.{kind_named, keys_in, keys_of_value, short_pattern, record_pattern}
 use Rattle.sr_caveat.specs.Written.{with_pattern, pattern_of, patterns_of, patterns_in, patterns_under_keys}
 use Rattle.sr_caveat.specs.Written.{patterns_in_pairs}
-use Rattle.sr_caveat.specs.Lemmas.Found.{If, if_map, if_word}
+use Rattle.dp_pattern.specs.Lemmas.Found.{If, if_map, if_word}
 
 abbrev Named : List ℕ → Kind → Type 0
 Named s k = kind_name k ≡ s

@@ -1,6 +1,6 @@
 use Rattle.std.proofs.Common.{refl}
 use Rattle.pv_binary.specs.Lemmas.Begins.{leads_less}
-use Rattle.sc_script.specs.Lemmas.Inputs.{leads_behind}
+use Rattle.sc_events.specs.Lemmas.Inputs.{leads_behind}
 use Rattle.dsd_top.proofs.values.push_next.Goals as goal
 
 pub returns-in_ok-push_last-in-Ok-clause-next : goal.returns-in_ok-push_last-in-Ok-clause-next

@@ -1,6 +1,6 @@
 use Rattle.std.proofs.Common.{List, arith, subst, sym}
 use Rattle.pv_value.specs.Plain.{Plain}
-use Rattle.sc_script.specs.Scripts.{AreReadAs}
+use Rattle.sc_events.specs.Readings.{AreReadAs}
 use Rattle.sc_script.proofs.CourseOfInput.{runs_of_values, stops_of_values}
 use Rattle.sc_script.proofs.scripts.run_of.Goals as goal
 

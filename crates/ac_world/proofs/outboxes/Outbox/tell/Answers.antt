@@ -3,9 +3,9 @@ use Rattle.std.specs.BTreeMap.{insert_entry}
 use Rattle.std.specs.Ordering.{nat_cmp}
 use Rattle.ac_table.specs.declared.batches.Event.{Event}
 use Rattle.ac_world.specs.Outboxes.{Outbox, told, told_to}
-use Rattle.ac_world.proofs.Told.{put_back}
 use Rattle.ac_world.proofs.outboxes.Outbox.tell.Goals as goal
 use Rattle.ac_world.proofs.outboxes.Outbox.tell.Goals.{in-Some, in-None}
+use Rattle.ac_world.specs.Lemmas.Entries.{put_back}
 
 pub returns : goal.returns
 returns c =

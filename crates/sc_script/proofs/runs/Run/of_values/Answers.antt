@@ -1,6 +1,6 @@
 -- The run of values: one value more, a value that stops it, and its end.
 use Rattle.std.proofs.Common.{◌≡◌, ◌≤◌, ◌+◌, length, ap, sym, ◌∙◌, subst, arith}
-use Rattle.sc_script.specs.Events.{event_of}
+use Rattle.sc_events.specs.Events.{event_of}
 use Rattle.sc_script.specs.Runs.{HasRun, IsStopped, course_of, after_value}
 use Rattle.sc_script.proofs.FaultsPassed.{err_so}
 use Rattle.sc_script.proofs.ValuesInTurn.{one_done, one_stops, all_done, cut_off}

@@ -1,7 +1,8 @@
 use Rattle.std.proofs.Common.{sym, ap, ◌∙◌}
 use Rattle.hub_machine.specs.State.{is_there}
 use Rattle.sc_script.specs.Runs.{RunState, with_stream}
-use Rattle.sc_script.proofs.Reading.{err_so, stops_first, reads_more, reads_no_more}
+use Rattle.sc_script.proofs.FaultsPassed.{err_so}
+use Rattle.sc_script.proofs.Reading.{stops_first, reads_more, reads_no_more}
 use Rattle.sc_script.proofs.runs.Run.packet.Goals as goal
 
 pub returns-in_err-run-in-Turn-clause-stop : goal.returns-in_err-run-in-Turn-clause-stop

@@ -1,8 +1,8 @@
 -- A value: the event that it writes names a dataspace where it opens a connection, and its course is the value's.
 use Rattle.std.proofs.Common.{◌≡◌, Some, sym, ap, ◌∙◌}
-use Rattle.sc_script.specs.Events.{event_of}
+use Rattle.sc_events.specs.Events.{event_of}
+use Rattle.sc_events.specs.Lemmas.Opening.{names_space}
 use Rattle.sc_script.specs.Runs.{after_event, after_value}
-use Rattle.sc_script.proofs.Opening.{names_space}
 use Rattle.sc_script.proofs.PartsPassed.{runs_so, stops_so}
 use Rattle.sc_script.proofs.runs.Run.value.Goals as goal
 

@@ -1,0 +1,53 @@
+-- What a value asks: each step and each question, by the value that it is written as.
+use Rattle.std.specs.Prelude.{◌≡◌, ℕ, ◌+◌, ◌-◌, ◌^◌, min, List, [], ◌∷◌, codes, map, ◌⊎◌}
+use Rattle.std.specs.List.{range_with_len}
+use Rattle.pv_value.specs.Plain.{Plain, symbol}
+use Rattle.dp_pattern.specs.Words.{labelled, number}
+use Rattle.rl_packet.specs.Grammar.{IsPacketOf}
+use Rattle.rl_packet.specs.declared.packets.Event.TheVariants.{Assert}
+use Rattle.rl_packet.specs.declared.packets.Packet.TheVariants.{Turn as TurnPacket}
+use Rattle.rl_packet.specs.declared.packets.TurnEvent.{TurnEvent}
+use Rattle.hub_machine.specs.declared.faults.Fault.{Fault}
+use Rattle.hub_machine.specs.declared.faults.Fault.TheVariants.{BadBytes, BadPacket}
+use Rattle.hub_machine.specs.declared.steps.Step.TheVariants.{Arrive, Packet, Bad, Close, Turn, Work, Stop}
+use Rattle.row_asking.specs.declared.asking.Asked.{Asked}
+use Rattle.row_asking.specs.declared.asking.Asked.TheVariants.{Step, Pending, Lowest, Live, Holds}
+
+-- a turn as it stands on the wire
+abbrev pub IsTurnAt : Plain → List TurnEvent → Type 0
+IsTurnAt v turn = IsPacketOf v (TurnPacket turn)
+
+-- a value asserted at object 0 under a handle, i past this one
+abbrev pub assertion : Plain → ℕ → ℕ → TurnEvent
+assertion v handle i = record { oid = 0; event = Assert v (min (handle + i) (2 ^ 64 - 1)) }
+
+-- so many such assertions, under the handles from this one on
+abbrev pub assertions : Plain → ℕ → ℕ → List TurnEvent
+assertions v handle count = map (assertion v handle) (range_with_len 0 count)
+
+-- why what a connection sent is no packet: bad-packet, or <bad-bytes kind place>
+abbrev pub IsCause : Plain → Fault → Type 0
+IsCause v BadPacket = v ≡ symbol (codes "bad-packet")
+IsCause v (BadBytes kind place) = v ≡ labelled (codes "bad-bytes") (number kind ∷ number place ∷ [])
+IsCause v f = ⊥
+
+-- a packet, <packet k TURN>, or <fill k v handle count>
+abbrev pub AsksPacket : Plain → ℕ → List TurnEvent → Type 0
+AsksPacket v k turn =
+    ((x : Plain) × (v ≡ labelled (codes "packet") (number k ∷ x ∷ [])) × IsTurnAt x turn)
+    ⊎ ((x : Plain) × (handle : ℕ) × (count : ℕ)
+    × (v ≡ labelled (codes "fill") (number k ∷ x ∷ number handle ∷ number count ∷ []))
+    × (turn ≡ assertions x handle count))
+
+abbrev pub Asks : Plain → Asked → Type 0
+Asks v (Step Work) = v ≡ symbol (codes "work")
+Asks v (Step Stop) = v ≡ symbol (codes "stop")
+Asks v (Step (Arrive space)) = v ≡ labelled (codes "arrive") (number space ∷ [])
+Asks v (Step (Packet k turn)) = AsksPacket v k turn
+Asks v (Step (Bad k f)) = (x : Plain) × (v ≡ labelled (codes "bad") (number k ∷ x ∷ [])) × IsCause x f
+Asks v (Step (Close k)) = v ≡ labelled (codes "close") (number k ∷ [])
+Asks v (Step (Turn actor)) = v ≡ labelled (codes "turn") (number actor ∷ [])
+Asks v Pending = v ≡ symbol (codes "pending")
+Asks v Lowest = v ≡ symbol (codes "lowest")
+Asks v (Live k) = v ≡ labelled (codes "live") (number k ∷ [])
+Asks v (Holds k) = v ≡ labelled (codes "holds") (number k ∷ [])

@@ -1,0 +1,17 @@
+use Rattle.std.proofs.Common.{◌≡◌, inl, inr, codes, string_bytes, rules}
+use Rattle.row_files.proofs.Lining.{on_ok}
+use Rattle.row_files.proofs.rows.Row.take.Goals as goal
+
+pub returns-in-input : goal.returns-in-input
+returns-in-input c =
+    let word : string_bytes c.args.section.now.keyword ≡ codes "input" = search rules in
+    let rest = c.as_str-rest.ensures.value in
+    let body = c.as_str-body.ensures.value in
+    on_ok c.take_input.result _ _ (λ h. inr (inl (word, rw (rest, body) at h))) c.take_input.ensures
+
+pub returns-in-output : goal.returns-in-output
+returns-in-output c =
+    let word : string_bytes c.args.section.now.keyword ≡ codes "output" = search rules in
+    let rest = c.as_str-rest.ensures.value in
+    let body = c.as_str-body.ensures.value in
+    on_ok c.take_output.result _ _ (λ h. inr (inr (inl (word, rw (rest, body) at h)))) c.take_output.ensures

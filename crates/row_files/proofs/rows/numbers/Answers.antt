@@ -1,0 +1,25 @@
+use Rattle.std.proofs.Common.{ℕ, List, Bor, [], ◌∷◌, map, lit<, subst}
+use Rattle.std.specs.List.{FoldsTo}
+use Rattle.std.proofs.lemmas.Fn.{FoldsTo-push}
+use Rattle.std.proofs.lemmas.Iterator.Consumers.{YieldsList-at, YieldsList-end}
+use Rattle.std.proofs.lemmas.Iterator.Splits.{YieldsList-from_str_split}
+use Rattle.std.proofs.lemmas.List.{map-append}
+use Rattle.row_files.specs.Rows.{AddsNumber}
+use Rattle.row_files.proofs.rows.numbers.Goals as goal
+
+pub loop-word-preserved : goal.loop-word-preserved
+loop-word-preserved c =
+    rw (map-append (λ (x : Bor (List ℕ)). x.now) c.loop-word.yielded (c.in-Some.word ∷ []))
+    (FoldsTo-push AddsNumber [] (map (λ x. x.now) c.loop-word.yielded) c.loop-word.all.items c.in-Some.word.now
+    c.push_number.new.all.items
+    c.loop-word.invariant c.in_ok-push_number.ensures)
+
+pub returns : goal.returns
+returns c =
+    let road =
+    YieldsList-at c.into_iter-word-iterator.ensures.into_iter_gives
+    (YieldsList-from_str_split 32 c.args.text.now (lit< tt) c.split-word-items.ensures.text
+    c.split-word-items.ensures.has_more c.split-word-items.ensures.pattern) in
+    let all = YieldsList-end road c.loop-word.yielded _ c.loop-word.yielded_by _ _ c.in-None.is c.next.ensures.steps in
+    let Are : List (List ℕ) → Type 0 = λ parts. FoldsTo AddsNumber [] parts c.loop-word.all.items in
+    subst Are all.0 c.loop-word.invariant

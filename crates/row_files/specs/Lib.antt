@@ -1,0 +1,4 @@
+pub mod Cases
+pub mod Lines
+pub mod Rows
+pub mod Sections

@@ -1,0 +1,4 @@
+pub mod Rows
+pub mod Sent
+pub mod Stepping
+pub mod Trials

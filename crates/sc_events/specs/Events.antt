@@ -1,0 +1,117 @@
+-- The events of scripts, and the values that write them: records whose label is a symbol.
+use Rattle.std.specs.Prelude.{◌≡◌, ◌≢◌, ℕ, ◌^◌, zero, suc, pos, Bool, true, false, ◌&&◌, not, nat_lt, nat_le, List}
+use Rattle.std.specs.Prelude.{codes}
+use Rattle.std.specs.Prelude.{Option, Some, None, is_some, option_map, if◌then◌else◌}
+use Rattle.pv_value.specs.Plain.{Plain, integer, string, byte_string, symbol, record_of, sequence, Plains, no_more}
+use Rattle.pv_value.specs.Plain.{then_more}
+use Rattle.dp_pattern.specs.Words.{is_word}
+use Rattle.dp_pattern.specs.Written.{pattern_of}
+use Rattle.sr_caveat.specs.Embedded.{has_embedded}
+pub use Rattle.sc_events.specs.declared.events.ScriptEvent.{ScriptEvent}
+pub use Rattle.sc_events.specs.declared.events.ScriptEvent.TheVariants.{Open, Bytes, Close, Turn, Drain, LongDrain}
+pub use Rattle.sc_events.specs.declared.events.ScriptEvent.TheVariants.{Schema, Unbuilt}
+
+-- ---- numbers
+
+-- the number that a value is, where it is below a bound
+abbrev pub number_below : ℕ → Plain → Option ℕ
+number_below bound (integer (pos n)) = if nat_lt n bound then Some n else None
+number_below bound v = None
+
+-- a connection or an actor
+abbrev pub name_in : Plain → Option ℕ
+name_in v = number_below (2 ^ 32) v
+
+-- a dataspace
+abbrev pub space_in : Plain → Option ℕ
+space_in (integer (pos (suc n))) = if nat_lt n 8 then Some (suc n) else None
+space_in v = None
+
+-- ---- events with one field
+
+-- `<open s>`; the gatekeeper, 0, isn't built
+abbrev pub open_event : Plain → Option ScriptEvent
+open_event (integer (pos zero)) = Some Unbuilt
+open_event v = option_map Open (space_in v)
+
+abbrev pub close_event : Plain → Option ScriptEvent
+close_event v = option_map Close (name_in v)
+
+abbrev pub turn_event : Plain → Option ScriptEvent
+turn_event v = option_map Turn (name_in v)
+
+-- `<drain n>`, n up to 1,000,000, or more
+abbrev pub drain_event : Plain → Option ScriptEvent
+drain_event (integer (pos n)) = if nat_le n 1000000 then Some (Drain n) else Some LongDrain
+drain_event v = None
+
+abbrev pub schema_event : Plain → Option ScriptEvent
+schema_event (string s) = Some Schema
+schema_event v = None
+
+abbrev pub event_of_one : List ℕ → Plain → Option ScriptEvent
+event_of_one word f =
+    if is_word word (codes "open") then open_event f
+    else if is_word word (codes "close") then close_event f
+    else if is_word word (codes "step") then turn_event f
+    else if is_word word (codes "drain") then drain_event f
+    else if is_word word (codes "schema") then schema_event f else None
+
+-- ---- events with two
+
+abbrev pub bytes_event : Plain → Plain → Option ScriptEvent
+bytes_event v (byte_string b) = option_map (λ k. Bytes k b) (name_in v)
+bytes_event v w = None
+
+abbrev pub event_of_two : List ℕ → Plain → Plain → Option ScriptEvent
+event_of_two word f g = if is_word word (codes "bytes") then bytes_event f g else None
+
+-- ---- events with four, which aren't built
+
+abbrev pub is_byte_string : Plain → Bool
+is_byte_string (byte_string b) = true
+is_byte_string v = false
+
+abbrev pub is_sequence : Plain → Bool
+is_sequence (sequence xs) = true
+is_sequence v = false
+
+abbrev pub is_symbol : Plain → Bool
+is_symbol (symbol s) = true
+is_symbol v = false
+
+-- `<bind oid key space caveats>`
+abbrev pub is_binding : Plain → Plain → Plain → Plain → Bool
+is_binding oid key space caveats =
+    not (has_embedded oid) && is_byte_string key && is_some (space_in space) && is_sequence caveats
+    && not (has_embedded caveats)
+
+-- `<watch from pattern to name>`
+abbrev pub is_watch : Plain → Plain → Plain → Plain → Bool
+is_watch from pattern to name =
+    is_some (space_in from) && not (has_embedded pattern) && is_some (pattern_of pattern) && is_some (space_in to)
+    && is_symbol name
+
+abbrev pub unbuilt_where : Bool → Option ScriptEvent
+unbuilt_where b = if b then Some Unbuilt else None
+
+abbrev pub event_of_four : List ℕ → Plain → Plain → Plain → Plain → Option ScriptEvent
+event_of_four word f g h i =
+    if is_word word (codes "bind") then unbuilt_where (is_binding f g h i)
+    else if is_word word (codes "watch") then unbuilt_where (is_watch f g h i) else None
+
+-- ---- the event that a value writes, where it writes one
+
+abbrev pub event_of_record : List ℕ → Plains → Option ScriptEvent
+event_of_record word (then_more f no_more) = event_of_one word f
+event_of_record word (then_more f (then_more g no_more)) = event_of_two word f g
+event_of_record word (then_more f (then_more g (then_more h (then_more i no_more)))) = event_of_four word f g h i
+event_of_record word fs = None
+
+abbrev pub event_of : Plain → Option ScriptEvent
+event_of (record_of (symbol word) fs) = event_of_record word fs
+event_of v = None
+
+-- an event that opens a connection names a dataspace
+abbrev pub NamesASpace : ScriptEvent → Type 0
+NamesASpace e = (s : ℕ) → e ≡ Open s → s ≢ 0

@@ -1,0 +1,5 @@
+pub mod Events
+pub mod Inputs
+pub mod Lemmas
+pub mod Readings
+pub mod TextInputs
