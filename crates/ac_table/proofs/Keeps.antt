@@ -15,7 +15,7 @@ use Rattle.ac_table.specs.Kept.{state_of}
 use Rattle.ac_table.specs.declared.table.Seat.{Seat}
 use Rattle.ac_table.proofs.Changes.{values-push}
 use Rattle.ac_table.proofs.Finding.{is_at_same, is_live-seen}
-use Rattle.ac_table.proofs.Lists.{all_weaker, all_push, all_filter}
+use Rattle.ac_table.specs.Lemmas.Lists.{all_weaker, all_push, all_filter}
 use Rattle.ac_table.proofs.Removing.{Ascend, ascend_from, values_from, keyed_from, rows_of-without_other}
 use Rattle.ac_table.proofs.Removing.{handles-without}
 

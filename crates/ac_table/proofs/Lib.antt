@@ -3,7 +3,6 @@ pub mod Changes
 pub mod Counting
 pub mod Finding
 pub mod Keeps
-pub mod Lists
 pub mod Lowest
 pub mod Removing
 pub mod Taking

@@ -11,14 +11,7 @@ use Rattle.ac_world.specs.declared.spreads.Spread.{Spread}
 use Rattle.ac_world.specs.Outboxes.{Plan, plan_over, committed}
 use Rattle.ac_world.specs.Worlds.{WorldState, Seat, Deliveries, no_seat, entry_of, with_entry, all_delivered}
 use Rattle.ac_world.specs.Turns.{Turning, begin_turn, all_turned, deliver, space_turn}
-use Rattle.ac_world.specs.Lemmas.Entries.{put_back}
-
-pub back : {X : Type 0} (a : ℕ) (x y : X) (old less new : List (ℕ × X)) → IsStrictlySortedBy nat_cmp (keys_of old)
-    → less ≡ remove_entry (is_at (nat_cmp a)) old → new ≡ insert_entry nat_cmp less a x → x ≡ y
-    → new ≡ with_entry a y old
-back {X = X} a x y old less new ascend less_is is same =
-    is ∙ ap (λ (es : List (ℕ × X)). insert_entry nat_cmp es a x) less_is ∙ put_back a x old ascend
-    ∙ ap (λ (z : X). insert_entry nat_cmp old a z) same
+use Rattle.ac_world.specs.Lemmas.Entries.{back}
 
 pub deliver_is : (a : ℕ) (es : List Event) (w : WorldState) (less new : List (ℕ × Deliveries))
     (taken : Option Deliveries) (was got : Deliveries) → IsStrictlySortedBy nat_cmp (keys_of w.held)

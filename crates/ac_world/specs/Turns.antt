@@ -9,7 +9,7 @@ use Rattle.pv_value.specs.Plain.{Plain, boolean, record_of, sequence, embedded, 
 use Rattle.pv_value.specs.Order.{order}
 use Rattle.sr_caveat.specs.declared.caps.Cap.{Cap}
 use Rattle.sr_caveat.specs.Caps.{cap_of}
-use Rattle.sr_caveat.specs.Passing.{passed, no_names}
+use Rattle.sr_pass.specs.Passing.{passed, no_names}
 use Rattle.ds_space.specs.Spaces.{Rows, changed, has_row}
 use Rattle.ds_space.specs.declared.space.SpaceEvent.{SpaceEvent}
 use Rattle.ds_space.specs.declared.space.SpaceEvent.TheVariants.{Add, Gone}

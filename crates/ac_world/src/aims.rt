@@ -4,7 +4,8 @@ ghost use Rattle.ac_world.specs.Turns.{aim_by, aim_at, observer_in, aim_for, aim
 
 use ds_space::Reference;
 use pv_value::{NoMemory, Node, Value};
-use sr_caveat::{Cap, NoNames, pass};
+use sr_caveat::Cap;
+use sr_pass::{NoNames, pass};
 use std::alloc::Global;
 
 /// What is to be told, and at which object.

@@ -33,8 +33,6 @@
 
 ghost use Rattle.std.specs.Prelude.{◌≤◌};
 
-mod runs;
-
 use row_cases::{Fault, Findings, Tally, judge_table, one_difference};
 use std::alloc::{AllocError, Global};
 use std::process::ExitCode;
@@ -146,7 +144,7 @@ fn findings_in(
 
 fn judge(alloc: Global, folder: &str, name: &str, text: &str) -> Result<Findings, Fault> {
     match folder {
-        "rows" => Ok(runs::judge_file(alloc, text)?),
+        "rows" => Ok(row_runs::judge_file(alloc, text)?),
         "steps" => Ok(row_steps::judge_file(alloc, text)?),
         _ => judge_table(alloc, name, text),
     }

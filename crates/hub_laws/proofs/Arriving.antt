@@ -9,7 +9,7 @@ use Rattle.pv_value.specs.Plain.{Plain}
 use Rattle.ac_table.specs.declared.batches.Row.{Row}
 use Rattle.ac_table.specs.declared.batches.Batch.{Batch}
 use Rattle.ac_table.specs.Tables.{Actor, find_actor, is_live}
-use Rattle.ac_table.proofs.Lists.{all_weaker}
+use Rattle.ac_table.specs.Lemmas.Lists.{all_weaker}
 use Rattle.ac_world.specs.Worlds.{WorldState, Deliveries, seat_of, held_by, entry_of, is_space, actor_of, arrived}
 use Rattle.ac_world.specs.Lemmas.Entries.{put_found, put_other, ascend_none, ascend_with}
 use Rattle.rl_ports.specs.Ports.{PortsState, ports_to}

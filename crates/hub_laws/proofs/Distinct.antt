@@ -10,7 +10,7 @@ use Rattle.std.proofs.lemmas.List.Sorted.{IsPermutation-sym, IsPermutation-trans
 use Rattle.std.proofs.lemmas.Map.Keys.{IsDistinct-head, IsDistinct-tail, IsDistinct-cons}
 use Rattle.std.proofs.lemmas.Map.Views.{All-from_any, any-filter_same}
 use Rattle.ds_space.specs.Lemmas.Keys.{any_flat}
-use Rattle.ac_table.proofs.Lists.{all_filter, all_weaker}
+use Rattle.ac_table.specs.Lemmas.Lists.{all_filter, all_weaker}
 use Rattle.ac_world.specs.Lemmas.Entries.{all_append}
 
 -- ---- filters

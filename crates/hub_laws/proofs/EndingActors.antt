@@ -11,7 +11,7 @@ use Rattle.ac_table.specs.declared.batches.Row.{Row}
 use Rattle.ac_table.specs.declared.batches.Event.TheVariants.{Retract}
 use Rattle.ac_table.specs.Tables.{TableState, Actor, IsTable, find_actor, find_row, is_live, ended, handles, rows_of}
 use Rattle.ac_table.specs.Tables.{rows_of_others, without_row}
-use Rattle.ac_table.proofs.Lists.{all_filter}
+use Rattle.ac_table.specs.Lemmas.Lists.{all_filter}
 use Rattle.ac_world.specs.Outboxes.{Outbox, Plan, plan_over, drop_row, drop_own, told, told_to, retractions}
 use Rattle.ac_world.specs.Lemmas.Entries.{KeysAscend, AreAbove, all_append, ascend_none, ascend_with}
 use Rattle.hub_laws.proofs.Kept.{FitsEvent, Moves}

@@ -11,7 +11,7 @@ use Rattle.pv_value.specs.Plain.{Plain}
 use Rattle.ac_table.specs.declared.batches.Row.{Row}
 use Rattle.ac_table.specs.Tables.{TableState, IsTable, find_row, handles, is_live, asserted, retracted, without_row}
 use Rattle.ac_table.specs.Tables.{rows_of_others}
-use Rattle.ac_table.proofs.Lists.{all_filter, all_weaker}
+use Rattle.ac_table.specs.Lemmas.Lists.{all_filter, all_weaker}
 use Rattle.ac_world.specs.Lemmas.Entries.{AreAbove, all_append, ascend_cons, ascend_push}
 
 abbrev pub Ascend : List Row → Type 0

@@ -20,7 +20,7 @@ use Rattle.rl_packet.specs.declared.holding.Holding.{Holding}
 use Rattle.ac_table.specs.declared.batches.Row.{Row}
 use Rattle.ac_table.specs.declared.batches.Batch.{Batch}
 use Rattle.ac_table.specs.Tables.{TableState, Actor, IsTable, find_actor, is_live, waiting_in}
-use Rattle.ac_table.proofs.Lists.{all_weaker}
+use Rattle.ac_table.specs.Lemmas.Lists.{all_weaker}
 use Rattle.ac_world.specs.Worlds.{WorldState, seat_of, held_by, is_space, actor_of}
 use Rattle.ac_world.specs.declared.held.Held.{Held}
 use Rattle.hub_machine.specs.State.{State, opening}

@@ -7,7 +7,7 @@ use Rattle.ac_table.specs.declared.batches.Row.{Row}
 use Rattle.ac_table.specs.declared.batches.Event.{Event}
 use Rattle.ac_table.specs.declared.batches.Event.TheVariants.{Assert, Retract, Message, Sync}
 use Rattle.ac_table.specs.Tables.{TableState, find_row, without_row}
-use Rattle.ac_table.proofs.Lists.{all_filter}
+use Rattle.ac_table.specs.Lemmas.Lists.{all_filter}
 use Rattle.ac_world.specs.Outboxes.{Outbox, Plan, drop_row, drop_own, told_to, told}
 use Rattle.ac_world.specs.Lemmas.Entries.{all_append}
 use Rattle.hub_laws.proofs.Kept.{made_in, IsOwnedBy, FitsEvent, Moves, AreGood}

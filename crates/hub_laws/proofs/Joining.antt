@@ -7,7 +7,7 @@ use Rattle.std.specs.Ordering.{nat_cmp}
 use Rattle.std.proofs.lemmas.Bool.Decides.{nat_tests}
 use Rattle.std.proofs.lemmas.Map.Keys.{sorted_head, sorted_tail}
 use Rattle.ac_table.specs.Tables.{TableState, Actor, IsTable, find_actor, is_live, placed, joined}
-use Rattle.ac_table.proofs.Lists.{all_weaker}
+use Rattle.ac_table.specs.Lemmas.Lists.{all_weaker}
 use Rattle.ac_world.specs.Lemmas.Entries.{above_lower, ascend_cons, ascend_none}
 
 -- a number above all others is nobody's

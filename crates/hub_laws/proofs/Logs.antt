@@ -19,7 +19,7 @@ use Rattle.ds_space.specs.Fans.{fan_weight}
 use Rattle.ac_table.specs.declared.batches.Event.{Event}
 use Rattle.ac_table.specs.declared.batches.Event.TheVariants.{Assert, Retract, Message, Sync}
 use Rattle.ac_table.specs.declared.batches.Batch.{Batch}
-use Rattle.ac_table.proofs.Lists.{cmp_above}
+use Rattle.ac_table.specs.Lemmas.Lists.{cmp_above}
 use Rattle.ac_world.specs.declared.aims.Aim.{Aim}
 use Rattle.ac_world.specs.Turns.{Turning, aim_of, came_at, changed_by, all_changed, changes, with_rows, regot}
 use Rattle.ac_world.specs.Turns.{taken_in, passed_on, turned_by, all_turned}

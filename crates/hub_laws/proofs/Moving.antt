@@ -12,7 +12,7 @@ use Rattle.ac_table.specs.declared.batches.Row.{Row}
 use Rattle.ac_table.specs.declared.batches.Event.{Event}
 use Rattle.ac_table.specs.declared.batches.Event.TheVariants.{Assert, Retract, Message, Sync}
 use Rattle.ac_table.specs.Tables.{TableState, Actor, find_row, find_actor, without_row}
-use Rattle.ac_table.proofs.Lists.{all_weaker}
+use Rattle.ac_table.specs.Lemmas.Lists.{all_weaker}
 use Rattle.ac_world.specs.Outboxes.{Outbox, Plan, drop_row, drop_own, told_to, told}
 use Rattle.ac_world.specs.Worlds.{entry_of, with_entry}
 use Rattle.ac_world.specs.Lemmas.Entries.{entry_of_with, entry_of_without, all_append, ascend_none, ascend_push}

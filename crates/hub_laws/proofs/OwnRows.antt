@@ -14,7 +14,7 @@ use Rattle.dp_pattern.specs.Matching.{same}
 use Rattle.ds_space.specs.Lemmas.Keys.{same_is, same_self, same_turns}
 use Rattle.ac_table.specs.declared.batches.Row.{Row}
 use Rattle.ac_table.specs.Tables.{find_row, handles}
-use Rattle.ac_table.proofs.Lists.{all_filter, all_weaker}
+use Rattle.ac_table.specs.Lemmas.Lists.{all_filter, all_weaker}
 use Rattle.ac_world.specs.Turns.{handle_for}
 use Rattle.ac_world.specs.Worlds.{actor_of}
 use Rattle.hub_laws.specs.Scratch.{Pair, pair_at}

@@ -10,7 +10,7 @@ use Rattle.std.proofs.lemmas.Map.Keys.{sorted_head, sorted_tail}
 use Rattle.ac_table.specs.declared.batches.Batch.{Batch}
 use Rattle.ac_table.specs.Tables.{TableState, Actor, IsTable, find_actor, is_live, with_inbox, pushed, popped}
 use Rattle.ac_table.specs.Tables.{first_batch}
-use Rattle.ac_table.proofs.Lists.{all_weaker}
+use Rattle.ac_table.specs.Lemmas.Lists.{all_weaker}
 use Rattle.ac_world.specs.Outboxes.{Outbox, told_to, posted}
 use Rattle.ac_world.specs.Worlds.{entry_of}
 use Rattle.ac_world.specs.Lemmas.Entries.{AreAbove, entry_of_above}

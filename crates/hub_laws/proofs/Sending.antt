@@ -13,7 +13,7 @@ use Rattle.ac_table.specs.declared.batches.Event.{Event}
 use Rattle.ac_table.specs.declared.batches.Event.TheVariants.{Assert, Retract, Message, Sync}
 use Rattle.ac_table.specs.declared.batches.Batch.{Batch}
 use Rattle.ac_table.specs.Tables.{Actor, find_actor, is_live, lowest, first_batch}
-use Rattle.ac_table.proofs.Lists.{all_weaker}
+use Rattle.ac_table.specs.Lemmas.Lists.{all_weaker}
 use Rattle.ac_world.specs.declared.turns.Turned.TheVariants as turned
 use Rattle.ac_world.specs.Turns.{After as TurnOf, deliver, turn_with, turn_first}
 use Rattle.ac_world.specs.Worlds.{WorldState, held_by, entry_of, is_space, is_system, actor_of, all_delivered, arrived}

@@ -14,7 +14,7 @@ use Rattle.ac_table.specs.declared.batches.Event.{Event}
 use Rattle.ac_table.specs.declared.batches.Event.TheVariants.{Assert, Retract, Message, Sync}
 use Rattle.ac_table.specs.declared.batches.Batch.{Batch}
 use Rattle.ac_table.specs.Tables.{TableState, IsTable, find_row, handles}
-use Rattle.ac_table.proofs.Lists.{all_weaker}
+use Rattle.ac_table.specs.Lemmas.Lists.{all_weaker}
 use Rattle.ac_world.specs.Outboxes.{Plan, told_to}
 use Rattle.ac_world.specs.Worlds.{entry_of}
 use Rattle.ac_world.specs.Lemmas.Entries.{all_append, ascend_cons}

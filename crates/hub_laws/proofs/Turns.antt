@@ -15,7 +15,7 @@ use Rattle.ac_table.specs.declared.batches.Row.{Row}
 use Rattle.ac_table.specs.declared.batches.Batch.{Batch}
 use Rattle.ac_table.specs.Tables.{TableState, Actor, find_actor, find_row, is_live, first_batch, first_in}
 use Rattle.ac_table.specs.Tables.{popped}
-use Rattle.ac_table.proofs.Lists.{all_weaker}
+use Rattle.ac_table.specs.Lemmas.Lists.{all_weaker}
 use Rattle.ac_world.specs.Turns.{After as TurnOf, Turning, begin_turn, all_turned, space_turn}
 use Rattle.ac_world.specs.Worlds.{WorldState, Seat, seat_of, held_by, with_entry, is_space}
 use Rattle.ac_world.specs.Worlds.{no_seat}

@@ -18,7 +18,7 @@ use Rattle.ds_space.specs.declared.references.Reference.{Reference}
 use Rattle.ds_space.specs.References.{reference_of, is_observers}
 use Rattle.sr_caveat.specs.declared.caps.Cap.{Cap}
 use Rattle.sr_caveat.specs.Caps.{cap_of}
-use Rattle.sr_caveat.specs.Passing.{passed, no_names}
+use Rattle.sr_pass.specs.Passing.{passed, no_names}
 use Rattle.sr_caveat.specs.Lemmas.Capped.{cap_is, cap_sound}
 use Rattle.ds_space.specs.Wants.{is_observer, observer_of, key_of, wants}
 use Rattle.ds_space.specs.Changes.{among, without}

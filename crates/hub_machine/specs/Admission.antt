@@ -18,7 +18,7 @@ use Rattle.rl_packet.specs.declared.packets.Event.TheVariants.{Assert, Retract, 
 use Rattle.rl_packet.specs.declared.packets.TurnEvent.{TurnEvent}
 use Rattle.sr_caveat.specs.declared.caps.Cap.{Cap}
 use Rattle.sr_caveat.specs.Caps.{cap_of}
-use Rattle.sr_caveat.specs.Passing.{passed, no_names}
+use Rattle.sr_pass.specs.Passing.{passed, no_names}
 use Rattle.rl_wire.specs.Crossing.{crossed_in, fault_in}
 use Rattle.rl_wire.specs.declared.faults.WireFault.{WireFault}
 use Rattle.rl_wire.specs.declared.faults.WireFault.TheVariants as wire

@@ -10,7 +10,7 @@ use Rattle.rl_packet.specs.Wired.{IsTurnEvent}
 use Rattle.rl_ports.specs.Ports.{PortsState}
 use Rattle.sr_caveat.specs.declared.caps.Cap.{Cap}
 use Rattle.sr_caveat.specs.Caps.{cap_of}
-use Rattle.sr_caveat.specs.Passing.{passed, no_names}
+use Rattle.sr_pass.specs.Passing.{passed, no_names}
 use Rattle.hub_machine.specs.State.{State}
 use Rattle.hub_machine.specs.Admission.{Admitting, admission, admitted}
 use Rattle.hub_machine.specs.Endings.{nameless, departed}

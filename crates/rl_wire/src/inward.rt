@@ -12,19 +12,8 @@ use crate::wires::{Wire, caveats_in, wire_of, with_caveats};
 use ds_space::{Reference, reference_value};
 use pv_value::{NoMemory, Value, depth, weight};
 use rl_ports::Ports;
+use sr_caveat::{REFERENCE_CAVEATS, REFERENCE_WEIGHT, VALUE_DEPTH, VALUE_WEIGHT};
 use std::alloc::Global;
-
-/// The most caveats of a reference.
-const CAVEATS: usize = 32;
-
-/// The most that a reference weighs.
-const REFERENCE_WEIGHT: u64 = 65_536;
-
-/// The most that a value weighs, as the server keeps it.
-const WEIGHT: u64 = 1_048_576;
-
-/// How deep a value nests at most.
-const DEPTH: u32 = 48;
 
 /// The way in of what an actor's connection sent.
 #[derive(Drop)]
@@ -127,7 +116,7 @@ fn reference_fault(reference: &Value) -> Option<WireFault>
     ensures { result ≡ reference_fault reference.now }
 {
     let count = caveats_in(reference).len();
-    if count > CAVEATS {
+    if count > REFERENCE_CAVEATS {
         return Some(WireFault::Limit(8, count as u64));
     }
     let weight = weight(reference);
@@ -143,11 +132,11 @@ fn check_size(value: &Value) -> Result<(), WireFault>
     ensures fault { IfErr result (λ f. size_fault value.now ≡ Some f) }
 {
     let weight = weight(value);
-    if weight > WEIGHT {
+    if weight > VALUE_WEIGHT {
         return Err(WireFault::Limit(6, weight));
     }
     let depth = depth(value);
-    if depth > DEPTH {
+    if depth > VALUE_DEPTH {
         return Err(WireFault::Limit(7, u64::from(depth)));
     }
     Ok(())

@@ -1,6 +1,5 @@
 pub mod Expanding
 pub mod Joining
 pub mod Fronting
-pub mod Judging
 pub mod Parting
 pub mod Telling

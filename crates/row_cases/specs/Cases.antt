@@ -1,13 +1,11 @@
 -- The cases of a table: the lines of its text that are neither empty nor comments, and when one passes.
-use Rattle.std.specs.Prelude.{◌≡◌, ℕ, ◌==◌, ◌&&◌, ◌++◌, not, Bool, true, false, List, length, codes, nat_eq, ◌⊎◌}
+use Rattle.std.specs.Prelude.{◌≡◌, ℕ, ◌==◌, ◌&&◌, ◌++◌, not, Bool, true, List, length, codes, nat_eq}
 use Rattle.std.specs.Fmt.{decimal}
 use Rattle.std.specs.List.{slice_split, starts_with}
 use Rattle.std.specs.Str.{bytes_eq}
 use Rattle.std.specs.Str.Pattern.{FindsText, FindsCharPrefix, FindsCharSuffix, SplitsAroundMatch, IsTrimMatches}
-use Rattle.std.specs.declared.alloc.Global.{Global}
-use Rattle.std.specs.declared.string.String.{String}
 use Rattle.row_cases.specs.Answers.{IsSameAnswer}
-use Rattle.row_cases.specs.Findings.{HasPassed, Differs}
+use Rattle.row_cases.specs.Findings.{IsNoted}
 use Rattle.row_cases.specs.Forms.{IsIn}
 use Rattle.row_cases.specs.Tables.{given_form, IsWanted, Gives}
 use Rattle.row_cases.specs.declared.codecs.Answer.{Answer}
@@ -45,12 +43,9 @@ Passes table line = (given : List ℕ) × (wanted : List ℕ) × AreSides line g
 abbrev pub LinePasses : Table → List ℕ → Type 0
 LinePasses table line = is_case line ≡ true → Passes table line
 
--- after a line nothing more is found where it is no case; else it passes and is counted, or one difference more is told
+-- what is noted of a line
 abbrev pub IsJudged : Table → List ℕ → Findings → Findings → Type 0
-IsJudged table line old new =
-    ((is_case line ≡ false) × (new ≡ old))
-    ⊎ (((is_case line ≡ true) × Passes table line × HasPassed old new)
-    ⊎ ((is_case line ≡ true) × (s : String Global) × Differs old new s))
+IsJudged table line old new = IsNoted (is_case line) (LinePasses table line) old new
 
 -- what is told of a case that doesn't: its place, its line, and why
 abbrev pub case_told : ℕ → List ℕ → List ℕ → List ℕ

@@ -10,6 +10,8 @@ use Rattle.row_cases.specs.Calls.{AreWritten}
 use Rattle.row_cases.specs.declared.faults.Fault.{Fault}
 use Rattle.row_cases.specs.declared.spelling.Form.{Form}
 use Rattle.row_cases.specs.declared.spelling.Form.TheVariants.{Text, Hex, Values}
+use Rattle.row_cases.specs.declared.spelling.Marked.{Marked}
+use Rattle.row_cases.specs.declared.spelling.Marked.TheVariants.{Repetition, Packet}
 
 -- the form that a word names
 abbrev pub form_named : List ℕ → Option Form
@@ -56,29 +58,41 @@ AreEscaped (first ∷ parts) bytes = (rest : List ℕ) × PartByPart IsEscape pa
 abbrev pub IsEscaped : List ℕ → List ℕ → Type 0
 IsEscaped body bytes = AreEscaped (slice_split (λ b. b == 37) body) bytes
 
--- ---- brackets
+-- ---- marks
 
--- what stands between the opening and the next closing is shown so, and what follows that likewise
-pub data IsExpanded (opening closing : List ℕ) (IsShown : List ℕ → List ℕ → Type 0)
-    : List ℕ → List ℕ → Type 0 where
-  unopened : (body : List ℕ) → FindsText opening body None → IsExpanded opening closing IsShown body body
-  opened : (body front behind inside after shown expanded : List ℕ)
-      → SplitsAroundMatch (FindsText opening) body front behind
-      → SplitsAroundMatch (FindsText closing) behind inside after
-      → IsShown inside shown → IsExpanded opening closing IsShown after expanded
-      → IsExpanded opening closing IsShown body (front ++ (shown ++ expanded))
-
--- N and a text behind a blank: the text so often, which has no repetition in it
+-- N and a text behind a blank: the text so often, which opens no repetition
 abbrev pub IsRepetition : List ℕ → List ℕ → Type 0
 IsRepetition inside shown =
     (count : List ℕ) × (text : List ℕ) × (n : ℕ) × SplitsAroundMatch (FindsChar 32) inside count text
-    × ParsesUnsigned {E = Fault} 32 10 count (Ok n) × (shown ≡ repeat n text)
+    × FindsText (codes "%(") text None × ParsesUnsigned {E = Fault} 32 10 count (Ok n) × (shown ≡ repeat n text)
 
 -- values: their written spellings as a byte string in hexadecimal
 abbrev pub IsPacked : List ℕ → List ℕ → Type 0
 IsPacked inside shown =
     (text : List ℕ) × (bytes : List ℕ) × IsEscaped inside text × AreWritten text bytes
     × (shown ≡ codes "#x\"" ++ (encode_lower bytes ++ codes "\""))
+
+abbrev pub opening : Marked → List ℕ
+opening Repetition = codes "%("
+opening Packet = codes "%["
+
+abbrev pub closing : Marked → List ℕ
+closing Repetition = codes "%)"
+closing Packet = codes "%]"
+
+-- what stands for what is between two marks
+abbrev pub IsShown : Marked → List ℕ → List ℕ → Type 0
+IsShown Repetition inside shown = IsRepetition inside shown
+IsShown Packet inside shown = IsPacked inside shown
+
+-- what stands between the opening and the next closing is shown so, and what follows that likewise
+pub data IsExpanded (marked : Marked) : List ℕ → List ℕ → Type 0 where
+  unopened : (body : List ℕ) → FindsText (opening marked) body None → IsExpanded marked body body
+  opened : (body front behind inside after shown expanded : List ℕ)
+      → SplitsAroundMatch (FindsText (opening marked)) body front behind
+      → SplitsAroundMatch (FindsText (closing marked)) behind inside after
+      → IsShown marked inside shown → IsExpanded marked after expanded
+      → IsExpanded marked body (front ++ (shown ++ expanded))
 
 -- ---- bodies
 
@@ -92,5 +106,4 @@ IsPlainly Values body bytes = (text : List ℕ) × IsEscaped body text × AreWri
 abbrev pub IsIn : Form → List ℕ → List ℕ → Type 0
 IsIn form body bytes =
     (repeated : List ℕ) × (packed : List ℕ)
-    × IsExpanded (codes "%(") (codes "%)") IsRepetition body repeated
-    × IsExpanded (codes "%[") (codes "%]") IsPacked repeated packed × IsPlainly form packed bytes
+    × IsExpanded Repetition body repeated × IsExpanded Packet repeated packed × IsPlainly form packed bytes

@@ -1,14 +1,16 @@
 //! Bytes as a person writes them: as text, in hexadecimal, or as values.
-ghost use Rattle.std.specs.Prelude.{◌≡◌, ◌++◌, ℕ, List, codes, IfOk, OnOk, string_bytes};
+ghost use Rattle.std.specs.Prelude.{◌≡◌, ◌++◌, ℕ, List, IfOk, OnOk, string_bytes};
 ghost use Rattle.std.specs.List.{repeat};
 ghost use Rattle.std.specs.Str.Parse.{ParsesUnsigned};
 ghost use Rattle.row_cases.specs.Calls.{AreWritten};
-ghost use Rattle.row_cases.specs.Forms.{form_named, IsIn, IsPlainly, IsExpanded, IsRepetition};
-ghost use Rattle.row_cases.specs.Forms.{IsPacked, IsEscaped, IsEscape, IsPart, AreDigits, AreLines};
+ghost use Rattle.row_cases.specs.Forms.{form_named, IsIn, IsPlainly, opening, closing, IsShown};
+ghost use Rattle.row_cases.specs.Forms.{IsExpanded, IsRepetition, IsPacked, IsEscaped, IsEscape, IsPart, AreDigits, AreLines};
 
 use crate::codecs::{Answer, written};
 use crate::faults::Fault;
 use std::alloc::Global;
+
+const NO_REPETITION: Fault = Fault::Form("%( isn't followed by a number, a blank and %)");
 
 /// How bytes are written.
 #[derive(Clone, Copy)]
@@ -37,8 +39,8 @@ pub fn find_form(word: &str) -> Option<Form>
 pub fn bytes_in(alloc: Global, form: Form, body: &str) -> Result<Vec<u8>, Fault>
     ensures { IfOk result (λ bytes. IsIn form body.now bytes.items) }
 {
-    let body = repeated(alloc, body)?;
-    let body = with_packets(alloc, body.as_str())?;
+    let body = expanded(alloc, Marked::Repetition, body)?;
+    let body = expanded(alloc, Marked::Packet, body.as_str())?;
     plain_bytes_in(alloc, form, body.as_str())
 }
 
@@ -53,19 +55,66 @@ fn plain_bytes_in(alloc: Global, form: Form, body: &str) -> Result<Vec<u8>, Faul
     }
 }
 
-/// `TEXT` so often for each `%(N TEXT%)`.
-fn repeated(alloc: Global, body: &str) -> Result<String, Fault>
-    ensures { IfOk result (λ out. IsExpanded (codes "%(") (codes "%)") IsRepetition body.now
-        (string_bytes out)) }
+/// What may stand between two marks of a body.
+#[derive(Clone, Copy)]
+enum Marked {
+    /// `%(N TEXT%)`: the text so often.
+    Repetition,
+    /// `%[VALUES%]`: a byte string of the written spellings.
+    Packet,
+}
+
+impl Marked {
+    fn opening(self) -> &'static str
+        ensures { result.now ≡ opening self }
+    {
+        match self {
+            Marked::Repetition => "%(",
+            Marked::Packet => "%[",
+        }
+    }
+
+    fn closing(self) -> &'static str
+        ensures { result.now ≡ closing self }
+    {
+        match self {
+            Marked::Repetition => "%)",
+            Marked::Packet => "%]",
+        }
+    }
+
+    /// Why what stands behind the opening isn't closed.
+    fn unclosed(self) -> Fault {
+        match self {
+            Marked::Repetition => NO_REPETITION,
+            Marked::Packet => Fault::Form("%[ isn't followed by %]"),
+        }
+    }
+
+    /// Appends what stands for what is between the marks.
+    fn push(self, alloc: Global, out: &mut String, inside: &str) -> Result<(), Fault>
+        ensures { OnOk result ((shown : List ℕ) × IsShown self inside.now shown
+            × (string_bytes out.new ≡ string_bytes out.old ++ shown)) }
+    {
+        match self {
+            Marked::Repetition => push_repetition(out, inside),
+            Marked::Packet => push_packet(alloc, out, inside),
+        }
+    }
+}
+
+/// The body with what its marks stand for in their place.
+fn expanded(alloc: Global, marked: Marked, body: &str) -> Result<String, Fault>
+    ensures { IfOk result (λ out. IsExpanded marked body.now (string_bytes out)) }
 {
     let mut out = String::new(alloc);
     let mut rest = body;
-    while let Some((front, behind)) = rest.split_once("%(") {
-        let Some((inside, after)) = behind.split_once("%)") else {
-            return Err(Fault::Form("%( isn't followed by a number, a blank and %)"));
+    while let Some((front, behind)) = rest.split_once(marked.opening()) {
+        let Some((inside, after)) = behind.split_once(marked.closing()) else {
+            return Err(marked.unclosed());
         };
         out.push_str(front)?;
-        push_repetition(&mut out, inside)?;
+        marked.push(alloc, &mut out, inside)?;
         rest = after;
     }
     out.push_str(rest)?;
@@ -78,7 +127,7 @@ fn push_repetition(out: &mut String, inside: &str) -> Result<(), Fault>
         × (string_bytes out.new ≡ string_bytes out.old ++ shown)) }
 {
     let Some((count, text)) = inside.split_once(' ') else {
-        return Err(Fault::Form("%( isn't followed by a number, a blank and %)"));
+        return Err(NO_REPETITION);
     };
     if text.contains("%(") {
         return Err(Fault::Form("a repetition in another"));
@@ -91,7 +140,7 @@ fn number(text: &str) -> Result<u32, Fault>
 {
     match text.parse() {
         Ok(n) => Ok(n),
-        Err(_) => Err(Fault::Form("%( isn't followed by a number, a blank and %)")),
+        Err(_) => Err(NO_REPETITION),
     }
 }
 
@@ -104,25 +153,6 @@ fn push_times(out: &mut String, count: u32, text: &str) -> Result<(), Fault>
         out.push_str(text)?;
     }
     Ok(())
-}
-
-/// A byte string of the written spellings for each `%[VALUES%]`.
-fn with_packets(alloc: Global, body: &str) -> Result<String, Fault>
-    ensures { IfOk result (λ out. IsExpanded (codes "%[") (codes "%]") IsPacked body.now
-        (string_bytes out)) }
-{
-    let mut out = String::new(alloc);
-    let mut rest = body;
-    while let Some((front, behind)) = rest.split_once("%[") {
-        let Some((inside, after)) = behind.split_once("%]") else {
-            return Err(Fault::Form("%[ isn't followed by %]"));
-        };
-        out.push_str(front)?;
-        push_packet(alloc, &mut out, inside)?;
-        rest = after;
-    }
-    out.push_str(rest)?;
-    Ok(out)
 }
 
 /// Appends a byte string of the written spellings of the values.

@@ -4,6 +4,7 @@ ghost use Rattle.std.specs.Prelude.{[], length, string_bytes, IsSomeAnd};
 ghost use Rattle.row_cases.specs.Tables.{table_named, given_form, IsWanted, Gives};
 ghost use Rattle.row_cases.specs.Cases.{lines_of, is_case, SidesPass, Passes, LinePasses};
 ghost use Rattle.row_cases.specs.Cases.{IsJudged, case_told};
+ghost use Rattle.row_cases.specs.Findings.{AreJudged};
 
 use crate::codecs::{
     Answer, binary_fronts, binary_stop, canonical, first_stop, first_value, later_stop, next_of,
@@ -158,10 +159,8 @@ pub fn judge_table(alloc: Global, name: &str, text: &str) -> Result<Findings, Fa
 }
 
 fn judge_cases(alloc: Global, table: Table, text: &str) -> Result<Findings, Fault>
-    ensures counted { IfOk result (λ found. found.passed + length found.differences.items
-        ≡ count_by is_case (lines_of text.now)) }
-    ensures passing { IfOk result (λ found. found.differences.items ≡ []
-        → All (LinePasses table) (lines_of text.now)) }
+    ensures { IfOk result (AreJudged is_case (lines_of text.now)
+        (All (LinePasses table) (lines_of text.now))) }
 {
     let mut findings = Findings::new(alloc);
     let mut place = 0usize;

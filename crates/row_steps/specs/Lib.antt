@@ -1,4 +1,3 @@
+pub mod Hands
 pub mod Rows
-pub mod Sent
 pub mod Stepping
-pub mod Trials

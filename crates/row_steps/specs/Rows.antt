@@ -1,52 +1,47 @@
 -- Rows of steps, and when their cases hold.
-use Rattle.std.specs.Prelude.{◌≡◌, ℕ, zero, suc, ◌++◌, true, false, List, codes, Option, Some, None, ◌⊎◌}
+use Rattle.std.specs.Prelude.{◌≡◌, ℕ, zero, suc, ◌++◌, true, List, codes, Option, Some, None, ◌⊎◌}
 use Rattle.std.specs.Fmt.{decimal}
 use Rattle.std.specs.List.{FoldsTo}
-use Rattle.std.specs.declared.alloc.Global.{Global}
-use Rattle.std.specs.declared.string.String.{String}
 use Rattle.pv_value.specs.Plain.{Plain}
-use Rattle.hub_machine.specs.State.{State, opening}
-use Rattle.row_cases.specs.Findings.{HasPassed, Differs}
+use Rattle.row_cases.specs.Findings.{IsNoted}
 use Rattle.row_cases.specs.declared.tally.Findings.{Findings}
 use Rattle.row_files.specs.Cases.{IsCase}
 use Rattle.row_files.specs.Lines.{is_left_out, begins_row, is_case_line}
 use Rattle.row_files.specs.declared.cases.Case.{Case}
 use Rattle.row_asking.specs.Asking.{Asks}
+use Rattle.row_steps.specs.Hands.{Hand, first_hand}
 use Rattle.row_steps.specs.Stepping.{IsAnswered}
 use Rattle.row_asking.specs.declared.asking.Asked.{Asked}
 use Rattle.row_steps.specs.declared.machines.Answer.TheVariants.{Given}
 
 -- what the value asks is done or asked, and this is answered
-abbrev pub AnswersOnce : Plain → Plain → State → State → Type 0
+abbrev pub AnswersOnce : Plain → Plain → Hand → Hand → Type 0
 AnswersOnce asked wanted old new = (a : Asked) × Asks asked a × IsAnswered old a new (Given wanted)
 
 -- so often, one after another
-abbrev pub AnswersSo : ℕ → Plain → Plain → State → State → Type 0
+abbrev pub AnswersSo : ℕ → Plain → Plain → Hand → Hand → Type 0
 AnswersSo zero asked wanted old new = new ≡ old
 AnswersSo (suc n) asked wanted old new =
-    (mid : State) × AnswersSo n asked wanted old mid × AnswersOnce asked wanted mid new
+    (mid : Hand) × AnswersSo n asked wanted old mid × AnswersOnce asked wanted mid new
 
--- the state of the row in hand before and after a case of it that holds
-abbrev pub CaseHolds : List ℕ → Option State → Option State → Type 0
+-- the row in hand before and after a case of it that holds
+abbrev pub CaseHolds : List ℕ → Option Hand → Option Hand → Type 0
 CaseHolds line (Some old) (Some new) =
     (case : Case) × IsCase line case × AnswersSo case.times case.asked case.wanted old new
 CaseHolds line old new = ⊥
 
--- the same of a line: none changes nothing, a row begins with the opening state, and a case holds
-abbrev pub LineHolds : Option State → List ℕ → Option State → Type 0
+-- the same of a line: none changes nothing, a row begins with nothing done, and a case holds
+abbrev pub LineHolds : Option Hand → List ℕ → Option Hand → Type 0
 LineHolds old line new =
     ((is_left_out line ≡ true) × (new ≡ old))
-    ⊎ (((begins_row line ≡ true) × (new ≡ Some opening)) ⊎ ((is_case_line line ≡ true) × CaseHolds line old new))
+    ⊎ (((begins_row line ≡ true) × (new ≡ Some first_hand)) ⊎ ((is_case_line line ≡ true) × CaseHolds line old new))
 
--- what is found after a line: a case that holds is counted, of another one difference more is told
-abbrev pub IsJudged : List ℕ → Option State → Option State → Findings → Findings → Type 0
-IsJudged line before after old new =
-    ((is_case_line line ≡ false) × LineHolds before line after × (new ≡ old))
-    ⊎ (((is_case_line line ≡ true) × LineHolds before line after × HasPassed old new)
-    ⊎ ((is_case_line line ≡ true) × (s : String Global) × Differs old new s))
+-- what is noted of a line
+abbrev pub IsJudged : List ℕ → Option Hand → Option Hand → Findings → Findings → Type 0
+IsJudged line before after old new = IsNoted (is_case_line line) (LineHolds before line after) old new
 
 -- from one row in hand to another, line by line, each of which holds
-abbrev pub LinesHold : List (List ℕ) → Option State → Type 0
+abbrev pub LinesHold : List (List ℕ) → Option Hand → Type 0
 LinesHold lines last = FoldsTo LineHolds None lines last
 
 -- what is told of a case that differs: its place, its row, and how

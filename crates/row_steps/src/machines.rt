@@ -1,27 +1,26 @@
 //! The machine that a row of steps is tried on.
-ghost use Rattle.std.specs.Prelude.{◌≡◌, ℕ, None, IfOk};
-ghost use Rattle.rl_packet.specs.Holding.{held as held_of};
-ghost use Rattle.row_asking.specs.Replies.{holdings_value};
-ghost use Rattle.row_steps.specs.Sent.{sent_to};
-ghost use Rattle.row_asking.specs.declared.asking.Asked.TheVariants as asks;
-ghost use Rattle.row_steps.specs.declared.machines.Answer.TheVariants as answer;
+ghost use Rattle.std.specs.Prelude.{◌≡◌, None, IfOk};
+ghost use Rattle.rl_packet.specs.Holding.{held as held_by};
 ghost use Rattle.hub_machine.specs.Machine.{IsBuilt};
-ghost use Rattle.hub_machine.specs.State.{opening};
+ghost use Rattle.hub_outs.specs.Outs.{sent_of};
+ghost use Rattle.row_asking.specs.Replies.{holdings_value};
+ghost use Rattle.row_steps.specs.Hands.{first_hand, hand_of};
+ghost use Rattle.row_steps.specs.Stepping.{IsStepped, IsAnswered};
 
 use dp_pattern::number;
 use ds_space::PlainSpace;
 use hub_core::{Hub, Reply, Step};
+use hub_outs::{Outs, turning};
 use pv_value::{NoMemory, Value};
-use rl_packet::{Packet, held};
+use rl_packet::held;
 use row_asking::{Asked, actor_value, holdings_value, reply_value};
 use std::alloc::Global;
-use std::collections::BTreeMap;
 
-/// A hub, and the packets that it sent to each connection, in order.
+/// A hub, and what it sent to each connection.
 #[derive(Drop)]
 pub struct Machine {
     hub: Hub<PlainSpace>,
-    sent: BTreeMap<u32, Vec<Packet>>,
+    outs: Outs,
 }
 
 /// What comes of a case.
@@ -43,48 +42,21 @@ fn unfit(step: &Step) -> Option<&'static str>
     }
 }
 
-/// The connection that a step sends a packet to, where it sends one.
-fn receiver(step: &Step) -> Option<u32> {
-    match step {
-        Step::Turn(actor) => actor.checked_sub(16),
-        _ => None,
-    }
-}
-
-/// One packet more for a connection.
-fn keep(
-    alloc: Global,
-    sent: &mut BTreeMap<u32, Vec<Packet>>,
-    connection: u32,
-    packet: Packet,
-) -> Result<(), NoMemory> {
-    let mut packets = match sent.remove(&connection) {
-        Some(packets) => packets,
-        None => Vec::new(alloc),
-    };
-    packets.push(packet)?;
-    sent.insert(connection, packets)?;
-    Ok(())
-}
-
 impl Machine {
-    ghost use Rattle.row_steps.specs.Stepping.{IsStepped, IsAnswered};
-
     /// A machine at its beginning.
     pub fn begin(alloc: Global) -> Result<Machine, NoMemory>
-        ensures { IfOk result (λ machine. machine.hub ≡ opening) }
+        ensures { IfOk result (λ machine. hand_of machine ≡ first_hand) }
     {
         Ok(Machine {
             hub: Hub::begin(alloc)?,
-            sent: BTreeMap::new(alloc),
+            outs: Outs::new(alloc),
         })
     }
 
     /// The machine after a case, and what comes of that.
     pub fn answer(self, alloc: Global, asked: Asked) -> Result<(Machine, Answer), NoMemory>
-        ensures answered { IfOk result (λ done. IsAnswered self.hub asked done.0.hub done.1) }
-        ensures holds { (k : ℕ) → asked ≡ asks.Holds k → IfOk result (λ done. done.1
-            ≡ answer.Given (holdings_value (held_of (sent_to k self.sent)))) }
+        ensures { IfOk result (λ done.
+            IsAnswered (hand_of self) asked (hand_of done.0) done.1) }
     {
         let given = match asked {
             Asked::Step(step) => return self.step(alloc, step),
@@ -99,30 +71,27 @@ impl Machine {
     /// What the peer of a connection holds by the packets that it was sent.
     fn holdings(&self, alloc: Global, connection: u32) -> Result<Value, NoMemory>
         ensures { IfOk result (λ v. v
-            ≡ holdings_value (held_of (sent_to connection self.now.sent))) }
+            ≡ holdings_value (held_by (sent_of connection self.now.outs))) }
     {
-        let packets: &[Packet] = match self.sent.get(&connection) {
-            Some(packets) => packets,
-            None => &[],
-        };
-        let holdings = held(alloc, packets)?;
+        let holdings = held(alloc, self.outs.of(connection))?;
         holdings_value(alloc, &holdings)
     }
 
     /// The machine after a step, and its reply.
     fn step(self, alloc: Global, step: Step) -> Result<(Machine, Answer), NoMemory>
-        ensures { IfOk result (λ done. IsStepped self.hub step done.0.hub done.1) }
+        ensures { IfOk result (λ done.
+            IsStepped (hand_of self) step (hand_of done.0) done.1) }
     {
         if let Some(why) = unfit(&step) {
             return Ok((self, Answer::Unfit(why)));
         }
-        let Machine { hub, mut sent } = self;
-        let receiver = receiver(&step);
+        let Machine { hub, mut outs } = self;
+        let actor = turning(&step);
         let (hub, reply) = hub.step(alloc, step)?;
         let given = reply_value(alloc, &reply)?;
-        if let (Some(connection), Reply::Sent(packet)) = (receiver, reply) {
-            keep(alloc, &mut sent, connection, packet)?;
+        if let Reply::Sent(packet) = reply {
+            outs.keep(actor, packet)?;
         }
-        Ok((Machine { hub, sent }, Answer::Given(given)))
+        Ok((Machine { hub, outs }, Answer::Given(given)))
     }
 }

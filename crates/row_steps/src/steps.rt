@@ -1,10 +1,10 @@
 //! Rows of steps, tried on the hub.
 ghost use Rattle.std.specs.Prelude.{◌≡◌, ◌+◌, [], None, Option, option_map, IfOk, IfSome, length};
 ghost use Rattle.std.specs.Prelude.{count_by, string_bytes};
-ghost use Rattle.hub_machine.specs.State.{State, opening};
+ghost use Rattle.row_cases.specs.Findings.{AreJudged};
 ghost use Rattle.row_files.specs.Lines.{lines_of, is_case_line};
+ghost use Rattle.row_steps.specs.Hands.{Hand, first_hand, hand_of, hand_in};
 ghost use Rattle.row_steps.specs.Rows.{AnswersOnce, AnswersSo, IsJudged, LinesHold, case_told};
-ghost use Rattle.row_steps.specs.Trials.{state_of};
 ghost use Rattle.row_steps.specs.declared.machines.Answer.TheVariants as answered;
 
 use crate::machines::{Answer, Machine};
@@ -25,7 +25,7 @@ struct Trial {
 impl Trial {
     fn begin(alloc: Global, name: &str) -> Result<Trial, NoMemory>
         ensures name { IfOk result (λ trial. string_bytes trial.name ≡ name.now) }
-        ensures machine { IfOk result (λ trial. trial.machine.hub ≡ opening) }
+        ensures machine { IfOk result (λ trial. hand_in trial ≡ first_hand) }
     {
         Ok(Trial {
             name: String::from_str(alloc, name)?,
@@ -38,7 +38,7 @@ impl Trial {
         ensures name { IfOk result (λ done. done.0.name ≡ self.name) }
         ensures holds { IfOk result (λ done. done.1 ≡ None
             → AnswersSo case.now.times case.now.asked case.now.wanted
-            self.machine.hub done.0.machine.hub) }
+            (hand_in self) (hand_in done.0)) }
     {
         let Trial { name, machine } = self;
         let (machine, difference) = answer_all(alloc, machine, case)?;
@@ -78,7 +78,7 @@ fn answer_all(
     case: &Case,
 ) -> Result<(Machine, Option<String>), Fault>
     ensures { IfOk result (λ done. done.1 ≡ None
-        → AnswersSo case.now.times case.now.asked case.now.wanted machine.hub done.0.hub) }
+        → AnswersSo case.now.times case.now.asked case.now.wanted (hand_of machine) (hand_of done.0)) }
 {
     let mut machine = machine;
     let mut first = None;
@@ -97,7 +97,7 @@ fn answer_once(
     case: &Case,
 ) -> Result<(Machine, Option<String>), Fault>
     ensures { IfOk result (λ done. done.1 ≡ None
-        → AnswersOnce case.now.asked case.now.wanted machine.hub done.0.hub) }
+        → AnswersOnce case.now.asked case.now.wanted (hand_of machine) (hand_of done.0)) }
 {
     let asked = asked_of(alloc, &case.asked)?;
     let (after, answer) = machine.answer(alloc, asked)?;
@@ -128,7 +128,7 @@ fn unlike(alloc: Global, wanted: &Value, given: &Value) -> Result<String, NoMemo
 pub fn judge_file(alloc: Global, text: &str) -> Result<Findings, AllocError>
     ensures { IfOk result (λ found. found.differences.items ≡ []
         → (found.passed ≡ count_by is_case_line (lines_of text.now))
-        × ((last : Option State) × LinesHold (lines_of text.now) last)) }
+        × ((last : Option Hand) × LinesHold (lines_of text.now) last)) }
 {
     match judge_lines(alloc, text) {
         Ok(findings) => Ok(findings),
@@ -142,10 +142,8 @@ pub fn judge_file(alloc: Global, text: &str) -> Result<Findings, AllocError>
 /// What came of the lines of a file: each case is counted, and where nothing differs each line
 /// holds.
 fn judge_lines(alloc: Global, text: &str) -> Result<Findings, LineFault>
-    ensures counted { IfOk result (λ found. found.passed + length found.differences.items
-        ≡ count_by is_case_line (lines_of text.now)) }
-    ensures holding { IfOk result (λ found. found.differences.items ≡ []
-        → (last : Option State) × LinesHold (lines_of text.now) last) }
+    ensures { IfOk result (λ found. (last : Option Hand)
+        × AreJudged is_case_line (lines_of text.now) (LinesHold (lines_of text.now) last) found) }
 {
     let mut findings = Findings::new(alloc);
     let mut trial = None;
@@ -168,8 +166,8 @@ fn judge_line(
     line: &str,
     findings: &mut Findings,
 ) -> Result<Option<Trial>, Fault>
-    ensures { IfOk result (λ after. IsJudged line.now (option_map state_of trial)
-        (option_map state_of after) findings.old findings.new) }
+    ensures { IfOk result (λ after. IsJudged line.now (option_map hand_in trial)
+        (option_map hand_in after) findings.old findings.new) }
 {
     match (line_of(line), trial) {
         (Line::Nothing, trial) => Ok(trial),

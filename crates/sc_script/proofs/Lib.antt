@@ -15,6 +15,5 @@ pub mod PacketsRead
 pub mod PartsPassed
 pub mod Reading
 pub mod Replays
-pub mod Sending
 pub mod Stepping
 pub mod ValuesInTurn

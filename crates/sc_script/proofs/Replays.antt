@@ -11,7 +11,8 @@ use Rattle.hub_machine.specs.Replays.{run_from, replay, sent_by, packet_in}
 use Rattle.hub_machine.specs.Lemmas.ReplayLaws.{replay-more, sent_to-more}
 use Rattle.hub_machine.specs.declared.steps.Step.{Step}
 use Rattle.hub_laws.specs.Laws.{AreAllowed}
-use Rattle.sc_script.specs.Runs.{Running, RunState, sent_of, IsAt, all_sent_from, spelled, sent_size}
+use Rattle.hub_outs.specs.Outs.{sent_of}
+use Rattle.sc_script.specs.Runs.{Running, RunState, IsAt, all_sent_from, spelled, sent_size}
 use Rattle.sc_script.specs.Runs.{with_step}
 
 pub allowed_more : (s : State) (es : List Step) (e : Step) → AreAllowed s es → IsAllowed (run_from s es) e

@@ -14,9 +14,10 @@ use Rattle.hub_machine.specs.declared.steps.Reply.TheVariants.{Sent, Ran, Taken}
 use Rattle.sc_script.specs.declared.faults.ScriptFault.{ScriptFault}
 use Rattle.sc_script.specs.declared.faults.ScriptFault.TheVariants as fault
 use Rattle.sc_script.specs.Runs.{Running, RunState, Course, goes, stops, limit, by_reply, stepped, with_step}
-use Rattle.sc_script.specs.Runs.{unless_too_much, sent_size, sent_of, kept, turning, size_of, IsAt, HasRun, IsStopped}
+use Rattle.hub_outs.specs.Outs.{sent_of, kept, turning}
+use Rattle.sc_script.specs.Runs.{unless_too_much, sent_size, size_of, IsAt, HasRun, IsStopped}
 use Rattle.sc_script.proofs.Replays.{at_more, bytes_of, sent_size-more}
-use Rattle.sc_script.proofs.Sending.{kept_sent, none_sent}
+use Rattle.hub_outs.specs.Lemmas.Sending.{kept_sent, none_sent}
 
 -- ---- no packet
 

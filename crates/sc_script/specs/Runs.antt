@@ -21,6 +21,7 @@ use Rattle.hub_machine.specs.declared.steps.Step.TheVariants as step
 use Rattle.hub_machine.specs.declared.steps.Reply.{Reply}
 use Rattle.hub_machine.specs.declared.steps.Reply.TheVariants as reply
 use Rattle.hub_laws.specs.Laws.{AreAllowed}
+use Rattle.hub_outs.specs.Outs.{OutsState, sent_of, kept}
 use Rattle.sc_events.specs.Events.{event_of}
 use Rattle.sc_events.specs.declared.events.ScriptEvent.{ScriptEvent}
 use Rattle.sc_events.specs.declared.events.ScriptEvent.TheVariants.{Open, Bytes, Close, Turn, Drain}
@@ -220,35 +221,15 @@ course_of N vs whole = goes_on (ended whole (length vs)) (after_values N 0 vs be
 
 -- ---- what the code keeps
 
--- the packets that each connection was sent, by its number
-abbrev pub OutsState : Type 0
-OutsState = List (ℕ × List Packet)
-
-abbrev pub sent_of : ℕ → OutsState → List Packet
-sent_of k outs = unwrap_or (entry_of k outs) []
-
-abbrev pub with_sent : ℕ → Packet → OutsState → OutsState
-with_sent k p outs = with_entry k (sent_of k outs ++ p ∷ []) outs
-
 pub record RunState : Type 0 where
   pub state : State
   pub outs : OutsState
   pub size : ℕ
   pub streams : List (ℕ × StreamState)
 
--- the actor whose turn a step is
-abbrev pub turning : Step → Option ℕ
-turning (step.Turn a) = Some a
-turning e = None
-
 -- how many bytes a packet has on the wire
 abbrev pub size_of : Packet → ℕ
 size_of p = length (written (packet_value p))
-
--- a packet of an actor's turn is kept for its connection
-abbrev pub kept : Option ℕ → Packet → OutsState → OutsState
-kept None p outs = outs
-kept (Some a) p outs = if nat_le 16 a then with_sent (a - 16) p outs else outs
 
 abbrev pub noted : Option ℕ → Packet → RunState → RunState
 noted a p s = record { state = s.state; outs = kept a p s.outs; size = s.size + size_of p; streams = s.streams }

@@ -6,7 +6,6 @@
 
 mod faults;
 mod laws;
-mod outs;
 mod ran;
 mod runs;
 mod scripts;

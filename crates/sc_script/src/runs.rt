@@ -7,16 +7,17 @@ ghost use Rattle.sc_script.specs.declared.faults.ScriptFault.TheVariants as faul
 ghost use Rattle.sc_script.specs.Runs.{Running, Decider, Decides, Course, goes, beginning, stepped};
 ghost use Rattle.sc_script.specs.Runs.{turned, drained, with_stream, with_no_packet};
 ghost use Rattle.sc_script.specs.Runs.{packets_read, bytes_come, was_opened, may_turn, after_event};
-ghost use Rattle.sc_script.specs.Runs.{after_value, course_of, turning, size_of, noted, IsAt};
+ghost use Rattle.hub_outs.specs.Outs.{turning};
+ghost use Rattle.sc_script.specs.Runs.{after_value, course_of, size_of, noted, IsAt};
 ghost use Rattle.sc_script.specs.Runs.{HasRun};
 ghost use Rattle.sc_script.specs.Runs.{IsStopped, RunsAs, StopsAs, with_packet};
 ghost use Rattle.sc_script.specs.Runs.{ReadsOn};
 
 use crate::faults::ScriptFault;
-use crate::outs::Outs;
 use crate::streams::{Stream, Streams};
 use ds_space::Space;
 use hub_core::{Fault, Hub, Reply, Step};
+use hub_outs::{Outs, turning};
 use pv_binary::write_into;
 use pv_value::{NoMemory, Value};
 use rl_packet::{Packet, Turn, packet_value};
@@ -71,16 +72,6 @@ fn size_of(alloc: Global, packet: &Packet) -> Result<usize, NoMemory>
     Ok(bytes.len())
 }
 
-/// The actor whose turn a step is.
-fn turning(event: &Step) -> Option<u32>
-    ensures { result ≡ turning event.now }
-{
-    match event {
-        Step::Turn(actor) => Some(*actor),
-        _ => None,
-    }
-}
-
 impl<S: Space + Drop> Run<S> {
     fn begin(alloc: Global) -> Result<Run<S>, NoMemory>
         ensures { IfOk result (IsAt beginning) }
@@ -110,11 +101,7 @@ impl<S: Space + Drop> Run<S> {
         if size > SENT_BYTES {
             return Err(ScriptFault::Limit(4));
         }
-        if let Some(actor) = actor
-            && actor >= BEFORE_CONNECTIONS
-        {
-            outs.add(actor - BEFORE_CONNECTIONS, packet)?;
-        }
+        outs.keep(actor, packet)?;
         Ok(Run {
             hub,
             outs,

@@ -8,7 +8,6 @@ use Rattle.std.specs.Prelude.{Ok}
 use Rattle.std.specs.declared.cmp.Ordering.TheVariants.{Less}
 use Rattle.std.proofs.lemmas.List.Sorted.{IsPermutation-refl}
 use Rattle.std.proofs.lemmas.Bool.Decides.{nat_tests}
-use Rattle.sr_caveat.specs.Filling.{dictionary_under}
 use Rattle.std.proofs.Common.{Option, Some, None, cond, ◌==◌, ◌≤◌, min, ltb, drop, Bool, true, false, arith}
 use Rattle.pv_value.specs.Plain.{Plain, Plains, plains, no_more, then_more, PlainPairs, pairs, no_pairs, then_pair}
 use Rattle.pv_value.specs.Plain.{dictionary, listed}
@@ -17,8 +16,8 @@ use Rattle.pv_value.specs.Lemmas.SetFrom.{value_or}
 use Rattle.pv_value.specs.Lemmas.DictionaryFrom.{dictionary_from_ok}
 use Rattle.sr_caveat.specs.Spelled.{paired_with}
 use Rattle.sr_caveat.specs.View.{keys_of}
-use Rattle.sr_caveat.proofs.Dropping.{drop_end}
-use Rattle.sr_caveat.proofs.Folding.{folded}
+use Rattle.sr_caveat.specs.Lemmas.Dropping.{drop_end}
+use Rattle.sr_caveat.specs.Lemmas.Folding.{folded}
 use Rattle.pv_value.specs.Order.{order}
 use Rattle.pv_value.specs.View.{key_and_value}
 use Rattle.pv_value.specs.WellFormed.{Ascend, KeysAscend}
@@ -89,31 +88,3 @@ pub dictionary_made : (ps : List (Plain × Plain)) (v : Plain) → KeysAscend ps
     → v ≡ dictionary (pairs ps)
 dictionary_made ps v sorted made =
     sym (ap (value_or v) made) ∙ ap (value_or v) (dictionary_from_ok ps ps (IsPermutation-refl ps) sorted)
-
--- ---- as many values as keys
-
-keys_length : (ks : List (Plain × Plain)) → length (listed (keys_of ks)) ≡ length ks
-keys_length [] = refl
-keys_length (k ∷ ks) = omega (arith, keys_length ks)
-
-pub dictionary_there : (ks : List (Plain × Plain)) (xs : List Plain) → length ks ≡ length xs
-    → Some (dictionary (paired_with (keys_of ks) (plains xs))) ≡ dictionary_under (keys_of ks) xs
-dictionary_there ks xs h = by (length (listed (keys_of ks)) == length xs) refl
-  where
-    by : (b : Bool) → (length (listed (keys_of ks)) == length xs) ≡ b
-        → Some (dictionary (paired_with (keys_of ks) (plains xs)))
-        ≡ cond {A = Option Plain} b (Some (dictionary (paired_with (keys_of ks) (plains xs)))) None
-    by true e = refl
-    by false e = let n : length (listed (keys_of ks)) ≡ length xs = keys_length ks
-        ∙ h in absurd (grind (arith, nat_tests))
-
-pub dictionary_not : (ks : List (Plain × Plain)) (xs : List Plain) → (length ks ≡ length xs → ⊥)
-    → None ≡ dictionary_under (keys_of ks) xs
-dictionary_not ks xs h = by (length (listed (keys_of ks)) == length xs) refl
-  where
-    by : (b : Bool) → (length (listed (keys_of ks)) == length xs) ≡ b
-        → None ≡ cond {A = Option Plain} b (Some (dictionary (paired_with (keys_of ks) (plains xs)))) None
-    by false e = refl
-    by true e =
-        let n : length (listed (keys_of ks)) ≡ length xs = grind (arith, nat_tests) in
-        absurd (h (sym (keys_length ks) ∙ n))

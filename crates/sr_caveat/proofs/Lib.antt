@@ -1,9 +1,3 @@
-pub mod Dropping
-pub mod Folding
 pub mod Keys
-pub mod Beside
-pub mod Gathering
-pub mod Passes
 pub mod Told
-pub mod Reckoning
 pub mod Guardless

@@ -16,15 +16,6 @@ use Rattle.sr_caveat.specs.Written.{attenuated_by, caveats_of, with_rewrite, if_
 use Rattle.sr_caveat.specs.View.{keys_of}
 use Rattle.sr_caveat.specs.Written.{keys_in, pattern_of, template_of, caveat_in}
 
-pub if_ok_is : {A E : Type 0} (r : Result A E) (a b : A) → a ≡ b → IfOk r (λ p. p ≡ a) → IfOk r (λ p. p ≡ b)
-if_ok_is (Ok p) a b e h = h ∙ e
-if_ok_is (Err f) a b e h = tt
-
-pub map_twice : {A B C : Type 0} (f : B → C) (g : A → B) (o : Option A)
-    → option_map (λ a. f (g a)) o ≡ option_map f (option_map g o)
-map_twice f g None = refl
-map_twice f g (Some a) = refl
-
 pub keys_same : (ps : List (Plain × Plain)) → keys_of ps ≡ keys_in (pairs ps)
 keys_same [] = refl
 keys_same (p ∷ ps) = ap (then_more p.0) (keys_same ps)
@@ -84,10 +75,6 @@ two_items [] x y h d e = absurd (omega arith)
 two_items (v ∷ []) x y h d e = absurd (omega arith)
 two_items (v ∷ w ∷ []) x y h d e = λ i. sym d i ∷ sym e i ∷ []
 two_items (u ∷ v ∷ w ∷ ws) x y h d e = absurd (omega arith)
-
-pub listed_same : (cs : List Caveat) → listed_caveats (caveats cs) ≡ cs
-listed_same [] = refl
-listed_same (c ∷ cs) = ap (λ ds. c ∷ ds) (listed_same cs)
 
 pub short_cap : (xs : List Plain) → length xs < 2 → None ≡ cap_read (sequence (plains xs))
 short_cap [] h = refl

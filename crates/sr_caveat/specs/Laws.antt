@@ -1,28 +1,12 @@
 -- Laws of the definitions.
-use Rattle.std.specs.Prelude.{◌≡◌, ℕ, Bool, false, List, [], ◌∷◌, ◌++◌, length, Some, option_and_then}
+use Rattle.std.specs.Prelude.{◌≡◌, ℕ, Bool, false, List, [], ◌∷◌, ◌++◌, Some}
 use Rattle.pv_value.specs.Plain.{Plain}
-use Rattle.sr_caveat.specs.Patterns.{Pattern, attenuate, binding, constant, record_from, sequence_from, dictionary_of}
+use Rattle.sr_caveat.specs.Patterns.{attenuate, binding, constant, record_from, sequence_from, dictionary_of}
 use Rattle.sr_caveat.specs.Patterns.{Template, Templates, no_templates, then_template}
 use Rattle.sr_caveat.specs.Patterns.{Caveat, rewrite, one_of, reject, guard}
 use Rattle.sr_caveat.specs.Patterns.{Caveats, no_caveats, then_caveat, Rewrites, no_rewrites, then_rewrite}
-use Rattle.sr_caveat.specs.Written.{binds, caveat_of}
-use Rattle.sr_caveat.specs.Binding.{bound}
-use Rattle.sr_caveat.specs.Passing.{passed}
+use Rattle.sr_caveat.specs.Written.{caveat_of}
 use Rattle.sr_caveat.specs.Caps.{Cap, cap_of, cap_value, IsSound, IsReadBack}
-
--- the newest caveat comes first, and the older ones see what it gives
-abbrev pub NewestComesFirst : Type 0
-NewestComesFirst = (judged : List ℕ → Plain → Bool) (old : List Caveat) (new : Caveat) (v : Plain)
-    → passed judged (old ++ new ∷ []) v ≡ option_and_then (passed judged old) (passed judged (new ∷ []) v)
-
--- what passes a reference with further caveats is what the older ones make of some value
-abbrev pub AttenuatingNarrows : Type 0
-AttenuatingNarrows = (judged : List ℕ → Plain → Bool) (old new : List Caveat) (v w : Plain)
-    → passed judged (old ++ new) v ≡ Some w → (u : Plain) × (passed judged old u ≡ Some w)
-
--- where a value matches, as many values are bound as the pattern binds
-abbrev pub BindingsAreBinds : Type 0
-BindingsAreBinds = (p : Pattern) (v : Plain) (bs : List Plain) → bound p v ≡ Some bs → length bs ≡ binds p
 
 -- ---- guards
 

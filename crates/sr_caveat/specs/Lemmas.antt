@@ -2,6 +2,9 @@
 pub mod Capped
 pub mod CaveatsBack
 pub mod Coded
+pub mod Dropping
 pub mod Falls
+pub mod Folding
 pub mod Measures
 pub mod PatternsBack
+pub mod Told

@@ -1,13 +1,8 @@
-pub mod Binding
 pub mod Caps
 pub mod Embedded
-pub mod Filling
-pub mod Gathered
 pub mod Laws
 pub mod Lemmas
-pub mod Passing
 pub mod Patterns
-pub mod Sizes
 pub mod Spelled
 pub mod View
 pub mod Written

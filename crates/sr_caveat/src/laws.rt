@@ -1,21 +1,5 @@
 //! Laws of the definitions: each is the contract of a function that does nothing.
-ghost use Rattle.sr_caveat.specs.Laws.{NewestComesFirst, AttenuatingNarrows, BindingsAreBinds};
 ghost use Rattle.sr_caveat.specs.Laws.{NoGuardFromTheWire, CaveatsAreReadBack, CapsAreTheirValues};
-
-/// The newest caveat comes first, and the older ones see what it gives.
-pub fn newest_comes_first()
-    ensures { NewestComesFirst }
-{}
-
-/// What passes a reference with further caveats is what the older ones make of some value.
-pub fn attenuating_narrows()
-    ensures { AttenuatingNarrows }
-{}
-
-/// Where a value matches, as many values are bound as the pattern binds.
-pub fn bindings_are_binds()
-    ensures { BindingsAreBinds }
-{}
 
 /// What was read from the wire holds no guard.
 pub fn no_guard_from_the_wire()

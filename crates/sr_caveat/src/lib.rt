@@ -1,35 +1,29 @@
-//! Caveats: what a reference lets pass, and what it makes of it.
+//! Caveats, and references that carry them: what they are, and which values write them.
 //!
-//! A reference carries caveats, and a value that is sent through it passes them all, the newest
-//! first: each one changes the value, lets it pass as it is, or refuses it. So a reference with
-//! more caveats gives only what the one with fewer gives.
+//! A reference carries caveats, each of which changes what is sent through it, lets it pass as it
+//! is, or refuses it. What passes them is told by the crate above, `sr_pass`.
 //!
 //! Contracts see a [`CPat`], a [`Tmpl`] and a [`Caveat`] as the data of `specs/Patterns.antt`.
-//! Which values write them is `caveat_of` of `specs/Written.antt`, and what they do to a value is
-//! `passed` of `specs/Passing.antt`.
+//! Which values write them is `caveat_of` of `specs/Written.antt`, and the values that they write
+//! are those of `specs/Spelled.antt`.
 #![tactic(auto)]
 
 mod binds;
 mod caps;
 mod caveats;
 mod embedded;
-mod filling;
 mod laws;
-mod matching;
-mod passing;
+mod limits;
 mod patterns;
 mod spelling;
 
 pub use caps::{Cap, Caveats};
 pub use caveats::parse_caveat;
 pub use embedded::has_embedded;
-pub use laws::{
-    attenuating_narrows, bindings_are_binds, caps_are_their_values, caveats_are_read_back,
-    newest_comes_first, no_guard_from_the_wire,
-};
-pub use matching::{bindings, matches};
-pub use passing::{Judge, NoNames, pass};
+pub use laws::{caps_are_their_values, caveats_are_read_back, no_guard_from_the_wire};
+pub use limits::{REFERENCE_CAVEATS, REFERENCE_WEIGHT, VALUE_DEPTH, VALUE_WEIGHT};
 use pv_value::{Entries, Text, Value};
+pub use spelling::{caveat_values, dictionary_with};
 use std::marker::Model;
 use std::sync::Arc;
 

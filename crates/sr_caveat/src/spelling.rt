@@ -55,7 +55,7 @@ fn list_value(alloc: Global, values: Vec<Value>) -> Result<Value, NoMemory>
 
 /// The dictionary of the keys with these values, as far as both go.
 #[inline(never)]
-pub(crate) fn dictionary_with(
+pub fn dictionary_with(
     alloc: Global,
     keys: &Entries,
     values: &[Value],
@@ -209,7 +209,7 @@ fn caveat_value(alloc: Global, caveat: &Caveat) -> Result<Value, NoMemory>
 
 /// The values that write caveats.
 #[cycle(caveat_value)]
-pub(crate) fn caveat_values(alloc: Global, list: &[Caveat]) -> Result<Vec<Value>, NoMemory>
+pub fn caveat_values(alloc: Global, list: &[Caveat]) -> Result<Vec<Value>, NoMemory>
     ensures { IfOk result (λ vs. plains vs.items ≡ caveat_values (caveats list.now)) }
 {
     let mut values = Vec::new(alloc);

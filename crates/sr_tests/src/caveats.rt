@@ -2,7 +2,8 @@
 
 use pv_text::read_text;
 use pv_value::{Blob, Value};
-use sr_caveat::{Cap, Caveat, Caveats, NoNames, parse_caveat, pass};
+use sr_caveat::{Cap, Caveat, Caveats, parse_caveat};
+use sr_pass::{NoNames, pass};
 use std::alloc::Global;
 use std::test::Fail;
 

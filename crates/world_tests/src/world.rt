@@ -1,9 +1,9 @@
 //! The world: turns of dataspaces, endings, and what is told of an actor.
 
-use crate::making::{bind, observe};
 use ac_table::Event;
 use ac_world::{Act, Turned, World};
 use ds_space::{PlainSpace, Space};
+use pv_text::read_text;
 use pv_value::Value;
 use std::alloc::Global;
 use std::test::Fail;
@@ -47,7 +47,7 @@ fn waiting<S: Space + Drop>(world: &World<S>) -> &[Event] {
 /// ends. How many events the first batch for connection 1 has, and how many batches wait.
 fn comes_and_goes<S: Space + Drop>(alloc: Global) -> Result<(usize, u64), Fail> {
     let world: World<S> = world_of_two(alloc)?;
-    let observation = observe(alloc, bind(alloc)?, 17, 3)?;
+    let (observation, _) = read_text(alloc, b"<Observe <bind <_>> #:[17 3]>")?;
     let world = act(alloc, world, 17, Act::Assert(1, 0, observation))?;
     let world = act(alloc, world, 18, Act::Assert(1, 0, Value::integer(5)))?;
     let (world, _) = world.turn(alloc, 1)?;

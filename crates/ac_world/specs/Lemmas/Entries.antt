@@ -1,11 +1,11 @@
 -- Entries by ascending number: what is found among them after one came or went, that the numbers still ascend, and what
 -- passes of them.
 use Rattle.std.proofs.Common.{◌≡◌, ◌≢◌, ℕ, ◌<◌, ◌==◌, List, [], ◌∷◌, ◌++◌, Bool, true, false, cond, Some, None}
-use Rattle.std.proofs.Common.{Ordering, Less, Equal, Greater, refl, ap, subst, arith}
-use Rattle.std.specs.BTreeMap.{is_at}
+use Rattle.std.proofs.Common.{Ordering, Less, Equal, Greater, refl, ap, ◌∙◌, subst, arith}
+use Rattle.std.specs.BTreeMap.{is_at, insert_entry}
 use Rattle.std.specs.List.{AllByRecursion}
 use Rattle.std.specs.List.Sorted.{IsStrictlySortedBy}
-use Rattle.std.specs.Map.{keys_of, values_of}
+use Rattle.std.specs.Map.{keys_of, values_of, remove_entry}
 use Rattle.std.specs.Ordering.{nat_cmp, match_ordering}
 use Rattle.std.proofs.lemmas.Bool.Decides.{nat_tests}
 use Rattle.std.proofs.lemmas.Map.Keys.{sorted_head, sorted_tail}
@@ -106,6 +106,14 @@ put_back k v (e ∷ es) s =
       λ (same : e.0 ≡ k). with_front k v es (rw (← same) (sorted_head nat_cmp _ _ s)),
       λ (l : k < e.0). without_none k es (above_lower k e.0 _ l (sorted_head nat_cmp _ _ s)),
     )
+
+-- the same as the calls of a map tell it
+pub back : {X : Type 0} (k : ℕ) (v w : X) (old less new : List (ℕ × X)) → KeysAscend old
+    → less ≡ remove_entry (is_at (nat_cmp k)) old → new ≡ insert_entry nat_cmp less k v → v ≡ w
+    → new ≡ with_entry k w old
+back {X = X} k v w old less new ascend less_is is same =
+    is ∙ ap (λ (es : List (ℕ × X)). insert_entry nat_cmp es k v) less_is ∙ put_back k v old ascend
+    ∙ ap (λ (x : X). insert_entry nat_cmp old k x) same
 
 -- ---- one more, and one less
 

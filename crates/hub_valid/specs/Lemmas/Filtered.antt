@@ -1,7 +1,7 @@
 -- Lists of which each element passes, after some of them go.
 use Rattle.std.proofs.Common.{List, Bool, filter}
 use Rattle.std.specs.List.{AllByRecursion}
-use Rattle.ac_table.proofs.Lists.{all_filter}
+use Rattle.ac_table.specs.Lemmas.Lists.{all_filter}
 
 pub all_kept : {X : Type 0} (P : X → Type 0) (test : X → Bool) (xs : List X) → AllByRecursion P xs
     → AllByRecursion P (filter test xs)

@@ -17,18 +17,18 @@ use Rattle.sr_caveat.specs.Patterns.{Templates, no_templates, then_template}
 use Rattle.sr_caveat.specs.Patterns.{Caveat, rewrite, one_of, reject, guard, Caveats}
 use Rattle.sr_caveat.specs.Patterns.{Rewrites, no_rewrites, then_rewrite, reject_all, listed_caveats}
 use Rattle.sr_caveat.specs.Spelled.{caveat_value, paired_with}
-use Rattle.sr_caveat.specs.Binding.{is_kind, fields_of, items_of, with_value, under_keys, values_under}
-use Rattle.sr_caveat.specs.Binding.{where_true, where_none, bound, all_bound, each_bound}
+use Rattle.sr_pass.specs.Binding.{is_kind, fields_of, items_of, with_value, under_keys, values_under}
+use Rattle.sr_pass.specs.Binding.{where_true, where_none, bound, all_bound, each_bound}
 use Rattle.sr_caveat.specs.declared.caps.Cap.{Cap}
 use Rattle.sr_caveat.specs.Caps.{cap_of, cap_value, attenuated, IsReadBack}
-use Rattle.sr_caveat.specs.Filling.{is_reference, if_reference, reference_with, dictionary_under, with_first, filled}
-use Rattle.sr_caveat.specs.Filling.{all_filled}
+use Rattle.sr_pass.specs.Filling.{is_reference, if_reference, reference_with, dictionary_under, with_first, filled}
+use Rattle.sr_pass.specs.Filling.{all_filled}
 use Rattle.sr_caveat.specs.Written.{keys_in, keys_of_value, bound_place, short_template, attenuated_by, long_template}
 use Rattle.sr_caveat.specs.Written.{with_template, guard_named, short_caveat, rewrite_by, with_rewrite}
 use Rattle.sr_caveat.specs.Written.{standing, names_of, pattern_of, template_of, templates_of, templates_in}
 use Rattle.sr_caveat.specs.Written.{templates_under_keys, templates_in_pairs, caveats_of, caveats_in, caveat_in}
 use Rattle.sr_caveat.specs.Written.{rewrites_of, rewrites_in}
-use Rattle.sr_caveat.specs.Passing.{if_fits, fits, rewritten, ruled, applied, passed, no_names}
+use Rattle.sr_pass.specs.Passing.{if_fits, fits, rewritten, ruled, applied, passed, no_names}
 use Rattle.dp_pattern.specs.Lemmas.Found.{If, if_cond, if_map}
 use Rattle.sr_caveat.specs.Lemmas.CaveatsBack.{read_back, nothing_embedded}
 use Rattle.sr_caveat.specs.Lemmas.Capped.{cap_sound}

@@ -2,7 +2,7 @@ use Rattle.std.proofs.Common.{◌≡◌, ◌∙◌, sym, ap, Result, Ok, Err, is
 use Rattle.std.specs.BTreeMap.{is_at}
 use Rattle.std.specs.Ordering.{nat_cmp}
 use Rattle.std.specs.Set.{remove_key}
-use Rattle.ac_table.proofs.Lists.{insert_entry-above, insert_key-above, remove_key-above}
+use Rattle.ac_table.specs.Lemmas.Lists.{insert_entry-above, insert_key-above, remove_key-above}
 use Rattle.ac_table.proofs.keeping.put_row.Goals as goal
 
 on_ok : {X E : Type 0} (P : Type 0) (r : Result X E) → is_err r ≡ false → OnOk r P → P

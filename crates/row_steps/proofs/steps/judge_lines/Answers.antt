@@ -1,11 +1,15 @@
-use Rattle.std.proofs.Common.{ℕ, ◌<◌, ◌-◌, ◌^◌, ◌==◌, ◌∷◌, [], List, Bor, length, map, option_map, lit<, subst, arith}
+use Rattle.std.proofs.Common.{ℕ, ◌<◌, ◌-◌, ◌^◌, ◌==◌, ◌∷◌, [], List, None, Bor, length, map, option_map, lit<, subst, arith}
+use Rattle.std.proofs.lemmas.Fn.{FoldsTo-push}
 use Rattle.std.proofs.lemmas.Iterator.Consumers.{YieldsList-at, YieldsList-turn, YieldsList-end}
 use Rattle.std.proofs.lemmas.Iterator.Splits.{YieldsList-from_str_split}
 use Rattle.std.proofs.lemmas.List.Splits.{length-slice_split}
 use Rattle.std.proofs.lemmas.List.Sums.{count_by-le-length}
 use Rattle.std.proofs.lemmas.List.{length-map, map-append}
-use Rattle.row_steps.specs.Trials.{state_of}
-use Rattle.row_steps.proofs.Holding.{AreJudged, judged_more}
+use Rattle.row_cases.specs.Findings.{AreJudged}
+use Rattle.row_cases.specs.Lemmas.Judging.{judged_more}
+use Rattle.row_files.specs.Lines.{is_case_line}
+use Rattle.row_steps.specs.Hands.{hand_in}
+use Rattle.row_steps.specs.Rows.{LineHolds, LinesHold}
 use Rattle.row_steps.proofs.steps.judge_lines.Goals as goal
 
 pub loop-line-preserved : goal.loop-line-preserved
@@ -18,34 +22,24 @@ loop-line-preserved c =
     YieldsList-turn road c.loop-line.yielded _ c.loop-line.yielded_by _ _ c.in-Some.line c.in-Some.is
     c.next.ensures.steps in
     let lines = map (λ x. x.now) c.loop-line.yielded in
+    let line = c.in-Some.line.now in
     let parts = length-slice_split (λ b. b == 10) c.args.text.now in
     let most = count_by-le-length (λ b. b == 10) c.args.text.now in
     let same = length-map c.loop-line.yielded (λ (x : Bor (List ℕ)). x.now) in
     let small : length lines < 2 ^ 64 - 1 = omega (arith, turn.0, parts, most, same) in
     rw (map-append (λ (x : Bor (List ℕ)). x.now) c.loop-line.yielded (c.in-Some.line ∷ []))
-    (judged_more lines c.in-Some.line.now (option_map state_of c.loop-line.trial) (option_map state_of c.in-Ok.after)
-    c.loop-line.findings c.judge_line.new.findings small c.in-Ok.ensures c.loop-line.invariant)
+    (judged_more is_case_line lines line _ _ _ c.loop-line.findings c.judge_line.new.findings small
+    (FoldsTo-push LineHolds None lines (option_map hand_in c.loop-line.trial) line (option_map hand_in c.in-Ok.after))
+    c.in-Ok.ensures c.loop-line.invariant)
 
-pub returns-clause-counted : goal.returns-clause-counted
-returns-clause-counted c =
+pub returns : goal.returns
+returns c =
     let road =
     YieldsList-at c.into_iter-line-iterator.ensures.into_iter_gives
     (YieldsList-from_str_split 10 c.args.text.now (lit< tt) c.split-line-items.ensures.text
     c.split-line-items.ensures.has_more c.split-line-items.ensures.pattern) in
     let all = YieldsList-end road c.loop-line.yielded _ c.loop-line.yielded_by _ _ c.in-None.is c.next.ensures.steps in
-    let last = option_map state_of c.loop-line.trial in
-    let Are : List (List ℕ) → Type 0 = λ lines. AreJudged lines last c.loop-line.findings in
-    let judged : Are _ = subst Are all.0 c.loop-line.invariant in
-    judged.counted
-
-pub returns-clause-holding : goal.returns-clause-holding
-returns-clause-holding c =
-    let road =
-    YieldsList-at c.into_iter-line-iterator.ensures.into_iter_gives
-    (YieldsList-from_str_split 10 c.args.text.now (lit< tt) c.split-line-items.ensures.text
-    c.split-line-items.ensures.has_more c.split-line-items.ensures.pattern) in
-    let all = YieldsList-end road c.loop-line.yielded _ c.loop-line.yielded_by _ _ c.in-None.is c.next.ensures.steps in
-    let last = option_map state_of c.loop-line.trial in
-    let Are : List (List ℕ) → Type 0 = λ lines. AreJudged lines last c.loop-line.findings in
-    let judged : Are _ = subst Are all.0 c.loop-line.invariant in
-    λ e. (last, judged.holding e)
+    let last = option_map hand_in c.loop-line.trial in
+    let Are : List (List ℕ) → Type 0 = λ lines.
+    AreJudged is_case_line lines (LinesHold lines last) c.loop-line.findings in
+    (last, subst Are all.0 c.loop-line.invariant)

@@ -9,16 +9,17 @@ use Rattle.sr_caveat.specs.Patterns.{no_templates, dictionary_of, Template, then
 use Rattle.sr_caveat.specs.Written.{template_of, templates_in, templates_in_pairs, with_template, templates_under_keys}
 use Rattle.sr_caveat.specs.Written.{keys_of_value}
 use Rattle.sr_caveat.specs.Written.{caveats_in, rewrites_in}
-use Rattle.sr_caveat.proofs.Told.{if_ok_is, map_twice, keys_same, not_listed, template_long, caveat_long, one_item}
+use Rattle.sr_caveat.specs.Lemmas.Told.{if_ok_is, map_twice}
+use Rattle.sr_caveat.proofs.Told.{keys_same, not_listed, template_long, caveat_long, one_item}
 use Rattle.sr_caveat.proofs.Told.{two_items}
 use Rattle.sr_caveat.proofs.Told.{with_if_rewrite}
 use Rattle.dp_pattern.specs.Words.{labelled}
 use Rattle.sr_caveat.specs.Written.{with_rewrite, if_rewrite, attenuated_by, caveats_of, caveat_in}
 use Rattle.sr_caveat.specs.View.{view_rule}
 use Rattle.sr_caveat.specs.View.{keys_of, listed_templates}
-use Rattle.sr_caveat.proofs.Dropping.{drop_is, drop_end}
-use Rattle.sr_caveat.proofs.Folding.{folded_on, folded_stop, folded_whole, put_template, folded_templates}
-use Rattle.sr_caveat.proofs.Folding.{folded_caveats, put_rewrite, folded_rewrites}
+use Rattle.sr_caveat.specs.Lemmas.Dropping.{drop_is, drop_end}
+use Rattle.sr_caveat.specs.Lemmas.Folding.{folded_on, folded_stop, folded_whole, put_template, folded_templates}
+use Rattle.sr_caveat.specs.Lemmas.Folding.{folded_caveats, put_rewrite, folded_rewrites}
 use Rattle.sr_caveat.proofs.caveats.+parse_caveat.Goals as goal
 
 pub parse_each-parse_template-requires : goal.parse_each-parse_template-requires

@@ -5,7 +5,7 @@ use Rattle.pv_value.specs.View.{key_and_value}
 use Rattle.pv_value.specs.Lemmas.Measures.{measure, measure_all, measure_pairs}
 use Rattle.sr_caveat.specs.Patterns.{then_caveat}
 use Rattle.sr_caveat.specs.Written.{templates_in, templates_in_pairs, caveats_in, rewrites_in}
-use Rattle.sr_caveat.proofs.Folding.{folded, put_template, put_rewrite}
+use Rattle.sr_caveat.specs.Lemmas.Folding.{folded, put_template, put_rewrite}
 use Rattle.sr_caveat.proofs.caveats.+parse_caveat.Given as goal
 
 abbrev pub decreases-parse_standing : goal.decreases-parse_standing

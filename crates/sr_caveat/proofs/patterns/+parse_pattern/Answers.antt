@@ -8,9 +8,10 @@ use Rattle.sr_caveat.specs.Patterns.{no_patterns, dictionary_with, Pattern}
 use Rattle.sr_caveat.specs.Written.{pattern_of, patterns_in, patterns_in_pairs, with_pattern, patterns_under_keys}
 use Rattle.sr_caveat.specs.Written.{keys_of_value}
 use Rattle.sr_caveat.specs.View.{keys_of, listed_patterns}
-use Rattle.sr_caveat.proofs.Dropping.{drop_is, drop_end}
-use Rattle.sr_caveat.proofs.Folding.{folded_on, folded_stop, folded_whole, put_pattern, folded_patterns}
-use Rattle.sr_caveat.proofs.Told.{pattern_long, if_ok_is, map_twice, keys_same}
+use Rattle.sr_caveat.specs.Lemmas.Dropping.{drop_is, drop_end}
+use Rattle.sr_caveat.specs.Lemmas.Folding.{folded_on, folded_stop, folded_whole, put_pattern, folded_patterns}
+use Rattle.sr_caveat.specs.Lemmas.Told.{if_ok_is, map_twice}
+use Rattle.sr_caveat.proofs.Told.{pattern_long, keys_same}
 use Rattle.sr_caveat.proofs.patterns.+parse_pattern.Goals as goal
 
 pub parse_each-parse_pattern-requires : goal.parse_each-parse_pattern-requires

@@ -4,7 +4,7 @@ use Rattle.pv_value.specs.Plain.{plains, pairs}
 use Rattle.pv_value.specs.View.{key_and_value}
 use Rattle.pv_value.specs.Lemmas.Measures.{measure, measure_all, measure_pairs}
 use Rattle.sr_caveat.specs.Written.{patterns_in, patterns_in_pairs}
-use Rattle.sr_caveat.proofs.Folding.{folded, put_pattern}
+use Rattle.sr_caveat.specs.Lemmas.Folding.{folded, put_pattern}
 use Rattle.sr_caveat.proofs.patterns.+parse_pattern.Given as goal
 
 abbrev pub decreases-parse_pattern : goal.decreases-parse_pattern

@@ -6,7 +6,7 @@ use Rattle.sr_caveat.specs.Lemmas.Measures.{measure_rewrites}
 use Rattle.sr_caveat.specs.Patterns.{caveats}
 use Rattle.sr_caveat.specs.Spelled.{template_values, caveat_values, rewrite_values}
 use Rattle.sr_caveat.specs.View.{listed_templates, listed_rewrites}
-use Rattle.sr_caveat.proofs.Folding.{folded}
+use Rattle.sr_caveat.specs.Lemmas.Folding.{folded}
 use Rattle.sr_caveat.proofs.spelling.+caveat_value.Given as goal
 
 abbrev pub decreases-template_value : goal.decreases-template_value

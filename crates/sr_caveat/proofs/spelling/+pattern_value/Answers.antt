@@ -1,8 +1,8 @@
 -- The goals of `pattern_value` that the check leaves.
 use Rattle.std.proofs.Common.{◌+◌, List, drop, sym, ap, ◌∙◌, arith}
 use Rattle.pv_value.specs.Plain.{then_more, no_more}
-use Rattle.sr_caveat.proofs.Dropping.{drop_is, drop_end}
-use Rattle.sr_caveat.proofs.Folding.{folded_on, folded_whole, folded_plains}
+use Rattle.sr_caveat.specs.Lemmas.Dropping.{drop_is, drop_end}
+use Rattle.sr_caveat.specs.Lemmas.Folding.{folded_on, folded_whole, folded_plains}
 use Rattle.sr_caveat.specs.Patterns.{Pattern}
 use Rattle.sr_caveat.specs.Spelled.{pattern_values}
 use Rattle.sr_caveat.specs.View.{listed_patterns}

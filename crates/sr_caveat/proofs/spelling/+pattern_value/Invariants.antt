@@ -4,7 +4,7 @@ use Rattle.pv_value.specs.Plain.{then_more}
 use Rattle.sr_caveat.specs.Lemmas.Measures.{measure, measure_all}
 use Rattle.sr_caveat.specs.Spelled.{pattern_values}
 use Rattle.sr_caveat.specs.View.{listed_patterns}
-use Rattle.sr_caveat.proofs.Folding.{folded}
+use Rattle.sr_caveat.specs.Lemmas.Folding.{folded}
 use Rattle.sr_caveat.proofs.spelling.+pattern_value.Given as goal
 
 abbrev pub decreases-pattern_value : goal.decreases-pattern_value

@@ -6,8 +6,8 @@ use Rattle.pv_value.specs.WellFormed.{Ascend, KeysAscend}
 use Rattle.pv_value.specs.declared.Entry.{Entry}
 use Rattle.sr_caveat.specs.Spelled.{paired_with}
 use Rattle.sr_caveat.specs.View.{keys_of}
-use Rattle.sr_caveat.proofs.Dropping.{drop_is}
-use Rattle.sr_caveat.proofs.Folding.{folded_on, folded_whole}
+use Rattle.sr_caveat.specs.Lemmas.Dropping.{drop_is}
+use Rattle.sr_caveat.specs.Lemmas.Folding.{folded_on, folded_whole}
 use Rattle.sr_caveat.proofs.Keys.{put_pair, mapped_push, keys_more, ascend_front, folded_pairs, paired_end}
 use Rattle.sr_caveat.proofs.spelling.entries_with.Goals as goal
 

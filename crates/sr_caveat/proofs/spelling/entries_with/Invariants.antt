@@ -5,7 +5,7 @@ use Rattle.pv_value.specs.View.{key_and_value}
 use Rattle.sr_caveat.specs.Spelled.{paired_with}
 use Rattle.sr_caveat.specs.View.{keys_of}
 use Rattle.sr_caveat.proofs.Keys.{put_pair, keys_from}
-use Rattle.sr_caveat.proofs.Folding.{folded}
+use Rattle.sr_caveat.specs.Lemmas.Folding.{folded}
 use Rattle.sr_caveat.proofs.spelling.entries_with.Given as goal
 
 abbrev pub invariant-loop-i : goal.invariant-loop-i

@@ -2,7 +2,8 @@ use Rattle.std.proofs.Common.{◌≡◌, ◌≤◌, ◌<◌, ◌+◌, sym, ap, �
 use Rattle.hub_machine.specs.Lemmas.Allowing.{is_built}
 use Rattle.hub_machine.specs.Machine.{step}
 use Rattle.hub_machine.specs.declared.steps.Reply.TheVariants.{Sent}
-use Rattle.sc_script.specs.Runs.{stepped, kept, turning, size_of}
+use Rattle.hub_outs.specs.Outs.{kept, turning}
+use Rattle.sc_script.specs.Runs.{stepped, size_of}
 use Rattle.sc_script.proofs.FaultsPassed.{err_so}
 use Rattle.sc_script.proofs.Stepping.{quiet, goes_quietly, goes_sending, stops_sending, stops_for}
 use Rattle.sc_script.proofs.runs.Run.step.Goals as goal

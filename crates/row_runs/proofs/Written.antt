@@ -1,0 +1,25 @@
+-- What was written to a sink that held nothing.
+use Rattle.std.proofs.Common.{◌≡◌, ℕ, ◌++◌, List, [], take, Option, Some, None, IfSome, unwrap_or, subst, sym, ap, ◌∙◌}
+use Rattle.out_ports.specs.Ports.{Appends, AppendsFront}
+use Rattle.dsd_top.specs.Statuses.{IsAnswerOf, IsAnswered, IsCut}
+use Rattle.dsd_top.specs.declared.words.Command.{Command}
+use Rattle.row_runs.specs.Outcomes.{IsFrontOf, IsFrontOfAnswer}
+
+pub if_some : {A : Type 0} (P Q : A → Type 0) (o : Option A) → ((a : A) → P a → Q a) → IfSome o P → IfSome o Q
+if_some P Q None f h = h
+if_some P Q (Some a) f h = f a h
+
+-- all that was appended is all that it holds
+pub all_held : (old new bytes : List ℕ) → old ≡ [] → Appends (Some old) (Some new) bytes → new ≡ bytes
+all_held old new bytes empty is = ap (λ (o : Option (List ℕ)). unwrap_or o []) is ∙ ap (λ (held : List ℕ). held ++ bytes) empty
+
+pub front_held : (old new bytes : List ℕ) → old ≡ [] → AppendsFront (Some old) (Some new) bytes → IsFrontOf bytes new
+front_held old new bytes empty h = (h.0, h.1, all_held old new (take h.0 bytes) empty h.2)
+
+pub answer_held : (c : Command) (input old new : List ℕ) → old ≡ [] → IsAnswered c input (Some old) (Some new)
+    → IsAnswerOf c input new
+answer_held c input old new empty h = subst (IsAnswerOf c input) (sym (all_held old new h.0 empty h.2)) h.1
+
+pub cut_held : (c : Command) (input old new : List ℕ) → old ≡ [] → IsCut c input (Some old) (Some new)
+    → IsFrontOfAnswer c input new
+cut_held c input old new empty h = (h.0, h.1, front_held old new h.0 empty h.2)

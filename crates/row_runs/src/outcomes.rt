@@ -1,0 +1,107 @@
+//! What comes of a row.
+ghost use Rattle.std.specs.Prelude.{◌≡◌, ◌≤◌, [], false, IfOk};
+ghost use Rattle.out_ports.specs.MemSource.{source_of as source_told};
+ghost use Rattle.dsd_top.specs.Commands.{texts, is_serve as begins_with_serve};
+ghost use Rattle.row_runs.specs.Outcomes.{IsOutcome};
+
+use dsd_top::dsd_once;
+use out_ports::memory::{MemHost, MemListen, MemSink, MemSource};
+use row_cases::{Fault, Outcome};
+use row_files::Row;
+use std::alloc::{AllocError, Global};
+
+/// How many bytes are kept of what is written to standard error.
+const LINE_ROOM: usize = 4096;
+
+/// Whether the first word begins with `serve`, which wants threads: no row can hold such words.
+fn is_serve(words: &[String]) -> bool
+    ensures { result ≡ begins_with_serve (texts words.now) }
+{
+    match words.first() {
+        Some(word) => word.as_bytes().starts_with(b"serve"),
+        None => false,
+    }
+}
+
+/// What comes of what a row gives. A row whose first word begins with `serve`, or whose pieces have
+/// no byte, is refused by its form.
+pub fn outcome_of(alloc: Global, row: &Row) -> Result<Outcome, Fault>
+    ensures { IfOk result (λ outcome. IsOutcome (texts row.now.words.items) row.now.input.items
+        outcome.status outcome.output.items) }
+{
+    if is_serve(&row.words) {
+        return Err(Fault::Form("words that begin with serve"));
+    }
+    if row.piece == 0 {
+        return Err(Fault::Form("pieces of no byte"));
+    }
+    let input = source_of(row)?;
+    Ok(run_over(alloc, row, input)?)
+}
+
+/// The input that a row gives.
+fn source_of(row: &Row) -> Result<MemSource, AllocError>
+    requires { 1 ≤ row.now.piece }
+    ensures { IfOk result (λ input. input
+        ≡ source_told row.now.input.items row.now.piece row.now.takes.items) }
+{
+    let bytes = row.input.clone()?;
+    let takes = row.takes.clone()?;
+    Ok(MemSource::new(bytes, row.piece, takes))
+}
+
+/// What comes of a row's words over an input.
+fn run_over(alloc: Global, row: &Row, input: MemSource) -> Result<Outcome, AllocError>
+    requires { begins_with_serve (texts row.now.words.items) ≡ false }
+    ensures { IfOk result (λ outcome. IsOutcome (texts row.now.words.items) input.left
+        outcome.status outcome.output.items) }
+{
+    let mut out = sink_of(alloc, row.room, &row.puts)?;
+    let mut diag = sink_of(alloc, LINE_ROOM, &[])?;
+    let status = status_of(alloc, &row.words, input, &mut out, &mut diag);
+    outcome_with(alloc, status, &diag, &out)
+}
+
+/// An empty sink of so much room, whose puts of these numbers fail.
+fn sink_of(alloc: Global, room: usize, puts: &[u64]) -> Result<MemSink, AllocError>
+    ensures { IfOk result (λ sink. sink.held ≡ []) }
+{
+    let puts = Vec::from_slice(alloc, puts)?;
+    Ok(MemSink::new(Vec::with_capacity(alloc, room)?, puts))
+}
+
+/// The program's status, over a host that has no files and no links.
+fn status_of(
+    alloc: Global,
+    words: &[String],
+    mut input: MemSource,
+    out: &mut MemSink,
+    diag: &mut MemSink,
+) -> u8
+    requires { begins_with_serve (texts words.now) ≡ false }
+    requires { out.old.held ≡ [] }
+    ensures { IsOutcome (texts words.now) input.left result out.new.held }
+{
+    let links = MemListen::new(Vec::new(alloc), Vec::new(alloc));
+    let mut host = MemHost::new(Vec::new(alloc), links, Vec::new(alloc), Vec::new(alloc));
+    dsd_once(alloc, words, &mut input, out, diag, &mut host)
+}
+
+/// A status, and what two sinks hold.
+fn outcome_with(
+    alloc: Global,
+    status: u8,
+    diag: &MemSink,
+    out: &MemSink,
+) -> Result<Outcome, AllocError>
+    ensures status { IfOk result (λ outcome. outcome.status ≡ status) }
+    ensures output { IfOk result (λ outcome. outcome.output.items ≡ out.now.held) }
+{
+    let line = Vec::from_slice(alloc, diag.held())?;
+    let output = Vec::from_slice(alloc, out.held())?;
+    Ok(Outcome {
+        status,
+        line,
+        output,
+    })
+}

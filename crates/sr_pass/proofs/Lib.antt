@@ -1,0 +1,5 @@
+pub mod Beside
+pub mod Filled
+pub mod Gathering
+pub mod Passes
+pub mod Reckoning

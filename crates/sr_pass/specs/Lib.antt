@@ -1,0 +1,6 @@
+pub mod Binding
+pub mod Filling
+pub mod Gathered
+pub mod Laws
+pub mod Passing
+pub mod Sizes

@@ -1,0 +1,47 @@
+-- What passes caveats. Sturdyref document, "caveats".
+use Rattle.std.specs.Prelude.{ℕ, Bool, false, nat_le, List, [], ◌∷◌, Option, Some, None, is_some, option_and_then, ◌&&◌}
+use Rattle.std.specs.Prelude.{if◌then◌else◌}
+use Rattle.pv_value.specs.Plain.{Plain}
+use Rattle.pv_value.specs.Weight.{weight}
+use Rattle.pv_value.specs.Depth.{depth}
+use Rattle.sr_caveat.specs.Patterns.{Template, Caveat, rewrite, one_of, reject, guard}
+use Rattle.sr_caveat.specs.Patterns.{Rewrites, no_rewrites, then_rewrite}
+use Rattle.sr_pass.specs.Binding.{bound}
+use Rattle.sr_pass.specs.Filling.{filled}
+
+-- a value that passes weighs at most 1,048,576 and nests at most 48 deep
+abbrev pub fits : Plain → Bool
+fits v = nat_le (weight v) 1048576 && nat_le (depth v) 48
+
+abbrev pub if_fits : Plain → Option Plain
+if_fits v = if fits v then Some v else None
+
+-- what the first rewrite that matches makes of the value; none where none matches
+abbrev pub rewritten : Rewrites → Plain → Option Plain
+rewritten no_rewrites v = None
+rewritten (then_rewrite p t rs) v = by_match t (bound p v) (rewritten rs v)
+  where
+    by_match : Template → Option (List Plain) → Option Plain → Option Plain
+    by_match t (Some bs) rest = filled t bs
+    by_match t None rest = rest
+
+-- what a caveat alone makes of a value, by what guards judge
+abbrev pub ruled : (List ℕ → Plain → Bool) → Caveat → Plain → Option Plain
+ruled judged (rewrite p t) v = option_and_then (filled t) (bound p v)
+ruled judged (one_of rs) v = rewritten rs v
+ruled judged (reject p) v = if is_some (bound p v) then None else Some v
+ruled judged (guard name) v = if judged name v then Some v else None
+
+-- the same, and refused where it is past the bounds, also where it was left unchanged
+abbrev pub applied : (List ℕ → Plain → Bool) → Caveat → Plain → Option Plain
+applied judged c v = option_and_then if_fits (ruled judged c v)
+
+-- no name has a definition: each guard refuses
+abbrev pub no_names : List ℕ → Plain → Bool
+no_names name v = false
+
+-- what passes a list of caveats: the last one, the newest, comes first, and what it gives goes to the one before it.
+-- Where there are none, the value passes as it is
+abbrev pub passed : (List ℕ → Plain → Bool) → List Caveat → Plain → Option Plain
+passed judged [] v = Some v
+passed judged (c ∷ cs) v = option_and_then (applied judged c) (passed judged cs v)
