@@ -9,7 +9,7 @@ use Rattle.ac_table.specs.declared.batches.Batch.{Batch}
 use Rattle.ac_table.specs.Tables.{TableState}
 use Rattle.ac_world.specs.declared.spreads.Spread.{Spread}
 use Rattle.ac_world.specs.Outboxes.{Plan, plan_over, committed}
-use Rattle.ac_world.specs.Worlds.{WorldState, Seat, Deliveries, no_seat, entry_of, with_entry, all_delivered}
+use Rattle.ac_world.specs.Worlds.{WorldState, Seat, Deliveries, no_seat, entry_of, all_delivered}
 use Rattle.ac_world.specs.Turns.{Turning, begin_turn, all_turned, deliver, space_turn}
 use Rattle.ac_world.specs.Lemmas.Entries.{back}
 

@@ -31,13 +31,32 @@
 //! arrow `=>`, and what it answers. `data/README` has all of it.
 #![tactic(auto)]
 
-ghost use Rattle.std.specs.Prelude.{◌≤◌};
+ghost use Rattle.std.specs.Prelude.{◌≡◌, ◌≤◌, [], IfOk};
+ghost use Rattle.dsd_rows.specs.Files.{FileHolds};
 
 use row_cases::{Fault, Findings, Tally, judge_table, one_difference};
 use std::alloc::{AllocError, Global};
 use std::process::ExitCode;
 use std::rt::Runtime;
 use std::{fs, io};
+
+/// The folders of data, each with files of one kind.
+#[derive(Clone, Copy)]
+enum Folder {
+    Rows,
+    Steps,
+    Tables,
+}
+
+impl Folder {
+    fn name(self) -> &'static str {
+        match self {
+            Folder::Rows => "rows",
+            Folder::Steps => "steps",
+            Folder::Tables => "tables",
+        }
+    }
+}
 
 fn main(rt: HostRuntime) -> ExitCode {
     match run(&rt) {
@@ -49,7 +68,7 @@ fn main(rt: HostRuntime) -> ExitCode {
 /// Runs all files, and prints what came of each.
 fn run<R: Runtime + AllocGlobal>(rt: &R) -> io::Result<Tally> {
     let mut tally = Tally::new();
-    for folder in ["rows", "steps", "tables"] {
+    for folder in [Folder::Rows, Folder::Steps, Folder::Tables] {
         run_folder(rt, folder, &mut tally)?;
     }
     let (passed, failed) = (tally.passed, tally.failed);
@@ -58,14 +77,15 @@ fn run<R: Runtime + AllocGlobal>(rt: &R) -> io::Result<Tally> {
 }
 
 /// Runs the files of a folder, in the order of their names.
-fn run_folder<R: Runtime + AllocGlobal>(rt: &R, folder: &str, tally: &mut Tally) -> io::Result<()>
+fn run_folder<R: Runtime + AllocGlobal>(rt: &R, folder: Folder, tally: &mut Tally) -> io::Result<()>
     ensures lasting { tally.old.failed ≤ tally.new.failed }
 {
-    match names_in(rt, folder) {
+    let name = folder.name();
+    match names_in(rt, name) {
         Ok(names) => run_files(rt, folder, &names, tally),
         Err(_) => {
-            println!(rt; "{folder}: it can't be listed")?;
-            tally.add(&one_difference(rt.alloc(), folder)?);
+            println!(rt; "{name}: it can't be listed")?;
+            tally.add(&one_difference(rt.alloc(), name)?);
             Ok(())
         }
     }
@@ -73,7 +93,7 @@ fn run_folder<R: Runtime + AllocGlobal>(rt: &R, folder: &str, tally: &mut Tally)
 
 fn run_files<R: Runtime + AllocGlobal>(
     rt: &R,
-    folder: &str,
+    folder: Folder,
     names: &[String],
     tally: &mut Tally,
 ) -> io::Result<()>
@@ -82,7 +102,7 @@ fn run_files<R: Runtime + AllocGlobal>(
     for name in names {
         let name = name.as_str();
         let findings = findings_of(rt, folder, name)?;
-        print_findings(rt, folder, name, &findings)?;
+        print_findings(rt, folder.name(), name, &findings)?;
         tally.add(&findings);
     }
     Ok(())
@@ -116,23 +136,27 @@ fn names_in<R: Runtime + AllocGlobal>(rt: &R, folder: &str) -> io::Result<Vec<St
 /// What came of a file. One that can't be read or judged is one difference.
 fn findings_of<R: Runtime + AllocGlobal>(
     rt: &R,
-    folder: &str,
+    folder: Folder,
     name: &str,
 ) -> Result<Findings, AllocError> {
     let alloc = rt.alloc();
-    let path = format!(in alloc; "{folder}/{name}")?;
+    let path = format!(in alloc; "{}/{name}", folder.name())?;
     match fs::read_to_string(rt, path.as_str()) {
         Ok(text) => findings_in(alloc, folder, name, text.as_str()),
         Err(_) => one_difference(alloc, "it can't be read"),
     }
 }
 
+/// What came of the text of a file: where nothing differs it holds.
 fn findings_in(
     alloc: Global,
-    folder: &str,
+    folder: Folder,
     name: &str,
     text: &str,
-) -> Result<Findings, AllocError> {
+) -> Result<Findings, AllocError>
+    ensures { IfOk result (λ found. found.differences.items ≡ []
+        → FileHolds folder name.now text.now found.passed) }
+{
     match judge(alloc, folder, name, text) {
         Ok(findings) => Ok(findings),
         Err(fault) => {
@@ -142,10 +166,13 @@ fn findings_in(
     }
 }
 
-fn judge(alloc: Global, folder: &str, name: &str, text: &str) -> Result<Findings, Fault> {
+fn judge(alloc: Global, folder: Folder, name: &str, text: &str) -> Result<Findings, Fault>
+    ensures { IfOk result (λ found. found.differences.items ≡ []
+        → FileHolds folder name.now text.now found.passed) }
+{
     match folder {
-        "rows" => Ok(row_runs::judge_file(alloc, text)?),
-        "steps" => Ok(row_steps::judge_file(alloc, text)?),
-        _ => judge_table(alloc, name, text),
+        Folder::Rows => Ok(row_runs::judge_file(alloc, text)?),
+        Folder::Steps => Ok(row_steps::judge_file(alloc, text)?),
+        Folder::Tables => judge_table(alloc, name, text),
     }
 }

@@ -3,8 +3,9 @@ ghost use Rattle.std.specs.Prelude.{◌<◌, length, option_map, IfOk, IfErr, If
 ghost use Rattle.dsd_top.specs.Texts.{IsNextTextIn, TextStopsAt, IsTextIn, IsInputFaultOfText};
 
 use crate::forms::{Form, push_last};
-use crate::values::{INPUT_BYTES, InputFault};
+use crate::values::InputFault;
 use pv_text::{TextFault, next_value};
+use sc_events::INPUT_BYTES;
 use sc_script::is_text;
 use std::alloc::Global;
 

@@ -6,11 +6,9 @@ ghost use Rattle.dsd_top.specs.Values.{IsNextIn, StopsAt, AreIn, IsInputFaultOf}
 use crate::forms::{Form, push_last};
 use pv_binary::{BinFault, read};
 use pv_value::NoMemory;
+use sc_events::INPUT_BYTES;
 use std::alloc::Global;
 use thiserror::Error;
-
-/// The most bytes that an input of values has.
-pub const INPUT_BYTES: usize = 67_108_864;
 
 /// Why an input isn't values to its end.
 #[derive(Clone, Copy, Debug, PartialEq, Eq, Error)]

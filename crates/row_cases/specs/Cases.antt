@@ -1,5 +1,6 @@
 -- The cases of a table: the lines of its text that are neither empty nor comments, and when one passes.
-use Rattle.std.specs.Prelude.{◌≡◌, ℕ, ◌==◌, ◌&&◌, ◌++◌, not, Bool, true, List, length, codes, nat_eq}
+use Rattle.std.specs.Prelude.{◌≡◌, ℕ, ◌==◌, ◌&&◌, ◌++◌, not, Bool, true, List, length, codes, nat_eq, All}
+use Rattle.std.specs.Prelude.{IsSomeAnd}
 use Rattle.std.specs.Fmt.{decimal}
 use Rattle.std.specs.List.{slice_split, starts_with}
 use Rattle.std.specs.Str.{bytes_eq}
@@ -7,7 +8,7 @@ use Rattle.std.specs.Str.Pattern.{FindsText, FindsCharPrefix, FindsCharSuffix, S
 use Rattle.row_cases.specs.Answers.{IsSameAnswer}
 use Rattle.row_cases.specs.Findings.{IsNoted}
 use Rattle.row_cases.specs.Forms.{IsIn}
-use Rattle.row_cases.specs.Tables.{given_form, IsWanted, Gives}
+use Rattle.row_cases.specs.Tables.{table_named, given_form, IsWanted, Gives}
 use Rattle.row_cases.specs.declared.codecs.Answer.{Answer}
 use Rattle.row_cases.specs.declared.tables.Table.{Table}
 use Rattle.row_cases.specs.declared.tally.Findings.{Findings}
@@ -42,6 +43,10 @@ Passes table line = (given : List ℕ) × (wanted : List ℕ) × AreSides line g
 -- where it is a case, it passes
 abbrev pub LinePasses : Table → List ℕ → Type 0
 LinePasses table line = is_case line ≡ true → Passes table line
+
+-- the cases of the table of this name pass
+abbrev pub TableHolds : List ℕ → List ℕ → Type 0
+TableHolds name text = IsSomeAnd (table_named name) (λ table. All (LinePasses table) (lines_of text))
 
 -- what is noted of a line
 abbrev pub IsJudged : Table → List ℕ → Findings → Findings → Type 0

@@ -19,7 +19,8 @@ abbrev pub Differs : Findings → Findings → String Global → Type 0
 Differs old new line =
     (new.passed ≡ old.passed) × (new.differences.items ≡ old.differences.items ++ line ∷ [])
 
--- what is noted of what may be a case: nothing, where it is none; that it passed, where it holds; or one difference more
+-- what is noted of what may be a case: nothing, where it is none; that it passed, where it holds; or one more
+-- difference
 abbrev pub IsNoted : Bool → Type 0 → Findings → Findings → Type 0
 IsNoted is_case Holds old new =
     ((is_case ≡ false) × Holds × (new ≡ old))

@@ -4,7 +4,8 @@ ghost use Rattle.std.specs.List.{repeat};
 ghost use Rattle.std.specs.Str.Parse.{ParsesUnsigned};
 ghost use Rattle.row_cases.specs.Calls.{AreWritten};
 ghost use Rattle.row_cases.specs.Forms.{form_named, IsIn, IsPlainly, opening, closing, IsShown};
-ghost use Rattle.row_cases.specs.Forms.{IsExpanded, IsRepetition, IsPacked, IsEscaped, IsEscape, IsPart, AreDigits, AreLines};
+ghost use Rattle.row_cases.specs.Forms.{IsExpanded, IsRepetition, IsPacked, IsEscaped, IsEscape};
+ghost use Rattle.row_cases.specs.Forms.{IsPart, AreDigits, AreLines};
 
 use crate::codecs::{Answer, written};
 use crate::faults::Fault;

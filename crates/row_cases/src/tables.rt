@@ -1,8 +1,9 @@
 //! Tables of cases: a line each, with what a call of the codecs is given and what it answers.
 ghost use Rattle.std.specs.Prelude.{◌≡◌, ◌+◌, ℕ, List, None, IfOk, IfSome, OnOk, All, count_by};
-ghost use Rattle.std.specs.Prelude.{[], length, string_bytes, IsSomeAnd};
+ghost use Rattle.std.specs.Prelude.{[], length, string_bytes};
 ghost use Rattle.row_cases.specs.Tables.{table_named, given_form, IsWanted, Gives};
 ghost use Rattle.row_cases.specs.Cases.{lines_of, is_case, SidesPass, Passes, LinePasses};
+ghost use Rattle.row_cases.specs.Cases.{TableHolds};
 ghost use Rattle.row_cases.specs.Cases.{IsJudged, case_told};
 ghost use Rattle.row_cases.specs.Findings.{AreJudged};
 
@@ -150,7 +151,7 @@ pub fn judge_table(alloc: Global, name: &str, text: &str) -> Result<Findings, Fa
     ensures counted { IfOk result (λ found. found.passed + length found.differences.items
         ≡ count_by is_case (lines_of text.now)) }
     ensures passing { IfOk result (λ found. found.differences.items ≡ []
-        → IsSomeAnd (table_named name.now) (λ table. All (LinePasses table) (lines_of text.now))) }
+        → TableHolds name.now text.now) }
 {
     match find_table(name) {
         Some(table) => judge_cases(alloc, table, text),

@@ -11,7 +11,8 @@ if_some P Q (Some a) f h = f a h
 
 -- all that was appended is all that it holds
 pub all_held : (old new bytes : List ℕ) → old ≡ [] → Appends (Some old) (Some new) bytes → new ≡ bytes
-all_held old new bytes empty is = ap (λ (o : Option (List ℕ)). unwrap_or o []) is ∙ ap (λ (held : List ℕ). held ++ bytes) empty
+all_held old new bytes empty is =
+    ap (λ (o : Option (List ℕ)). unwrap_or o []) is ∙ ap (λ (held : List ℕ). held ++ bytes) empty
 
 pub front_held : (old new bytes : List ℕ) → old ≡ [] → AppendsFront (Some old) (Some new) bytes → IsFrontOf bytes new
 front_held old new bytes empty h = (h.0, h.1, all_held old new (take h.0 bytes) empty h.2)

@@ -1,9 +1,11 @@
 -- What comes of a row, and what a row that passes says of the definitions.
-use Rattle.std.specs.Prelude.{◌≡◌, ◌≢◌, ◌↔◌, ◌≤◌, ℕ, List, [], length, take, Bool, true, None, Contains, IfSome}
+use Rattle.std.specs.Prelude.{◌≡◌, ◌≢◌, ◌↔◌, ◌≤◌, ℕ, List, [], length, take, Bool, true, None, Contains, All, IfSome}
 use Rattle.dsd_top.specs.Commands.{request_of, command_of, notice_of, text_of}
 use Rattle.dsd_top.specs.Statuses.{statuses_of, IsAnswerOf, IsBadInput, IsOver, IsNotBuilt}
 use Rattle.dsd_top.specs.declared.words.Command.{Command}
-use Rattle.row_files.specs.Rows.{RowTold}
+use Rattle.row_files.specs.Lines.{lines_of}
+use Rattle.row_files.specs.Rows.{RowTold, AreRows}
+use Rattle.row_files.specs.Sections.{with_lines}
 
 -- a front of these bytes
 abbrev pub IsFrontOf : List ℕ → List ℕ → Type 0
@@ -29,6 +31,12 @@ pub record IsOutcome (words : List (List ℕ)) (input : List ℕ) (status : ℕ)
 -- the status and the output of a row are what comes of its words and its input
 abbrev pub RowHolds : RowTold → Type 0
 RowHolds row = IsOutcome row.words row.input row.status row.output
+
+-- the rows of a file hold, and so many passed
+abbrev pub FileHolds : List ℕ → ℕ → Type 0
+FileHolds text passed =
+    (rows : List RowTold) × AreRows (with_lines 1 (lines_of text) []) rows × All RowHolds rows
+    × (passed ≡ length rows)
 
 -- each row is a case
 abbrev pub is_row : RowTold → Bool

@@ -1,11 +1,9 @@
 //! What came of the rows of a file.
-ghost use Rattle.std.specs.Prelude.{◌≡◌, ◌↔◌, [], List, length, map, All, IfOk, None, IsNone};
+ghost use Rattle.std.specs.Prelude.{◌≡◌, ◌↔◌, [], map, All, IfOk, None, IsNone};
 ghost use Rattle.row_cases.specs.Findings.{AreJudged};
 ghost use Rattle.row_cases.specs.Outcomes.{IsSameOutcome};
-ghost use Rattle.row_files.specs.Lines.{lines_of};
-ghost use Rattle.row_files.specs.Rows.{RowTold, row_told, AreRows};
-ghost use Rattle.row_files.specs.Sections.{with_lines};
-ghost use Rattle.row_runs.specs.Outcomes.{RowHolds, is_row};
+ghost use Rattle.row_files.specs.Rows.{row_told};
+ghost use Rattle.row_runs.specs.Outcomes.{FileHolds, RowHolds, is_row};
 
 use crate::outcomes::outcome_of;
 use row_cases::{Findings, Outcome, one_difference, outcomes_differ};
@@ -16,8 +14,7 @@ use std::alloc::{AllocError, Global};
 /// where nothing differs each row holds, and is counted.
 pub fn judge_file(alloc: Global, text: &str) -> Result<Findings, AllocError>
     ensures { IfOk result (λ found. found.differences.items ≡ []
-        → (rows : List RowTold) × AreRows (with_lines 1 (lines_of text.now) []) rows
-        × All RowHolds rows × (found.passed ≡ length rows)) }
+        → FileHolds text.now found.passed) }
 {
     match rows_of(alloc, text) {
         Ok(rows) => judge_rows(alloc, &rows),

@@ -1,12 +1,13 @@
 -- Rows of steps, and when their cases hold.
-use Rattle.std.specs.Prelude.{◌≡◌, ℕ, zero, suc, ◌++◌, true, List, codes, Option, Some, None, ◌⊎◌}
+use Rattle.std.specs.Prelude.{◌≡◌, ℕ, zero, suc, ◌++◌, true, List, codes, count_by, Option, Some, None}
+use Rattle.std.specs.Prelude.{◌⊎◌}
 use Rattle.std.specs.Fmt.{decimal}
 use Rattle.std.specs.List.{FoldsTo}
 use Rattle.pv_value.specs.Plain.{Plain}
 use Rattle.row_cases.specs.Findings.{IsNoted}
 use Rattle.row_cases.specs.declared.tally.Findings.{Findings}
 use Rattle.row_files.specs.Cases.{IsCase}
-use Rattle.row_files.specs.Lines.{is_left_out, begins_row, is_case_line}
+use Rattle.row_files.specs.Lines.{lines_of, is_left_out, begins_row, is_case_line}
 use Rattle.row_files.specs.declared.cases.Case.{Case}
 use Rattle.row_asking.specs.Asking.{Asks}
 use Rattle.row_steps.specs.Hands.{Hand, first_hand}
@@ -43,6 +44,11 @@ IsJudged line before after old new = IsNoted (is_case_line line) (LineHolds befo
 -- from one row in hand to another, line by line, each of which holds
 abbrev pub LinesHold : List (List ℕ) → Option Hand → Type 0
 LinesHold lines last = FoldsTo LineHolds None lines last
+
+-- the lines of a file hold, and as many cases passed as it has
+abbrev pub FileHolds : List ℕ → ℕ → Type 0
+FileHolds text passed =
+    (passed ≡ count_by is_case_line (lines_of text)) × ((last : Option Hand) × LinesHold (lines_of text) last)
 
 -- what is told of a case that differs: its place, its row, and how
 abbrev pub case_told : ℕ → List ℕ → List ℕ → List ℕ

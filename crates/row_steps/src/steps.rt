@@ -1,10 +1,11 @@
 //! Rows of steps, tried on the hub.
-ghost use Rattle.std.specs.Prelude.{◌≡◌, ◌+◌, [], None, Option, option_map, IfOk, IfSome, length};
-ghost use Rattle.std.specs.Prelude.{count_by, string_bytes};
+ghost use Rattle.std.specs.Prelude.{◌≡◌, [], None, Option, option_map, IfOk, IfSome};
+ghost use Rattle.std.specs.Prelude.{string_bytes};
 ghost use Rattle.row_cases.specs.Findings.{AreJudged};
 ghost use Rattle.row_files.specs.Lines.{lines_of, is_case_line};
 ghost use Rattle.row_steps.specs.Hands.{Hand, first_hand, hand_of, hand_in};
-ghost use Rattle.row_steps.specs.Rows.{AnswersOnce, AnswersSo, IsJudged, LinesHold, case_told};
+ghost use Rattle.row_steps.specs.Rows.{AnswersOnce, AnswersSo, IsJudged, LinesHold, FileHolds};
+ghost use Rattle.row_steps.specs.Rows.{case_told};
 ghost use Rattle.row_steps.specs.declared.machines.Answer.TheVariants as answered;
 
 use crate::machines::{Answer, Machine};
@@ -78,7 +79,8 @@ fn answer_all(
     case: &Case,
 ) -> Result<(Machine, Option<String>), Fault>
     ensures { IfOk result (λ done. done.1 ≡ None
-        → AnswersSo case.now.times case.now.asked case.now.wanted (hand_of machine) (hand_of done.0)) }
+        → AnswersSo case.now.times case.now.asked case.now.wanted (hand_of machine)
+        (hand_of done.0)) }
 {
     let mut machine = machine;
     let mut first = None;
@@ -127,8 +129,7 @@ fn unlike(alloc: Global, wanted: &Value, given: &Value) -> Result<String, NoMemo
 /// where nothing differs each line holds.
 pub fn judge_file(alloc: Global, text: &str) -> Result<Findings, AllocError>
     ensures { IfOk result (λ found. found.differences.items ≡ []
-        → (found.passed ≡ count_by is_case_line (lines_of text.now))
-        × ((last : Option Hand) × LinesHold (lines_of text.now) last)) }
+        → FileHolds text.now found.passed) }
 {
     match judge_lines(alloc, text) {
         Ok(findings) => Ok(findings),

@@ -11,6 +11,9 @@ use pv_value::{NoMemory, Value};
 use simdutf8::compat::from_utf8;
 use std::alloc::Global;
 
+/// The most bytes of an input.
+pub const INPUT_BYTES: usize = 67_108_864;
+
 /// How the values of a script are written.
 #[derive(Clone, Copy, Debug, PartialEq, Eq)]
 pub enum Form {

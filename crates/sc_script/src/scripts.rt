@@ -5,11 +5,8 @@ ghost use Rattle.sc_script.specs.Scripts.{RanAs, StopsAt};
 use crate::faults::ScriptFault;
 use crate::runs::Run;
 use ds_space::Space;
-use sc_events::{Form, read_values};
+use sc_events::{Form, INPUT_BYTES, read_values};
 use std::alloc::Global;
-
-/// The most bytes of an input.
-const INPUT_BYTES: usize = 67_108_864;
 
 /// The run of the script that an input is. Its length is looked at first, and whether a text is
 /// UTF-8; then its values in order, each done before the next is judged.
