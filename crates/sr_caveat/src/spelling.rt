@@ -55,11 +55,7 @@ fn list_value(alloc: Global, values: Vec<Value>) -> Result<Value, NoMemory>
 
 /// The dictionary of the keys with these values, as far as both go.
 #[inline(never)]
-pub fn dictionary_with(
-    alloc: Global,
-    keys: &Entries,
-    values: &[Value],
-) -> Result<Value, NoMemory>
+pub fn dictionary_with(alloc: Global, keys: &Entries, values: &[Value]) -> Result<Value, NoMemory>
     ensures { IfOk result (λ v. v
         ≡ dictionary (paired_with (keys_of keys.now) (plains values.now))) }
 {

@@ -18,8 +18,10 @@ ghost use Rattle.sr_pass.specs.Sizes.{in_place, filled_weight, filled_weights, f
 ghost use Rattle.sr_pass.specs.Sizes.{filled_depths, weights_of, depths_of, IsSizeOf, AreSizesOf};
 
 use pv_value::{Entries, Entry, Items, NoMemory, Node, Value, depth, weight};
-use sr_caveat::{Cap, Caveat, TemplateForm, Tmpl, caveat_values, dictionary_with};
-use sr_caveat::{REFERENCE_CAVEATS, REFERENCE_WEIGHT, VALUE_DEPTH, VALUE_WEIGHT};
+use sr_caveat::{
+    Cap, Caveat, REFERENCE_CAVEATS, REFERENCE_WEIGHT, TemplateForm, Tmpl, VALUE_DEPTH,
+    VALUE_WEIGHT, caveat_values, dictionary_with,
+};
 use std::alloc::Global;
 
 /// How much a value weighs and how deep it nests. Both stop at the end of their types.
