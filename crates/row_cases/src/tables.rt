@@ -1,11 +1,13 @@
 //! Tables of cases: a line each, with what a call of the codecs is given and what it answers.
-ghost use Rattle.std.specs.Prelude.{◌≡◌, ◌+◌, ℕ, List, None, IfOk, IfSome, OnOk, All, count_by};
+ghost use Rattle.std.specs.Prelude.{◌≡◌, ◌≢◌, ◌+◌, ℕ, List, None, IfOk, IfErr, IfSome, OnOk, All};
+ghost use Rattle.std.specs.Prelude.{count_by};
 ghost use Rattle.std.specs.Prelude.{[], length, string_bytes};
 ghost use Rattle.row_cases.specs.Tables.{table_named, given_form, IsWanted, Gives};
 ghost use Rattle.row_cases.specs.Cases.{lines_of, is_case, SidesPass, Passes, LinePasses};
 ghost use Rattle.row_cases.specs.Cases.{TableHolds};
 ghost use Rattle.row_cases.specs.Cases.{IsJudged, case_told};
 ghost use Rattle.row_cases.specs.Findings.{AreJudged};
+ghost use Rattle.row_cases.specs.declared.faults.Fault.TheVariants as fault;
 
 use crate::codecs::{
     Answer, binary_fronts, binary_stop, canonical, first_stop, first_value, later_stop, next_of,
@@ -152,14 +154,15 @@ pub fn judge_table(alloc: Global, name: &str, text: &str) -> Result<Findings, Fa
         ≡ count_by is_case (lines_of text.now)) }
     ensures passing { IfOk result (λ found. found.differences.items ≡ []
         → TableHolds name.now text.now) }
+    ensures unnamed { IfErr result (λ f. f ≢ fault.NoMemory → table_named name.now ≡ None) }
 {
     match find_table(name) {
-        Some(table) => judge_cases(alloc, table, text),
+        Some(table) => Ok(judge_cases(alloc, table, text)?),
         None => Err(Fault::Form("no table of this name")),
     }
 }
 
-fn judge_cases(alloc: Global, table: Table, text: &str) -> Result<Findings, Fault>
+fn judge_cases(alloc: Global, table: Table, text: &str) -> Result<Findings, AllocError>
     ensures { IfOk result (AreJudged is_case (lines_of text.now)
         (All (LinePasses table) (lines_of text.now))) }
 {

@@ -1,5 +1,8 @@
 //! What came of cases: how many passed, and a line for each of the others.
-ghost use Rattle.std.specs.Prelude.{◌≡◌, ◌≤◌, [], None, IfSome, OnOk, IfOk, IsTrue, ◌↔◌, vec_len};
+ghost use Rattle.std.specs.Prelude.{◌≡◌, ◌≤◌, [], ◌∷◌, None, IfSome, OnOk, IfOk, IsTrue, ◌↔◌, vec_len};
+ghost use Rattle.std.specs.Prelude.{string_bytes};
+ghost use Rattle.std.specs.declared.string.String.{String};
+ghost use Rattle.std.specs.declared.alloc.Global.{Global};
 
 use std::alloc::{AllocError, Global};
 
@@ -45,7 +48,9 @@ impl Findings {
 
 /// One difference, and no case that passed.
 pub fn one_difference(alloc: Global, line: &str) -> Result<Findings, AllocError>
-    ensures { IfOk result (λ found. (found.passed ≡ 0) × (vec_len found.differences ≡ 1)) }
+    ensures passed { IfOk result (λ found. found.passed ≡ 0) }
+    ensures line { IfOk result (λ found. (s : String Global)
+        × (found.differences.items ≡ s ∷ []) × (string_bytes s ≡ line.now)) }
 {
     let mut findings = Findings::new(alloc);
     findings.note(Some(String::from_str(alloc, line)?))?;
