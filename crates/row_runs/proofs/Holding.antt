@@ -1,13 +1,20 @@
--- A row that is judged, and how many rows there are.
-use Rattle.std.proofs.Common.{◌≡◌, ℕ, ◌+◌, List, [], ◌∷◌, length, count_by, refl, ap, ◌∙◌, sym, subst, arith}
+-- Rows that are judged, and how many there are.
+use Rattle.std.proofs.Common.{◌≡◌, ℕ, suc, ◌+◌, List, [], ◌∷◌, length, map, count_by, Result, Ok, Err, IfOk, refl, ap}
+use Rattle.std.proofs.Common.{sym, subst, arith}
+use Rattle.std.specs.List.{All}
+use Rattle.row_cases.specs.Findings.{AreJudged}
 use Rattle.row_cases.specs.Outcomes.{IsSameOutcome}
 use Rattle.row_cases.specs.declared.differences.Outcome.{Outcome}
-use Rattle.row_files.specs.Rows.{RowTold}
-use Rattle.row_runs.specs.Outcomes.{IsOutcome, is_row}
+use Rattle.row_cases.specs.declared.tally.Findings.{Findings}
+use Rattle.row_files.specs.Lines.{lines_of}
+use Rattle.row_files.specs.Rows.{RowTold, row_told, AreRows}
+use Rattle.row_files.specs.Sections.{with_lines}
+use Rattle.row_files.specs.declared.rows.Row.{Row}
+use Rattle.row_runs.specs.Outcomes.{IsOutcome, FileHolds, RowHolds, is_row}
 
 pub all_rows : (rows : List RowTold) → count_by is_row rows ≡ length rows
 all_rows [] = refl
-all_rows (r ∷ rows) = omega (arith, all_rows rows)
+all_rows (r ∷ rows) = ap suc (all_rows rows)
 
 -- what is said of an outcome is said of one that is the same
 pub same_outcome : (words : List (List ℕ)) (input : List ℕ) (wanted given : Outcome) → IsSameOutcome wanted given
@@ -16,3 +23,14 @@ pub same_outcome : (words : List (List ℕ)) (input : List ℕ) (wanted given : 
 same_outcome words input wanted given same is =
     let Is : ℕ → Type 0 = λ n. IsOutcome words input n given.output.items in
     subst (λ (out : List ℕ). IsOutcome words input wanted.status out) (sym same.2) (subst Is (sym same.0) is)
+
+pub file_holds : {E : Type 0} (text : List ℕ) (rows : List Row) (judged : Result Findings E)
+    → AreRows (with_lines 1 (lines_of text) []) (map row_told rows)
+    → IfOk judged (AreJudged is_row (map row_told rows) (All RowHolds (map row_told rows)))
+    → IfOk judged (λ found. found.differences.items ≡ [] → FileHolds text found.passed)
+file_holds text rows (Ok found) are judged = λ none.
+    let told = map row_told rows in
+    let passed : found.passed ≡ length told =
+    let all = judged.counted in let few = ap length none in omega (arith, all_rows told) in
+    (told, are, judged.holding none, passed)
+file_holds text rows (Err fault) are judged = tt

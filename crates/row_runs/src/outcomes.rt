@@ -78,8 +78,8 @@ fn status_of(
     out: &mut MemSink,
     diag: &mut MemSink,
 ) -> u8
-    requires { begins_with_serve (texts words.now) ≡ false }
-    requires { out.old.held ≡ [] }
+    requires words { begins_with_serve (texts words.now) ≡ false }
+    requires empty { out.old.held ≡ [] }
     ensures { IsOutcome (texts words.now) input.left result out.new.held }
 {
     let links = MemListen::new(Vec::new(alloc), Vec::new(alloc));
