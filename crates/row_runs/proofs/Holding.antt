@@ -1,7 +1,8 @@
 -- Rows that are judged, and how many there are.
-use Rattle.std.proofs.Common.{◌≡◌, ℕ, suc, ◌+◌, List, [], ◌∷◌, length, map, count_by, Result, Ok, Err, IfOk, refl, ap}
+use Rattle.std.proofs.Common.{◌≡◌, ℕ, ◌+◌, List, [], ◌∷◌, length, map, count_by, Result, Ok, Err, IfOk, refl, ap}
 use Rattle.std.proofs.Common.{sym, subst, arith}
 use Rattle.std.specs.List.{All}
+use Rattle.std.proofs.lemmas.List.Recursion.{is_count_by}
 use Rattle.row_cases.specs.Findings.{AreJudged}
 use Rattle.row_cases.specs.Outcomes.{IsSameOutcome}
 use Rattle.row_cases.specs.declared.differences.Outcome.{Outcome}
@@ -12,9 +13,11 @@ use Rattle.row_files.specs.Sections.{with_lines}
 use Rattle.row_files.specs.declared.rows.Row.{Row}
 use Rattle.row_runs.specs.Outcomes.{IsOutcome, FileHolds, RowHolds, is_row}
 
+one_row : (r : RowTold) (rows : List RowTold) → length (r ∷ rows) ≡ 1 + length rows
+one_row r rows = omega arith
+
 pub all_rows : (rows : List RowTold) → count_by is_row rows ≡ length rows
-all_rows [] = refl
-all_rows (r ∷ rows) = ap suc (all_rows rows)
+all_rows rows = sym (is_count_by length is_row refl one_row rows)
 
 -- what is said of an outcome is said of one that is the same
 pub same_outcome : (words : List (List ℕ)) (input : List ℕ) (wanted given : Outcome) → IsSameOutcome wanted given
