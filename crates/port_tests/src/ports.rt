@@ -69,30 +69,37 @@ fn a_listener_gives_its_links_and_stops(rt: HostRuntime) -> Result<(), Fail> {
 }
 
 #[test]
-fn a_host_has_files_and_a_port(rt: HostRuntime) -> Result<(), Fail> {
+fn a_host_gives_its_files(rt: HostRuntime) -> Result<(), Fail> {
     let alloc = rt.alloc();
     let file = MemFile {
         name: String::from_str(alloc, "short")?,
         bytes: Vec::from_slice(alloc, b"abc")?,
     };
-    let links = vec![in alloc; link(alloc, "a")?]?;
-    let listener = MemListen::new(links, Vec::new(alloc));
-    let (files, ports) = (vec![in alloc; 2u64]?, vec![in alloc; 0u64]?);
-    let mut host = MemHost::new(vec![in alloc; file]?, listener, files, ports);
+    let listener = MemListen::new(Vec::new(alloc), Vec::new(alloc));
+    let files = vec![in alloc; file]?;
+    let mut host = MemHost::new(files, listener, vec![in alloc; 2u64]?, Vec::new(alloc));
     assert_eq!(rt; host.file(alloc, "short")?.as_slice(), b"abc".as_slice());
     assert!(rt; matches!(host.file(alloc, "other"), Err(HostFault::Failed)));
     assert!(rt; matches!(host.file(alloc, "short"), Err(HostFault::Failed)));
-    assert!(rt;
-        matches!(host.accept(alloc), Accepted::Stopped),
-        "without a port"
+    assert_eq!(rt; host.file_faults(), 2);
+    Ok(())
+}
+
+#[test]
+fn a_host_gives_links_behind_its_port(rt: HostRuntime) -> Result<(), Fail> {
+    let alloc = rt.alloc();
+    let listener = MemListen::new(vec![in alloc; link(alloc, "a")?]?, Vec::new(alloc));
+    let mut host = MemHost::new(
+        Vec::new(alloc),
+        listener,
+        Vec::new(alloc),
+        vec![in alloc; 0u64]?,
     );
+    assert!(rt; matches!(host.accept(alloc), Accepted::Stopped));
     assert_eq!(rt; host.port(alloc, "a:1"), Err(HostFault::Failed));
     assert_eq!(rt; host.port(alloc, "a:1"), Ok(()));
     assert!(rt; matches!(host.accept(alloc), Accepted::Link(_, _)));
-    assert_eq!(rt;
-        (host.file_faults(), host.port_faults(), host.faults()),
-        (2, 1, 0)
-    );
+    assert_eq!(rt; (host.port_faults(), host.faults()), (1, 0));
     assert_eq!(rt; (host.listener().gave(), host.listener().stops()), (1, 1));
     Ok(())
 }
