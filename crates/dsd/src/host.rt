@@ -1,16 +1,14 @@
 //! The real host: files by name. It opens no port yet, so it gives no link.
-ghost use Rattle.std.specs.Prelude.{◌≡◌, ◌≤◌, None, IfOk, vec_len};
+ghost use Rattle.std.specs.Prelude.{◌≡◌, ◌≤◌, None, take, IfOk, IfSome, vec_len};
 ghost use Rattle.out_ports.specs.Ports.{raised};
 
 use crate::streams::{ReadSource, WriteSink};
-use out_ports::ports::{Accepted, FILE_READ, Host, HostFault, Listen, Source, Took};
+use out_ports::ports::{Accepted, FILE_READ, Host, HostFault, Listen, Source};
+use out_ports::streams::{ReadFault, read_front};
 use std::alloc::Global;
 use std::fs;
 use std::net::TcpStream;
 use std::rt::Files;
-
-/// How many bytes one take from a file asks for.
-const PIECE: usize = 4096;
 
 /// The files of the machine.
 #[derive(Drop)]
@@ -92,22 +90,15 @@ impl<'a, Rt: Files> Host for RealHost<'a, Rt> {
     }
 }
 
-/// The first bytes of a file, at most as many as are read of one.
+/// The first bytes of a file, as many as are read of one, or all where it has fewer.
 fn front_of<I: Source>(alloc: Global, file: &mut I) -> Result<Vec<u8>, HostFault>
-    ensures { IfOk result (λ front. vec_len front ≤ 1048577) }
+    ensures content { IfOk result (λ front. IfSome (I.left file.old) (λ bytes.
+        front.items ≡ take 1048577 bytes)) }
+    ensures size { IfOk result (λ front. vec_len front ≤ 1048577) }
 {
-    let mut front = Vec::new(alloc);
-    let mut buf = [0; PIECE];
-    for _ in 0..FILE_READ {
-        match file.take(&mut buf) {
-            Took::Some(n) => front.extend_from_slice(&buf[..n])?,
-            Took::End => break,
-            Took::Failed => return Err(HostFault::Failed),
-        }
-        if front.len() >= FILE_READ {
-            break;
-        }
+    match read_front(alloc, file, FILE_READ) {
+        Ok(front) => Ok(front),
+        Err(ReadFault::Failed) => Err(HostFault::Failed),
+        Err(ReadFault::NoMemory) => Err(HostFault::NoMemory),
     }
-    front.truncate(FILE_READ);
-    Ok(front)
 }

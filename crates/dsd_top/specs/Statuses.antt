@@ -6,7 +6,8 @@ use Rattle.sc_events.specs.declared.inputs.Form.{Form as Script}
 use Rattle.sc_events.specs.declared.inputs.Form.TheVariants as script
 use Rattle.sc_report.specs.Reports.{report_of}
 use Rattle.sc_script.specs.Leavings.{ran_of}
-use Rattle.sc_script.specs.Runs.{Decider, Decides, Cause, bad, limit, not_built, goes, stops, Running}
+use Rattle.rl_stream.specs.Nexts.{Decider, Decides}
+use Rattle.sc_script.specs.Runs.{Cause, bad, limit, not_built, goes, stops, Running}
 use Rattle.sc_script.specs.Scripts.{IsCourseOf}
 use Rattle.sc_script.specs.declared.faults.ScriptFault.{ScriptFault}
 use Rattle.sc_script.specs.declared.faults.ScriptFault.TheVariants as stopped

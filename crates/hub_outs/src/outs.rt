@@ -1,5 +1,5 @@
 //! What connections were sent.
-ghost use Rattle.std.specs.Prelude.{◌≡◌, [], OnOk};
+ghost use Rattle.std.specs.Prelude.{◌≡◌, [], OnOk, OnErr};
 ghost use Rattle.hub_outs.specs.Outs.{sent_of, with_sent, turning, kept};
 
 use hub_machine::Step;
@@ -77,9 +77,10 @@ impl Outs {
     }
 
     /// Keeps a packet that a step sent, which is an actor's turn: for the connection that the actor
-    /// is, where it is one. For want of memory what was kept for this connection is gone.
+    /// is, where it is one. For want of memory nothing changes.
     pub fn keep(&mut self, actor: Option<u32>, packet: Packet) -> Result<(), NoMemory>
-        ensures { OnOk result (self.new ≡ kept actor packet self.old) }
+        ensures kept { OnOk result (self.new ≡ kept actor packet self.old) }
+        ensures undone { OnErr result (self.new ≡ self.old) }
     {
         match actor {
             Some(actor) if actor >= BEFORE_CONNECTIONS => {
@@ -91,12 +92,14 @@ impl Outs {
 
     /// One more packet for a connection.
     fn add(&mut self, connection: u32, packet: Packet) -> Result<(), NoMemory>
-        ensures { OnOk result (self.new ≡ with_sent connection packet self.old) }
+        ensures kept { OnOk result (self.new ≡ with_sent connection packet self.old) }
+        ensures undone { OnErr result (self.new ≡ self.old) }
     {
-        let mut list = match self.lists.remove(&connection) {
-            Some(packets) => packets.list,
-            None => Vec::new(self.alloc),
-        };
+        if let Some(packets) = self.lists.get_mut(&connection) {
+            packets.list.push(packet)?;
+            return Ok(());
+        }
+        let mut list = Vec::new(self.alloc);
         list.push(packet)?;
         self.lists.insert(connection, Packets { list })?;
         Ok(())

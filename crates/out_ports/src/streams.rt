@@ -1,5 +1,6 @@
-//! Whole texts over sources and sinks: reading one to its end, and writing one.
-ghost use Rattle.std.specs.Prelude.{◌≡◌, ◌≤◌, true, IfOk, IfSome, IsErrOf, OnOk, OnErr};
+//! Whole texts over sources and sinks: reading one to its end or its front, and writing one.
+ghost use Rattle.std.specs.Prelude.{◌≡◌, ◌≤◌, true, take, vec_len};
+ghost use Rattle.std.specs.Prelude.{IfOk, IfSome, IsErrOf, OnOk, OnErr};
 ghost use Rattle.out_ports.specs.declared.streams.ReadFault.TheVariants.{NoMemory};
 ghost use Rattle.out_ports.specs.Ports.{Rose, Appends, AppendsFront};
 
@@ -51,6 +52,33 @@ pub fn read_to_end<I: Source>(alloc: Global, source: &mut I) -> Result<Vec<u8>, 
         }
     }
     Err(ReadFault::NoMemory)
+}
+
+/// Reads the first `most` bytes of a source, or all where it ends before them. After a fault, what
+/// was read is gone; what was taken past them is gone too.
+pub fn read_front<I: Source>(
+    alloc: Global,
+    source: &mut I,
+    most: usize,
+) -> Result<Vec<u8>, ReadFault>
+    ensures content { IfOk result (λ front. IfSome (I.left source.old) (λ bytes.
+        front.items ≡ take most bytes)) }
+    ensures size { IfOk result (λ front. vec_len front ≤ most) }
+    ensures lasting { I.faults source.old ≤ I.faults source.new }
+    ensures cause { IsErrOf result ReadFault.Failed →
+        Rose (I.faults source.old) (I.faults source.new) }
+{
+    let mut front = Vec::new(alloc);
+    let mut buf = [0; PIECE];
+    while front.len() < most {
+        match source.take(&mut buf) {
+            Took::Some(n) => front.extend_from_slice(&buf[..n])?,
+            Took::End => return Ok(front),
+            Took::Failed => return Err(ReadFault::Failed),
+        }
+    }
+    front.truncate(most);
+    Ok(front)
 }
 
 /// Writes all the bytes, in as many pieces as the sink wants. After a fault the sink holds a front

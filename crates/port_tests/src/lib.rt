@@ -1,4 +1,4 @@
-//! Tests of the outside in memory, and of the streams over it.
+//! Tests of the listener and the host in memory.
 #![tactic(auto)]
 
 #[cfg(test)]

@@ -1,7 +1,6 @@
-//! Each memory form once, and the streams over them.
+//! The listener and the host in memory.
 use out_ports::memory::{MemFile, MemHost, MemLink, MemListen, MemSink, MemSource};
-use out_ports::ports::{Accepted, Host, HostFault, Listen, Sink, Source};
-use out_ports::streams::{ReadFault, WriteFault, read_to_end, write_all};
+use out_ports::ports::{Accepted, Host, HostFault, Listen};
 use std::alloc::Global;
 use std::test::Fail;
 
@@ -11,39 +10,6 @@ fn link(alloc: Global, text: &str) -> Result<MemLink, Fail> {
         reads: MemSource::new(bytes, 8, Vec::new(alloc)),
         writes: MemSink::new(Vec::with_capacity(alloc, 8)?, Vec::new(alloc)),
     })
-}
-
-#[test]
-fn a_take_that_fails_leaves_the_rest(rt: HostRuntime) -> Result<(), Fail> {
-    let alloc = rt.alloc();
-    let bytes = Vec::from_slice(alloc, b"abcde")?;
-    let mut source = MemSource::new(bytes, 2, vec![in alloc; 1u64]?);
-    let stopped = read_to_end(alloc, &mut source);
-    assert!(rt; matches!(stopped, Err(ReadFault::Failed)));
-    assert_eq!(rt; source.faults(), 1);
-    assert_eq!(rt; source.left(), b"cde".as_slice());
-    let rest = read_to_end(alloc, &mut source)?;
-    assert_eq!(rt; rest.as_slice(), b"cde".as_slice());
-    Ok(())
-}
-
-#[test]
-fn a_put_that_fails_leaves_what_came_before(rt: HostRuntime) -> Result<(), Fail> {
-    let alloc = rt.alloc();
-    let room = Vec::with_capacity(alloc, 5)?;
-    let mut sink = MemSink::new(room, vec![in alloc; 1u64]?);
-    assert_eq!(rt; write_all(&mut sink, b"abc"), Ok(()));
-    assert_eq!(rt; write_all(&mut sink, b"de"), Err(WriteFault));
-    assert_eq!(rt;
-        write_all(&mut sink, b"def"),
-        Err(WriteFault),
-        "past its room"
-    );
-    assert_eq!(rt; write_all(&mut sink, b"fg"), Ok(()));
-    sink.finish();
-    assert_eq!(rt; sink.held(), b"abcfg".as_slice());
-    assert_eq!(rt; (sink.faults(), sink.finishes()), (2, 1));
-    Ok(())
 }
 
 #[test]
@@ -101,16 +67,5 @@ fn a_host_gives_links_behind_its_port(rt: HostRuntime) -> Result<(), Fail> {
     assert!(rt; matches!(host.accept(alloc), Accepted::Link(_, _)));
     assert_eq!(rt; (host.port_faults(), host.faults()), (1, 0));
     assert_eq!(rt; (host.listener().gave(), host.listener().stops()), (1, 1));
-    Ok(())
-}
-
-#[test]
-fn the_texts_of_faults(rt: HostRuntime) -> Result<(), Fail> {
-    let alloc = rt.alloc();
-    let (host, no_memory) = (HostFault::Failed, HostFault::NoMemory);
-    let (read, write) = (ReadFault::Failed, WriteFault);
-    let texts = format!(in alloc; "{host}; {no_memory}; {read}; {write}")?;
-    let wanted = "the file or the port failed; out of memory; the source failed; the sink failed";
-    assert_eq!(rt; texts.as_str(), wanted);
     Ok(())
 }

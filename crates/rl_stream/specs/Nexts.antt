@@ -42,3 +42,18 @@ IsNext rest place Waits = IsFront (front_of rest) × (length rest < 262144)
 -- of bytes no two of these stand
 abbrev pub OneNext : Type 0
 OneNext = (rest : List ℕ) (place : ℕ) (x y : Next) → AreBytes rest → IsNext rest place x → IsNext rest place y → x ≡ y
+
+-- what is next in bytes whose first is at this place, as some function tells it
+abbrev pub Decider : Type 0
+Decider = List ℕ → ℕ → Next
+
+abbrev pub Decides : Decider → Type 0
+Decides N = (rest : List ℕ) (place : ℕ) → AreBytes rest → IsNext rest place (N rest place)
+
+-- there is one
+abbrev pub HasDecider : Type 0
+HasDecider = (N : Decider) × Decides N
+
+-- what each of them tells
+abbrev pub AllTell : List ℕ → ℕ → Next → Type 0
+AllTell rest place x = (N : Decider) → Decides N → N rest place ≡ x

@@ -1,9 +1,11 @@
 //! Packets in what a peer has sent: what stands next, decided on the first 262,144 bytes of what
-//! hasn't been read.
+//! hasn't been read, and how far it is read.
 #![tactic(auto)]
 
 mod laws;
 mod nexts;
+mod streams;
 
-pub use laws::one_next;
+pub use laws::{next_is_decided, one_next};
 pub use nexts::{Next, PACKET_BYTES, next_packet};
+pub use streams::Stream;

@@ -1,5 +1,5 @@
-//! Tests of packets, ports and the crossing of references: calls that take memory, where it is
-//! ample, and values that nest far deeper than the reader's bound.
+//! Tests of packets, streams, ports and the crossing of references: calls that take memory, where
+//! it is ample, and values that nest far deeper than the reader's bound.
 #![tactic(auto)]
 
 #[cfg(test)]
@@ -8,3 +8,5 @@ mod crossing;
 mod making;
 #[cfg(test)]
 mod ports;
+#[cfg(test)]
+mod streams;

@@ -1,13 +1,14 @@
 -- Bytes of a connection come: its stream is taken out with them in it, and its packets are read; or they are dropped.
 use Rattle.std.proofs.Common.{◌≡◌, ℕ, Bool, true, false, List, Result, IfOk, IfErr, sym, ap, ◌∙◌, subst, unwrap_or}
 use Rattle.std.proofs.Common.{if◌then◌else◌}
+use Rattle.std.proofs.lemmas.Result.{IfOk-weaker, IfErr-weaker}
 use Rattle.ac_world.specs.Worlds.{entry_of, without_entry}
+use Rattle.rl_stream.specs.Nexts.{Decider}
+use Rattle.rl_stream.specs.Streams.{StreamState, no_stream, with_bytes}
 use Rattle.hub_machine.specs.State.{is_there}
 use Rattle.sc_script.specs.declared.faults.ScriptFault.{ScriptFault}
-use Rattle.sc_script.specs.Runs.{Running, RunState, StreamState, Decider, goes, no_stream, stream_of}
-use Rattle.sc_script.specs.Runs.{with_bytes, packets_read, without_stream, bytes_come, IsAt, HasRun, IsStopped}
-use Rattle.sc_script.specs.Runs.{RunsAs, StopsAs}
-use Rattle.sc_script.proofs.FaultsPassed.{ok_too, err_too}
+use Rattle.sc_script.specs.Runs.{Running, RunState, goes, stream_of, packets_read, without_stream, bytes_come, IsAt}
+use Rattle.sc_script.specs.Runs.{HasRun, IsStopped, RunsAs, StopsAs}
 
 -- what the code keeps, with other streams
 abbrev pub with_streams : List (ℕ × StreamState) → RunState → RunState
@@ -47,12 +48,12 @@ module _ (k : ℕ) (b : List ℕ) (s before : RunState) (view : s ≡ before) (t
     (ss : List (ℕ × StreamState)) (others : ss ≡ without_entry k s.streams) (x : Result RunState ScriptFault) where
   pub come_runs : IfOk x (RunsAs (with_streams ss s) (λ N. packets_read N k st))
       → IfOk x (RunsAs before (λ N. bytes_come N k b))
-  come_runs h = subst (λ y. IfOk x (RunsAs y (λ N. bytes_come N k b))) view (ok_too _ _ x (λ t p N d r at.
+  come_runs h = subst (λ y. IfOk x (RunsAs y (λ N. bytes_come N k b))) view (IfOk-weaker x _ _ (λ t p N d r at.
       subst (λ c. HasRun c t) (all_come N k b r s at st there taken)
       (p N d (without_stream k r) (taken_out k r s ss others at))) h)
 
   pub come_stops : IfErr x (StopsAs (with_streams ss s) (λ N. packets_read N k st))
       → IfErr x (StopsAs before (λ N. bytes_come N k b))
-  come_stops h = subst (λ y. IfErr x (StopsAs y (λ N. bytes_come N k b))) view (err_too _ _ x (λ f p N d r at.
+  come_stops h = subst (λ y. IfErr x (StopsAs y (λ N. bytes_come N k b))) view (IfErr-weaker x _ _ (λ f p N d r at.
       subst (λ c. IsStopped c f) (all_come N k b r s at st there taken)
       (p N d (without_stream k r) (taken_out k r s ss others at))) h)

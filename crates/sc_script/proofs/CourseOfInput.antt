@@ -2,11 +2,12 @@
 use Rattle.std.proofs.Common.{◌≡◌, ℕ, ◌≤◌, Bool, List, length, Option, Some, None, Result, IfOk, IfErr, inr, refl, sym}
 use Rattle.std.proofs.lemmas.Result.{IfOk-weaker, IfErr-weaker}
 use Rattle.pv_value.specs.Plain.{Plain}
+use Rattle.rl_stream.specs.Nexts.{Decider, Decides}
 use Rattle.sc_events.specs.declared.inputs.Form.{Form}
 use Rattle.sc_events.specs.Readings.{AreReadAs}
 use Rattle.sc_script.specs.declared.faults.ScriptFault.{ScriptFault}
-use Rattle.sc_script.specs.Runs.{Decider, Decides, Running, RunState, Course, goes, stops, Cause, course_of, IsAt}
-use Rattle.sc_script.specs.Runs.{HasRun, cause_in, StopsFor, IsStopped}
+use Rattle.sc_script.specs.Runs.{Running, RunState, Course, goes, stops, Cause, course_of, IsAt, HasRun, cause_in}
+use Rattle.sc_script.specs.Runs.{StopsFor, IsStopped}
 use Rattle.sc_script.specs.Scripts.{IsCourseOf, RanAs, StopsWith, StopsAt}
 
 module _ (form : Form) (bytes : List ℕ) (vs : List Plain) (whole : Bool) (short : length bytes ≤ 67108864)

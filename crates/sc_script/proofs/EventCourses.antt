@@ -1,9 +1,10 @@
 -- The course of an event, where its test holds: that of the bytes, of the step or of the turn that it is.
 use Rattle.std.proofs.Common.{◌≡◌, ℕ, Bool, true, List, sym, ap, ◌∙◌, if◌then◌else◌}
+use Rattle.rl_stream.specs.Nexts.{Decider}
 use Rattle.hub_machine.specs.declared.steps.Step.TheVariants as step
 use Rattle.sc_events.specs.declared.events.ScriptEvent.{ScriptEvent}
 use Rattle.sc_events.specs.declared.events.ScriptEvent.TheVariants.{Open, Bytes, Close, Turn, Drain}
-use Rattle.sc_script.specs.Runs.{Running, RunState, Course, stops, bad, Decider, stepped, turned, drained, bytes_come}
+use Rattle.sc_script.specs.Runs.{Running, RunState, Course, stops, bad, stepped, turned, drained, bytes_come}
 use Rattle.sc_script.specs.Runs.{was_opened, may_turn, after_event, IsAt}
 
 -- the event runs as this part does, from where the run is

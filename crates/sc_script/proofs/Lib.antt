@@ -2,15 +2,11 @@ pub mod Coming
 pub mod CourseOfInput
 pub mod Courses
 pub mod EventCourses
-pub mod EventFinding
 pub mod FaultsPassed
-pub mod Finding
-pub mod NextDecided
 pub mod Nexts
 pub mod NoPackets
 pub mod Notes
 pub mod OneCourse
-pub mod PacketFinding
 pub mod PacketsRead
 pub mod PartsPassed
 pub mod Reading

@@ -3,9 +3,10 @@ use Rattle.std.proofs.Common.{◌≡◌, ℕ, Bool, List, length, inl, inr, refl
 use Rattle.std.proofs.lemmas.Bool.Decides.{leb_tells}
 use Rattle.pv_value.specs.Plain.{Plain}
 use Rattle.pv_binary.specs.OneOfThree.{AreBytes}
+use Rattle.rl_stream.specs.Nexts.{Decider}
 use Rattle.sc_events.specs.declared.inputs.Form.{Form}
 use Rattle.sc_events.specs.Readings.{AreReadAs}
-use Rattle.sc_script.specs.Runs.{Decider, Course, limit, stops, course_of}
+use Rattle.sc_script.specs.Runs.{Course, limit, stops, course_of}
 use Rattle.sc_script.specs.Scripts.{IsCourseOf}
 
 -- from what one_reading ensures

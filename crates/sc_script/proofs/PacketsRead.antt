@@ -1,17 +1,17 @@
 -- The packets in a stream: how the course of all that are read goes on behind each, ends or stops.
-use Rattle.std.proofs.Common.{◌≡◌, ℕ, suc, ◌<◌, ◌≤◌, List, Option, Some, None, Result, IfOk, IfErr, length}
-use Rattle.std.proofs.Common.{refl, sym, ap, ◌∙◌}
-use Rattle.std.proofs.Common.{subst, arith, length-drop}
+use Rattle.std.proofs.Common.{◌≡◌, ℕ, suc, ◌<◌, ◌≤◌, List, Option, Some, None, Result, IfOk, IfErr, length, refl, sym}
+use Rattle.std.proofs.Common.{ap, ◌∙◌, subst, arith, length-drop}
+use Rattle.std.proofs.lemmas.Result.{IfOk-weaker, IfErr-weaker}
 use Rattle.rl_packet.specs.declared.packets.Packet.{Packet}
-use Rattle.rl_stream.specs.Nexts.{IsNext}
+use Rattle.rl_stream.specs.Nexts.{IsNext, Decider, Decides, AllTell}
 use Rattle.rl_stream.specs.declared.nexts.Next.{Next}
 use Rattle.rl_stream.specs.declared.nexts.Next.TheVariants.{Whole, BadBytes, BadPacket, Waits}
+use Rattle.rl_stream.specs.Streams.{StreamState, read_off}
+use Rattle.rl_stream.specs.Lemmas.Wholes.{whole_fits, less_left}
 use Rattle.sc_script.specs.declared.faults.ScriptFault.{ScriptFault}
-use Rattle.sc_script.specs.Runs.{Running, RunState, StreamState, Course, Decider, Decides, AllTell}
-use Rattle.sc_script.specs.Runs.{with_packet, with_next}
-use Rattle.sc_script.specs.Runs.{with_no_packet, all_read, read_off, ReadsOn, RunsAs, StopsAs, IsAt, HasRun, IsStopped}
-use Rattle.sc_script.proofs.FaultsPassed.{ok_too, err_too}
-use Rattle.sc_script.proofs.Nexts.{read_first, whole_fits, less_left}
+use Rattle.sc_script.specs.Runs.{Running, RunState, Course, with_packet, with_next, with_no_packet, all_read, ReadsOn}
+use Rattle.sc_script.specs.Runs.{RunsAs, StopsAs, IsAt, HasRun, IsStopped}
+use Rattle.sc_script.proofs.Nexts.{read_first}
 
 -- ---- courses
 
@@ -52,12 +52,12 @@ module _ (k : ℕ) (st : StreamState) (x : Next) (told : AllTell st.rest st.plac
         (w.2, w.3, f.2 ∙ not_whole k x st (λ size. all_read N k f.0 (read_off size st)) w.2 not)
 
     pub no_packet_runs : IfOk y (RunsAs s (λ N. with_no_packet k x st)) → IfOk y (RunsAs before part)
-    no_packet_runs = ok_too _ _ y (λ t runs N d r at.
+    no_packet_runs = IfOk-weaker y _ _ (λ t runs N d r at.
         let e = no_packet N d r at in
         subst (λ c. HasRun c t) (sym e.2) (runs N d e.0 e.1))
 
     pub no_packet_stops : IfErr y (StopsAs s (λ N. with_no_packet k x st)) → IfErr y (StopsAs before part)
-    no_packet_stops = err_too _ _ y (λ f stop N d r at.
+    no_packet_stops = IfErr-weaker y _ _ (λ f stop N d r at.
         let e = no_packet N d r at in
         subst (λ c. IsStopped c f) (sym e.2) (stop N d e.0 e.1))
 

@@ -1,10 +1,9 @@
 -- A connection's packets: how a course goes on behind each that is read.
-use Rattle.std.proofs.Common.{◌≡◌, ℕ, refl, sym, ap, ◌∙◌, subst}
-use Rattle.std.proofs.Common.{Option, Some, None, true, false, cond}
+use Rattle.std.proofs.Common.{◌≡◌, ℕ, refl, sym, ap, ◌∙◌, subst, Option, Some, None, true, false, cond}
+use Rattle.rl_stream.specs.Streams.{StreamState}
 use Rattle.hub_machine.specs.State.{is_there}
-use Rattle.sc_script.specs.Runs.{Running, StreamState, Cause, Course, goes, stops, goes_on, with_stream}
-use Rattle.sc_script.specs.Runs.{read_where, ReadsOn, RunState, IsAt}
-use Rattle.sc_script.specs.Runs.{HasRun, StopsFor}
+use Rattle.sc_script.specs.Runs.{Running, Cause, Course, goes, stops, goes_on, with_stream, read_where, ReadsOn}
+use Rattle.sc_script.specs.Runs.{RunState, IsAt, HasRun, StopsFor}
 
 -- what stops a first part stops the whole
 pub stops_first : (later : Running → Course) (c : Course) (o : Option Cause) → StopsFor c o

@@ -1,12 +1,13 @@
 -- The values of a script in turn: how the rest of their course goes on with each that is done, and how it ends.
-use Rattle.std.proofs.Common.{◌≡◌, ℕ, ◌+◌, ◌≤◌, ◌<◌, Bool, true, false, List, ◌∷◌, length, drop, get_or}
-use Rattle.std.proofs.Common.{sym, ap, ◌∙◌, subst, add-one, drop-cons}
+use Rattle.std.proofs.Common.{◌≡◌, ℕ, ◌+◌, ◌≤◌, ◌<◌, Bool, true, false, List, ◌∷◌, length, drop, get_or, sym, ap, ◌∙◌}
+use Rattle.std.proofs.Common.{subst, add-one, drop-cons}
 use Rattle.std.proofs.lemmas.List.{drop_all}
 use Rattle.pv_value.specs.Plain.{Plain}
+use Rattle.rl_stream.specs.Nexts.{Decider}
 use Rattle.sc_events.specs.Events.{event_of}
 use Rattle.sc_script.specs.declared.faults.ScriptFault.{ScriptFault}
-use Rattle.sc_script.specs.Runs.{Running, RunState, stops, bad, goes_on, Decider, beginning, after_value}
-use Rattle.sc_script.specs.Runs.{after_values, ended, course_of, cause_in, IsAt, HasRun, IsStopped}
+use Rattle.sc_script.specs.Runs.{Running, RunState, stops, bad, goes_on, beginning, after_value, after_values, ended}
+use Rattle.sc_script.specs.Runs.{course_of, cause_in, IsAt, HasRun, IsStopped}
 use Rattle.sc_script.proofs.Courses.{GoesOn, part_goes, part_stops}
 use Rattle.sc_script.proofs.Reading.{stops_first}
 

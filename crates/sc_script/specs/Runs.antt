@@ -1,9 +1,8 @@
 -- The run of a script: the steps that its values make, one event after another, or the first cause that stops it.
-use Rattle.std.specs.Prelude.{◌≡◌, ℕ, zero, suc, ◌+◌, ◌-◌, List, [], ◌∷◌, ◌++◌, drop, length, Bool, ◌&&◌, ◌||◌}
-use Rattle.std.specs.Prelude.{◌==◌, nat_lt, nat_le, Option, Some, None, unwrap_or, if◌then◌else◌}
+use Rattle.std.specs.Prelude.{◌≡◌, ℕ, zero, suc, ◌+◌, ◌-◌, List, [], ◌∷◌, ◌++◌, length, Bool, ◌&&◌, ◌||◌, ◌==◌, nat_lt}
+use Rattle.std.specs.Prelude.{nat_le, Option, Some, None, unwrap_or, if◌then◌else◌}
 use Rattle.std.specs.List.{flat_map}
 use Rattle.pv_value.specs.Plain.{Plain}
-use Rattle.pv_binary.specs.OneOfThree.{AreBytes}
 use Rattle.pv_binary.specs.Written.{written}
 use Rattle.ac_world.specs.Worlds.{entry_of, with_entry, without_entry}
 use Rattle.rl_packet.specs.Packets.{packet_value}
@@ -11,7 +10,8 @@ use Rattle.rl_packet.specs.declared.packets.Packet.{Packet}
 use Rattle.rl_packet.specs.declared.packets.Packet.TheVariants as packet
 use Rattle.rl_stream.specs.declared.nexts.Next.{Next}
 use Rattle.rl_stream.specs.declared.nexts.Next.TheVariants as next
-use Rattle.rl_stream.specs.Nexts.{IsNext}
+use Rattle.rl_stream.specs.Nexts.{Decider, Decides}
+use Rattle.rl_stream.specs.Streams.{StreamState, no_stream, with_bytes, read_off}
 use Rattle.hub_machine.specs.declared.faults.Fault.TheVariants as fault
 use Rattle.hub_machine.specs.State.{State, opening, is_there}
 use Rattle.hub_machine.specs.Machine.{step as step_of}
@@ -24,17 +24,12 @@ use Rattle.hub_laws.specs.Laws.{AreAllowed}
 use Rattle.hub_outs.specs.Outs.{OutsState, sent_of, kept}
 use Rattle.sc_events.specs.Events.{event_of}
 use Rattle.sc_events.specs.declared.events.ScriptEvent.{ScriptEvent}
-use Rattle.sc_events.specs.declared.events.ScriptEvent.TheVariants.{Open, Bytes, Close, Turn, Drain}
-use Rattle.sc_events.specs.declared.events.ScriptEvent.TheVariants.{LongDrain, Schema, Unbuilt}
+use Rattle.sc_events.specs.declared.events.ScriptEvent.TheVariants.{Open, Bytes, Close, Turn, Drain, LongDrain, Schema}
+use Rattle.sc_events.specs.declared.events.ScriptEvent.TheVariants.{Unbuilt}
 use Rattle.sc_script.specs.declared.faults.ScriptFault.{ScriptFault}
 use Rattle.sc_script.specs.declared.faults.ScriptFault.TheVariants as script
 
 -- ---- how far a run is, and what stops one
-
--- what of a connection's bytes isn't read yet, and the place of its first byte in all that the connection sent
-pub record StreamState : Type 0 where
-  pub rest : List ℕ
-  pub place : ℕ
 
 -- the steps that were made, and each connection's stream by its number
 pub record Running : Type 0 where
@@ -109,33 +104,11 @@ drained (suc m) r = goes_on (drained m) (turned_where (lowest (state_of r)) r)
 
 -- ---- bytes
 
-abbrev pub no_stream : StreamState
-no_stream = record { rest = []; place = 0 }
-
 abbrev pub stream_of : ℕ → Running → StreamState
 stream_of k r = unwrap_or (entry_of k r.streams) no_stream
 
 abbrev pub with_stream : ℕ → StreamState → Running → Running
 with_stream k s r = record { steps = r.steps; streams = with_entry k s r.streams }
-
--- so many bytes more are read
-abbrev pub read_off : ℕ → StreamState → StreamState
-read_off n st = record { rest = drop n st.rest; place = st.place + n }
-
--- what is next in bytes whose first is at this place
-abbrev pub Decider : Type 0
-Decider = List ℕ → ℕ → Next
-
-abbrev pub Decides : Decider → Type 0
-Decides N = (rest : List ℕ) (place : ℕ) → AreBytes rest → IsNext rest place (N rest place)
-
--- there is one
-abbrev pub HasDecider : Type 0
-HasDecider = (N : Decider) × Decides N
-
--- what each of them tells
-abbrev pub AllTell : List ℕ → ℕ → Next → Type 0
-AllTell rest place x = (N : Decider) → Decides N → N rest place ≡ x
 
 -- more is read where the connection is still there; st is its stream
 abbrev pub read_where : ℕ → StreamState → (Running → Course) → Running → Course
@@ -164,10 +137,6 @@ with_next k other st more r = with_no_packet k other st r
 abbrev pub all_read : Decider → ℕ → ℕ → StreamState → Running → Course
 all_read N k zero st r = goes (with_stream k st r)
 all_read N k (suc m) st r = with_next k (N st.rest st.place) st (λ size. all_read N k m (read_off size st)) r
-
--- more bytes in a stream
-abbrev pub with_bytes : List ℕ → StreamState → StreamState
-with_bytes b st = record { rest = st.rest ++ b; place = st.place }
 
 -- the packets in a stream; each has one byte at least
 abbrev pub packets_read : Decider → ℕ → StreamState → Running → Course

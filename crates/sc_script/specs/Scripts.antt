@@ -1,16 +1,15 @@
 -- What stands of an input as a script: a run of all its values, or the first cause that stops it. The length of the
 -- input is looked at first, and whether a text is UTF-8; then its values in order, each done before the next is judged.
-use Rattle.std.specs.Prelude.{◌≡◌, ℕ, ◌<◌, ◌≤◌, ◌⊎◌, Bool, List, length}
-use Rattle.std.specs.Prelude.{Option, Some, None}
+use Rattle.std.specs.Prelude.{◌≡◌, ℕ, ◌<◌, ◌≤◌, ◌⊎◌, Bool, List, length, Option, Some, None}
 use Rattle.pv_value.specs.Plain.{Plain}
+use Rattle.rl_stream.specs.Nexts.{Decider, Decides}
 use Rattle.hub_machine.specs.State.{opening}
 use Rattle.hub_laws.specs.Laws.{AreAllowed}
+use Rattle.sc_report.specs.Reports.{RanState}
 use Rattle.sc_events.specs.declared.inputs.Form.{Form}
 use Rattle.sc_events.specs.Readings.{AreReadAs}
 use Rattle.sc_script.specs.declared.faults.ScriptFault.{ScriptFault}
-use Rattle.sc_script.specs.Runs.{Decider, Decides, Cause, limit, Course, goes, stops, course_of, Running, RunState}
-use Rattle.sc_script.specs.Runs.{IsAt, cause_in}
-use Rattle.sc_report.specs.Reports.{RanState}
+use Rattle.sc_script.specs.Runs.{Cause, limit, Course, goes, stops, course_of, Running, RunState, IsAt, cause_in}
 use Rattle.sc_script.specs.Leavings.{ran_of}
 
 abbrev pub IsCourseOfValues : Decider → Form → List ℕ → Course → Type 0

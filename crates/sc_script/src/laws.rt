@@ -1,21 +1,12 @@
 //! Laws of scripts.
 ghost use Rattle.std.specs.Prelude.{◌≡◌, ℕ, List};
 ghost use Rattle.pv_binary.specs.OneOfThree.{AreBytes};
+ghost use Rattle.rl_stream.specs.Nexts.{Decider};
 ghost use Rattle.sc_events.specs.declared.inputs.Form.{Form};
-ghost use Rattle.sc_script.specs.Runs.{HasDecider, Decider, Course};
+ghost use Rattle.sc_script.specs.Runs.{Course};
 ghost use Rattle.sc_script.specs.Scripts.{IsCourseOf};
 
-use pv_binary::one_of_three;
-use rl_packet::one_packet_a_value;
 use sc_events::one_reading;
-
-/// What is next in a stream can be told.
-pub fn next_is_decided()
-    ensures { HasDecider }
-{
-    one_of_three();
-    one_packet_a_value();
-}
 
 /// An input has one course: it runs through one list of steps, or stops for one cause.
 pub fn one_course()

@@ -12,6 +12,7 @@ mod scripts;
 mod streams;
 
 pub use faults::ScriptFault;
-pub use laws::{next_is_decided, one_course};
+pub use laws::one_course;
 pub use ran::run_script;
+pub use rl_stream::next_is_decided;
 pub use sc_events::{Form, is_text, one_reading};

@@ -1,27 +1,26 @@
 //! Runs of scripts, over any body of a dataspace.
 ghost use Rattle.std.specs.Prelude.{◌≡◌, ◌≢◌, ◌+◌, ◌<◌, ◌≤◌, ℕ, IfOk, IfErr, IfSome};
+ghost use Rattle.rl_stream.specs.Nexts.{Decider, Decides};
 ghost use Rattle.hub_machine.specs.Machine.{IsAllowed};
 ghost use Rattle.hub_machine.specs.declared.steps.Step.TheVariants as steps;
+ghost use Rattle.hub_outs.specs.Outs.{turning};
 ghost use Rattle.sc_events.specs.Events.{event_of, NamesASpace};
 ghost use Rattle.sc_script.specs.declared.faults.ScriptFault.TheVariants as fault;
-ghost use Rattle.sc_script.specs.Runs.{Running, Decider, Decides, Course, goes, beginning, stepped};
-ghost use Rattle.sc_script.specs.Runs.{turned, drained, with_stream, with_no_packet};
-ghost use Rattle.sc_script.specs.Runs.{packets_read, bytes_come, was_opened, may_turn, after_event};
-ghost use Rattle.hub_outs.specs.Outs.{turning};
-ghost use Rattle.sc_script.specs.Runs.{after_value, course_of, size_of, noted, IsAt};
-ghost use Rattle.sc_script.specs.Runs.{HasRun};
-ghost use Rattle.sc_script.specs.Runs.{IsStopped, RunsAs, StopsAs, with_packet};
-ghost use Rattle.sc_script.specs.Runs.{ReadsOn};
+ghost use Rattle.sc_script.specs.Runs.{Running, Course, goes, beginning, stepped, turned, drained};
+ghost use Rattle.sc_script.specs.Runs.{with_stream, with_no_packet, packets_read, bytes_come};
+ghost use Rattle.sc_script.specs.Runs.{was_opened, may_turn, after_event, after_value, course_of};
+ghost use Rattle.sc_script.specs.Runs.{size_of, noted, IsAt, HasRun, IsStopped, RunsAs, StopsAs};
+ghost use Rattle.sc_script.specs.Runs.{with_packet, ReadsOn};
 
 use crate::faults::ScriptFault;
-use crate::streams::{Stream, Streams};
+use crate::streams::Streams;
 use ds_space::Space;
 use hub_core::{Fault, Hub, Reply, Step};
 use hub_outs::{Outs, turning};
 use pv_binary::write_into;
 use pv_value::{NoMemory, Value};
 use rl_packet::{Packet, Turn, packet_value};
-use rl_stream::Next;
+use rl_stream::{Next, Stream};
 use sc_events::{ScriptEvent, event_of};
 use std::alloc::Global;
 use std::marker::Model;

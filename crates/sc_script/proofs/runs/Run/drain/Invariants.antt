@@ -1,5 +1,6 @@
 use Rattle.std.proofs.Common.{◌-◌}
-use Rattle.sc_script.specs.Runs.{Running, Decider, Decides, drained, IsAt}
+use Rattle.rl_stream.specs.Nexts.{Decider, Decides}
+use Rattle.sc_script.specs.Runs.{Running, drained, IsAt}
 use Rattle.sc_script.proofs.Courses.{GoesOn}
 use Rattle.sc_script.proofs.runs.Run.drain.Given as goal
 

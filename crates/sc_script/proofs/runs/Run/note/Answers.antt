@@ -17,5 +17,5 @@ returns-clause-run g c =
     c.saturating_add-size.ensures in
     let all : n ≡ c.args.self.size + size_of p = sum_of size one sum few in
     noted_by c.args.actor p c.args.self _ (ap (λ s. s.state) c.self.view_is)
-    (c.in_ok-keep.ensures ∙ ap (kept c.args.actor p) same)
+    (c.in_ok-keep.ensures.kept ∙ ap (kept c.args.actor p) same)
     all (ap (λ s. s.streams) c.self.view_is)

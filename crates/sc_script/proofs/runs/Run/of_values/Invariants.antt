@@ -1,6 +1,6 @@
 -- What a run of values keeps: the course of all goes on with those that are left.
 use Rattle.std.proofs.Common.{◌≡◌}
-use Rattle.sc_script.specs.Runs.{Decider, Decides}
+use Rattle.rl_stream.specs.Nexts.{Decider, Decides}
 use Rattle.sc_script.proofs.ValuesInTurn.{GoesOnFrom}
 use Rattle.sc_script.proofs.runs.Run.of_values.Given as goal
 

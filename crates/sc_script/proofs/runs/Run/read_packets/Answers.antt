@@ -1,8 +1,9 @@
 use Rattle.std.proofs.Common.{◌≡◌, suc, length, refl, arith, subst, IfSome}
-use Rattle.sc_script.specs.Runs.{StreamState, packets_read}
+use Rattle.rl_stream.specs.Streams.{StreamState}
+use Rattle.sc_script.specs.Runs.{packets_read}
 use Rattle.sc_script.proofs.FaultsPassed.{err_so}
-use Rattle.sc_script.proofs.PacketsRead.{whole_size, whole_is_less, no_packet_runs, no_packet_stops}
-use Rattle.sc_script.proofs.PacketsRead.{packet_reads, packet_runs, packet_stops}
+use Rattle.sc_script.proofs.PacketsRead.{whole_size, whole_is_less, no_packet_runs, no_packet_stops, packet_reads}
+use Rattle.sc_script.proofs.PacketsRead.{packet_runs, packet_stops}
 use Rattle.sc_script.proofs.runs.Run.read_packets.Goals as goal
 
 pub loop-run-init : goal.loop-run-init

@@ -12,7 +12,7 @@ use Rattle.rl_packet.specs.declared.packets.Event.TheVariants.{Assert, Retract, 
 use Rattle.rl_packet.specs.declared.packets.TurnEvent.{TurnEvent}
 use Rattle.rl_packet.specs.Packets.{event_value, aimed_value}
 use Rattle.rl_packet.specs.Grammar.{is_wired, is_peer, IsEvent, IsTurnEvent, IsTurnEventOf, IsEventOf}
-use Rattle.sc_script.proofs.Finding.{when, when_some, then_find, then_some, or_find, first_some}
+use Rattle.rl_stream.proofs.Finding.{when, when_some, then_find, then_some, or_find, first_some}
 
 -- ---- numbers
 

@@ -6,9 +6,8 @@ use Rattle.pv_binary.specs.Kinds.{kind_number}
 use Rattle.pv_binary.specs.OneOfThree.{AreBytes, OneOfThreeHolds}
 use Rattle.rl_stream.specs.declared.nexts.Next.{Next}
 use Rattle.rl_stream.specs.declared.nexts.Next.TheVariants.{Whole, BadBytes, BadPacket, Waits}
-use Rattle.rl_stream.specs.Nexts.{front_of, IsNext}
-use Rattle.sc_script.specs.Runs.{HasDecider}
-use Rattle.sc_script.proofs.PacketFinding.{packet_or_none}
+use Rattle.rl_stream.specs.Nexts.{front_of, IsNext, HasDecider}
+use Rattle.rl_stream.proofs.PacketFinding.{packet_or_none}
 
 are_bytes : (bytes : List ℕ) → AreBytes bytes ⊎ (AreBytes bytes → ⊥)
 are_bytes [] = inl (All-nil (λ b. b < 256))

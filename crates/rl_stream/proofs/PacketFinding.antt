@@ -8,8 +8,8 @@ use Rattle.rl_packet.specs.declared.packets.Packet.{Packet}
 use Rattle.rl_packet.specs.declared.packets.Packet.TheVariants.{Turn, Error, Nop, Extension}
 use Rattle.rl_packet.specs.Packets.{aimed_value, packet_value}
 use Rattle.rl_packet.specs.Grammar.{is_string, is_record, IsPacket, IsPacketOf, IsErrorOf}
-use Rattle.sc_script.proofs.Finding.{when, then_find, then_some}
-use Rattle.sc_script.proofs.EventFinding.{turn_of, turn_some}
+use Rattle.rl_stream.proofs.Finding.{when, then_find, then_some}
+use Rattle.rl_stream.proofs.EventFinding.{turn_of, turn_some}
 
 is_error : (s t : List ℕ) (d : Plain) → bytes_eq s (codes "error") ≡ true
     → record_of (symbol s) (then_more (string t) (then_more d no_more)) ≡ packet_value (Error (string t) d)
