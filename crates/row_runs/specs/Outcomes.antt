@@ -1,6 +1,6 @@
 -- What comes of a row, and what a row that passes says of the definitions.
-use Rattle.std.specs.Prelude.{◌≡◌, ◌≢◌, ◌↔◌, ◌≤◌, ℕ, List, [], length, take, Bool, true, None, Contains, All, IfSome}
-use Rattle.dsd_top.specs.Commands.{request_of, command_of, notice_of, text_of}
+use Rattle.std.specs.Prelude.{◌≡◌, ◌≢◌, ◌↔◌, ◌≤◌, ◌⊎◌, ℕ, List, [], length, take, Bool, true, None, Contains, All, IfSome}
+use Rattle.dsd_top.specs.Commands.{request_of, command_of, notice_of, text_of, is_serve}
 use Rattle.dsd_top.specs.Statuses.{statuses_of, IsAnswerOf, IsBadInput, IsOver, IsNotBuilt}
 use Rattle.dsd_top.specs.declared.words.Command.{Command}
 use Rattle.row_files.specs.Lines.{lines_of}
@@ -27,6 +27,10 @@ pub record IsOutcome (words : List (List ℕ)) (input : List ℕ) (status : ℕ)
   pub cut : status ≡ 4 → IfSome (command_of words) (λ c. IsFrontOfAnswer c input output)
   pub shown_front : status ≡ 4 → IfSome (notice_of words) (λ n. IsFrontOf (text_of n) output)
   pub unwritten : status ≢ 0 → status ≢ 4 → output ≡ []
+
+-- what isn't run: words whose first begins with `serve`, or an input in pieces of no byte
+abbrev pub IsUnfit : List (List ℕ) → ℕ → Type 0
+IsUnfit words piece = (is_serve words ≡ true) ⊎ (piece ≡ 0)
 
 -- the status and the output of a row are what comes of its words and its input
 abbrev pub RowHolds : RowTold → Type 0

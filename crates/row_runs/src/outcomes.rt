@@ -1,8 +1,9 @@
 //! What comes of a row.
-ghost use Rattle.std.specs.Prelude.{◌≡◌, ◌≤◌, [], false, IfOk};
+ghost use Rattle.std.specs.Prelude.{◌≡◌, ◌≢◌, ◌≤◌, [], false, IfOk, IfErr};
 ghost use Rattle.out_ports.specs.MemSource.{source_of as source_told};
 ghost use Rattle.dsd_top.specs.Commands.{texts, is_serve as begins_with_serve};
-ghost use Rattle.row_runs.specs.Outcomes.{IsOutcome};
+ghost use Rattle.row_cases.specs.declared.faults.Fault.TheVariants.{NoMemory};
+ghost use Rattle.row_runs.specs.Outcomes.{IsOutcome, IsUnfit};
 
 use dsd_top::dsd_once;
 use out_ports::memory::{MemHost, MemListen, MemSink, MemSource};
@@ -26,8 +27,10 @@ fn is_serve(words: &[String]) -> bool
 /// What comes of what a row gives. A row whose first word begins with `serve`, or whose pieces have
 /// no byte, is refused by its form.
 pub fn outcome_of(alloc: Global, row: &Row) -> Result<Outcome, Fault>
-    ensures { IfOk result (λ outcome. IsOutcome (texts row.now.words.items) row.now.input.items
-        outcome.status outcome.output.items) }
+    ensures outcome { IfOk result (λ outcome. IsOutcome (texts row.now.words.items)
+        row.now.input.items outcome.status outcome.output.items) }
+    ensures refused { IfErr result (λ f. f ≢ NoMemory
+        → IsUnfit (texts row.now.words.items) row.now.piece) }
 {
     if is_serve(&row.words) {
         return Err(Fault::Form("words that begin with serve"));
