@@ -9,7 +9,6 @@ mod laws;
 mod ran;
 mod runs;
 mod scripts;
-mod streams;
 
 pub use faults::ScriptFault;
 pub use laws::one_course;

@@ -13,7 +13,6 @@ ghost use Rattle.sc_script.specs.Runs.{size_of, noted, IsAt, HasRun, IsStopped, 
 ghost use Rattle.sc_script.specs.Runs.{with_packet, ReadsOn};
 
 use crate::faults::ScriptFault;
-use crate::streams::Streams;
 use ds_space::Space;
 use hub_core::{Fault, Hub, Reply, Step};
 use hub_outs::{Outs, turning};
@@ -22,6 +21,7 @@ use pv_value::{NoMemory, Value};
 use rl_packet::{Packet, Turn, packet_value};
 use rl_stream::{Next, Stream};
 use sc_events::{ScriptEvent, event_of};
+use sc_streams::Streams;
 use std::alloc::Global;
 use std::marker::Model;
 

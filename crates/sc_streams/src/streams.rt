@@ -1,5 +1,5 @@
 //! What connections have sent: a stream for each of them.
-ghost use Rattle.std.specs.Prelude.{◌≡◌, [], unwrap_or, IfOk, OnOk};
+ghost use Rattle.std.specs.Prelude.{◌≡◌, [], unwrap_or, IfOk, OnOk, OnErr};
 ghost use Rattle.ac_world.specs.Worlds.{entry_of, with_entry, without_entry};
 ghost use Rattle.rl_stream.specs.Streams.{no_stream, with_bytes};
 
@@ -11,7 +11,7 @@ use std::marker::Model;
 
 /// The streams of connections, by their numbers.
 #[derive(Drop)]
-pub(crate) struct Streams {
+pub struct Streams {
     alloc: Global,
     list: BTreeMap<u32, Stream>,
 }
@@ -32,7 +32,8 @@ impl Model for Streams {
 }
 
 impl Streams {
-    pub(crate) fn new(alloc: Global) -> Streams
+    /// Nothing was sent.
+    pub fn new(alloc: Global) -> Streams
         ensures { result ≡ [] }
     {
         Streams {
@@ -41,8 +42,9 @@ impl Streams {
         }
     }
 
-    /// A connection's stream, with more bytes in it. It is taken out.
-    pub(crate) fn take(&mut self, connection: u32, more: &[u8]) -> Result<Stream, NoMemory>
+    /// A connection's stream, with more bytes in it. It is taken out, and for want of memory it is
+    /// gone.
+    pub fn take(&mut self, connection: u32, more: &[u8]) -> Result<Stream, NoMemory>
         ensures stream { IfOk result (λ st. st
             ≡ with_bytes more.now (unwrap_or (entry_of connection self.old) no_stream)) }
         ensures others { self.new ≡ without_entry connection self.old }
@@ -55,9 +57,10 @@ impl Streams {
         Ok(stream)
     }
 
-    /// A connection's stream is put in.
-    pub(crate) fn put(&mut self, connection: u32, stream: Stream) -> Result<(), NoMemory>
-        ensures { OnOk result (self.new ≡ with_entry connection stream self.old) }
+    /// A connection's stream is put in. For want of memory it is gone, and the others stand.
+    pub fn put(&mut self, connection: u32, stream: Stream) -> Result<(), NoMemory>
+        ensures put { OnOk result (self.new ≡ with_entry connection stream self.old) }
+        ensures undone { OnErr result (self.new ≡ self.old) }
     {
         self.list.insert(connection, stream)?;
         Ok(())
