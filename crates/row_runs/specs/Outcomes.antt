@@ -1,5 +1,6 @@
 -- What comes of a row, and what a row that passes says of the definitions.
-use Rattle.std.specs.Prelude.{◌≡◌, ◌≢◌, ◌↔◌, ◌≤◌, ◌⊎◌, ℕ, List, [], length, take, Bool, true, None, Contains, All, IfSome}
+use Rattle.std.specs.Prelude.{◌≡◌, ◌≢◌, ◌↔◌, ◌≤◌, ◌⊎◌, ℕ, List, [], length, take, Bool, true, None, Contains, All}
+use Rattle.std.specs.Prelude.{IfSome}
 use Rattle.dsd_top.specs.Commands.{request_of, command_of, notice_of, text_of, is_serve}
 use Rattle.dsd_top.specs.Statuses.{statuses_of, IsAnswerOf, IsBadInput, IsOver, IsNotBuilt}
 use Rattle.dsd_top.specs.declared.words.Command.{Command}
