@@ -1,6 +1,7 @@
 //! The real host: files by name. It opens no port yet, so it gives no link.
-ghost use Rattle.std.specs.Prelude.{◌≡◌, ◌≤◌, None, take, IfOk, IfSome, vec_len};
-ghost use Rattle.out_ports.specs.Ports.{raised};
+ghost use Rattle.std.specs.Prelude.{◌≡◌, ◌≤◌, None, take, IfOk, IfSome, IsErrOf, vec_len};
+ghost use Rattle.out_ports.specs.Ports.{raised, Rose};
+ghost use Rattle.out_ports.specs.declared.ports.HostFault.TheVariants as fault;
 
 use crate::streams::{ReadSource, WriteSink};
 use out_ports::ports::{Accepted, FILE_READ, Host, HostFault, Listen, Source};
@@ -95,6 +96,7 @@ fn front_of<I: Source>(alloc: Global, file: &mut I) -> Result<Vec<u8>, HostFault
     ensures content { IfOk result (λ front. IfSome (I.left file.old) (λ bytes.
         front.items ≡ take 1048577 bytes)) }
     ensures size { IfOk result (λ front. vec_len front ≤ 1048577) }
+    ensures cause { IsErrOf result fault.Failed → Rose (I.faults file.old) (I.faults file.new) }
 {
     match read_front(alloc, file, FILE_READ) {
         Ok(front) => Ok(front),
