@@ -4,9 +4,10 @@ use Rattle.std.proofs.Common.{Option, Some, None}
 use Rattle.std.proofs.Common.{is_some, option_map, option_and_then, unwrap_or, refl, ap, ◌∙◌}
 use Rattle.pv_value.specs.Plain.{Plain}
 use Rattle.dp_pattern.specs.Patterns.{Group, Pattern, discard, bind, literal, group, Fields, no_fields, then_field}
-use Rattle.dp_pattern.specs.Matching.{same, is_of, part_of, both, matched, matched_fields}
+use Rattle.pv_words.specs.Parts.{same, both}
+use Rattle.dp_pattern.specs.Matching.{is_of, part_of, matched, matched_fields}
 use Rattle.dp_pattern.specs.Gathered.{gathered, gathered_fields}
-use Rattle.dp_pattern.specs.Lemmas.Found.{If, if_cond, if_map, if_both, found_is, counted_is}
+use Rattle.pv_words.specs.Lemmas.Found.{If, if_cond, if_map, if_both, found_is, counted_is}
 use Rattle.dp_pattern.specs.Laws.{binds, field_binds, CapturesAreBinds}
 
 abbrev Gathers : Pattern → Plain → List Plain → Type 0

@@ -5,7 +5,7 @@ use Rattle.std.proofs.lemmas.List.{at_drop_more}
 use Rattle.pv_value.specs.View.{key_and_value}
 use Rattle.pv_value.specs.declared.Entry.{Entry}
 use Rattle.pv_value.specs.Plain.{Plain, pairs, PlainPairs, no_pairs, then_pair}
-use Rattle.dp_pattern.specs.Words.{labelled}
+use Rattle.pv_words.specs.Words.{labelled}
 use Rattle.dp_pattern.specs.Patterns.{Group, InRecord, InSequence, InDictionary, Pattern, group, Fields, no_fields}
 use Rattle.dp_pattern.specs.Patterns.{then_field}
 use Rattle.dp_pattern.specs.Written.{is_place, are_places, group_of, grouped, with_field, pattern_of, fields_in}

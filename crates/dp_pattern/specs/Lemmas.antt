@@ -1,5 +1,4 @@
 -- Lemmas on the definitions, which proofs here and above cite. A reader of the contracts needs none of them.
 pub mod Coded
 pub mod Falls
-pub mod Found
 pub mod Measures

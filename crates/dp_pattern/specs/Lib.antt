@@ -4,5 +4,4 @@ pub mod Lemmas
 pub mod Matching
 pub mod Patterns
 pub mod View
-pub mod Words
 pub mod Written

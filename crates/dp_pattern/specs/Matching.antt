@@ -1,30 +1,10 @@
 -- What a pattern captures of a value. Syndicate Protocol, "dataspace patterns".
-use Rattle.std.specs.Prelude.{ℕ, zero, suc, pos, Bool, true, false, List, [], ◌∷◌, ◌++◌, Option, Some, None, option_map}
+use Rattle.std.specs.Prelude.{Bool, true, false, List, [], ◌∷◌, Option, Some, None, option_map}
 use Rattle.std.specs.Prelude.{option_and_then, if◌then◌else◌}
-use Rattle.std.specs.Ordering.{eq_by_cmp}
-use Rattle.pv_value.specs.Plain.{Plain, integer, record_of, sequence, dictionary, Plains, no_more, then_more}
-use Rattle.pv_value.specs.Plain.{PlainPairs}
-use Rattle.pv_value.specs.Plain.{no_pairs, then_pair}
-use Rattle.pv_value.specs.Order.{order}
+use Rattle.pv_value.specs.Plain.{Plain, record_of, sequence, dictionary}
+use Rattle.pv_words.specs.Parts.{same, item_under, value_under, both}
 use Rattle.dp_pattern.specs.Patterns.{Group, InRecord, InSequence, InDictionary, Pattern, discard, bind, literal, group}
 use Rattle.dp_pattern.specs.Patterns.{Fields, no_fields, then_field}
-
--- whether two values are one
-abbrev pub same : Plain → Plain → Bool
-same v w = eq_by_cmp order v w
-
-abbrev pub item_at : Plains → ℕ → Option Plain
-item_at no_more i = None
-item_at (then_more x xs) zero = Some x
-item_at (then_more x xs) (suc i) = item_at xs i
-
-abbrev pub value_under : PlainPairs → Plain → Option Plain
-value_under no_pairs key = None
-value_under (then_pair k v ps) key = if same k key then Some v else value_under ps key
-
-abbrev pub item_under : Plains → Plain → Option Plain
-item_under xs (integer (pos i)) = item_at xs i
-item_under xs key = None
 
 -- whether the value is of the group's kind
 abbrev pub is_of : Group → Plain → Bool
@@ -39,11 +19,6 @@ part_of (InRecord label) (record_of l fs) key = item_under fs key
 part_of InSequence (sequence xs) key = item_under xs key
 part_of InDictionary (dictionary ps) key = value_under ps key
 part_of g v key = None
-
-abbrev pub both : Option (List Plain) → Option (List Plain) → Option (List Plain)
-both (Some cs) (Some ds) = Some (cs ++ ds)
-both (Some cs) None = None
-both None ds = None
 
 -- the captures, in order, or nothing where the value doesn't match
 abbrev mutual

@@ -3,7 +3,7 @@ use Rattle.std.specs.Prelude.{ℕ, ◌^◌, pos, Bool, true, false, ◌&&◌, na
 use Rattle.std.specs.Prelude.{if◌then◌else◌}
 use Rattle.pv_value.specs.Plain.{Plain, boolean, double, integer, string, byte_string, symbol, record_of, sequence}
 use Rattle.pv_value.specs.Plain.{set_of, dictionary, embedded, no_more, then_more, PlainPairs, no_pairs, then_pair}
-use Rattle.dp_pattern.specs.Words.{is_word}
+use Rattle.pv_words.specs.Words.{is_word}
 use Rattle.dp_pattern.specs.Patterns.{Group, InRecord, InSequence, InDictionary, Pattern, discard, bind, literal, group}
 use Rattle.dp_pattern.specs.Patterns.{Fields, no_fields, then_field}
 

@@ -9,14 +9,12 @@ mod laws;
 mod matching;
 mod parsing;
 mod parts;
-mod words;
 
 pub use laws::captures_are_binds;
 pub use matching::{captures, matches};
 pub use parsing::parse;
 use pv_value::Value;
 use std::marker::Model;
-pub use words::{is_word, labelled, number, number_in, worded};
 
 /// A dataspace pattern.
 ///

@@ -9,9 +9,9 @@ ghost use Rattle.dp_pattern.specs.Written.{fields_of, fields_in};
 ghost use Rattle.dp_pattern.specs.Written.{places_in, keys_fit};
 ghost use Rattle.dp_pattern.specs.View.{listed_fields, view_form};
 
-use crate::words::{is_word, worded};
 use crate::{DPat, Field, Form, Group};
 use pv_value::{Entry, NoMemory, Node, Text, Value};
+use pv_words::{is_word, worded};
 use std::alloc::Global;
 
 /// The pattern that a value writes, where it is of the grammar.

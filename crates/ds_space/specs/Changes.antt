@@ -6,7 +6,7 @@ use Rattle.std.specs.List.{list_any, filter}
 use Rattle.pv_value.specs.Plain.{Plain}
 use Rattle.pv_value.specs.Order.{order}
 use Rattle.pv_value.specs.WellFormed.{Ascend}
-use Rattle.dp_pattern.specs.Matching.{same}
+use Rattle.pv_words.specs.Parts.{same}
 use Rattle.ds_space.specs.Wants.{wanted}
 pub use Rattle.ds_space.specs.declared.space.Change.{Change}
 pub use Rattle.ds_space.specs.declared.space.Change.TheVariants.{Left, Came}

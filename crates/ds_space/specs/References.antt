@@ -3,7 +3,7 @@
 use Rattle.std.specs.Prelude.{pos, ◌^◌, [], ◌∷◌, Bool, false, ◌&&◌, nat_lt, nat_le, Option, Some, None}
 use Rattle.std.specs.Prelude.{if◌then◌else◌}
 use Rattle.pv_value.specs.Plain.{Plain, integer, sequence, then_more, plains}
-use Rattle.dp_pattern.specs.Words.{number}
+use Rattle.pv_words.specs.Words.{number}
 pub use Rattle.ds_space.specs.declared.references.Reference.{Reference}
 
 -- `[a e ..]`: an actor's number is below 2 ^ 32, and an object's below 2 ^ 63

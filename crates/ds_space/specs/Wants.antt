@@ -6,10 +6,11 @@ use Rattle.pv_value.specs.Plain.{Plain, symbol, record_of, sequence, embedded, n
 use Rattle.pv_value.specs.Order.{order}
 use Rattle.pv_value.specs.Sets.{ascending_by}
 use Rattle.pv_value.specs.Weight.{weight}
-use Rattle.dp_pattern.specs.Words.{is_word}
+use Rattle.pv_words.specs.Words.{is_word}
 use Rattle.dp_pattern.specs.Patterns.{Pattern}
 use Rattle.dp_pattern.specs.Written.{pattern_of}
-use Rattle.dp_pattern.specs.Matching.{same, matched}
+use Rattle.pv_words.specs.Parts.{same}
+use Rattle.dp_pattern.specs.Matching.{matched}
 use Rattle.ds_space.specs.References.{names_observer}
 
 abbrev pub is_observer : Plain → Bool

@@ -6,7 +6,8 @@ ghost use Rattle.std.specs.BTreeMap as tree;
 ghost use Rattle.std.specs.BTreeSet as sorted;
 ghost use Rattle.pv_value.specs.Plain.{Plain};
 ghost use Rattle.pv_value.specs.Order.{order};
-ghost use Rattle.dp_pattern.specs.Matching.{matched, same};
+ghost use Rattle.pv_words.specs.Parts.{same};
+ghost use Rattle.dp_pattern.specs.Matching.{matched};
 ghost use Rattle.ds_space.specs.Wants.{key_of, is_one, is_key, gives, wanted, wants};
 
 use crate::observing::observer_of;

@@ -6,7 +6,7 @@ ghost use Rattle.std.specs.BTreeSet as sorted;
 ghost use Rattle.pv_value.specs.Plain.{Plain};
 ghost use Rattle.pv_value.specs.Order.{order};
 ghost use Rattle.pv_value.specs.Sets.{ascending_by};
-ghost use Rattle.dp_pattern.specs.Matching.{same};
+ghost use Rattle.pv_words.specs.Parts.{same};
 ghost use Rattle.ds_space.specs.Changes.{among};
 ghost use Rattle.ds_space.specs.Wants.{captured};
 ghost use Rattle.ds_space.specs.Fans.{fan_for, fan_of};

@@ -3,8 +3,9 @@ ghost use Rattle.std.specs.Prelude.{◌≡◌, IfOk};
 ghost use Rattle.ds_space.specs.Wants.{observer_of, observer_by, is_observer};
 
 use crate::references::names_observer;
-use dp_pattern::{DPat, is_word, parse, worded};
+use dp_pattern::{DPat, parse};
 use pv_value::{NoMemory, Node, Text, Value};
+use pv_words::{is_word, worded};
 use std::alloc::Global;
 
 /// The pattern of an observation `<Observe p #:r>`, where r names a watcher's object or a

@@ -2,8 +2,8 @@
 ghost use Rattle.std.specs.Prelude.{◌≡◌, IfOk};
 ghost use Rattle.ds_space.specs.References.{reference_of, reference_value, names_observer};
 
-use dp_pattern::{number, number_in};
 use pv_value::{Items, NoMemory, Node, Value};
+use pv_words::{number, number_in};
 use std::alloc::Global;
 
 /// An object of an actor.

@@ -12,7 +12,7 @@ use Rattle.std.proofs.lemmas.List.Sorted.{IsPermutation-append_left}
 use Rattle.std.proofs.lemmas.Map.Keys.{IsDistinct-from_sorted}
 use Rattle.pv_value.specs.Plain.{Plain}
 use Rattle.pv_value.specs.Order.{order}
-use Rattle.dp_pattern.specs.Matching.{same}
+use Rattle.pv_words.specs.Parts.{same}
 use Rattle.ds_space.specs.Wants.{wants}
 use Rattle.ds_space.specs.Lemmas.Lists.{wants_ascend}
 use Rattle.rl_packet.specs.Holding.{holdings_in_order, insert_holding, is_before}

@@ -11,7 +11,8 @@ use Rattle.pv_value.specs.Plain.{Plain, sequence, plains}
 use Rattle.pv_value.specs.Order.{order}
 use Rattle.pv_value.specs.Lemmas.OrderLaws.{order_total}
 use Rattle.dp_pattern.specs.Patterns.{Pattern}
-use Rattle.dp_pattern.specs.Matching.{same, matched}
+use Rattle.pv_words.specs.Parts.{same}
+use Rattle.dp_pattern.specs.Matching.{matched}
 use Rattle.ds_space.specs.Changes.{among}
 use Rattle.ds_space.specs.Wants.{observer_of, captured, key_of, is_key, gives, wants}
 use Rattle.ds_space.specs.Lemmas.Keys.{same_is, same_self, or_false, any_same, any_flat, any_none}

@@ -13,7 +13,7 @@ use Rattle.pv_value.specs.Plain.{Plain, symbol, record_of, sequence, embedded, n
 use Rattle.pv_value.specs.WellFormed.{Ascend}
 use Rattle.pv_value.specs.Lemmas.OrderLaws.{order_total}
 use Rattle.dp_pattern.specs.Patterns.{Pattern}
-use Rattle.dp_pattern.specs.Matching.{same}
+use Rattle.pv_words.specs.Parts.{same}
 use Rattle.ds_space.specs.declared.references.Reference.{Reference}
 use Rattle.ds_space.specs.References.{reference_of, is_observers}
 use Rattle.sr_caveat.specs.declared.caps.Cap.{Cap}

@@ -6,7 +6,8 @@ use Rattle.std.specs.Prelude.{if◌then◌else◌}
 use Rattle.std.specs.List.{flat_map}
 use Rattle.pv_value.specs.Plain.{Plain, sequence, plains}
 use Rattle.dp_pattern.specs.Patterns.{Pattern}
-use Rattle.dp_pattern.specs.Matching.{same, matched}
+use Rattle.pv_words.specs.Parts.{same}
+use Rattle.dp_pattern.specs.Matching.{matched}
 use Rattle.ds_space.specs.Wants.{observer_of}
 use Rattle.ac_table.specs.declared.batches.Row.{Row}
 use Rattle.ac_world.specs.declared.aims.Aim.{Aim}

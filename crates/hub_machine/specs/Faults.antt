@@ -3,7 +3,7 @@
 use Rattle.std.specs.Prelude.{ℕ, List, [], ◌∷◌, map, codes, Bool, Option, Some, None, nat_lt, if◌then◌else◌}
 use Rattle.std.specs.Option.{option_or}
 use Rattle.pv_value.specs.Plain.{string, sequence, plains}
-use Rattle.dp_pattern.specs.Words.{number}
+use Rattle.pv_words.specs.Words.{number}
 use Rattle.rl_packet.specs.declared.packets.Packet.{Packet}
 use Rattle.rl_packet.specs.declared.packets.Packet.TheVariants.{Error}
 pub use Rattle.hub_machine.specs.declared.faults.Fault.{Fault}

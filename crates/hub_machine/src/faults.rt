@@ -1,11 +1,11 @@
 //! Why connections end.
 ghost use Rattle.std.specs.Prelude.{◌≡◌, ◌++◌, map, IfOk};
-ghost use Rattle.dp_pattern.specs.Words.{number as number_told};
+ghost use Rattle.pv_words.specs.Words.{number as number_told};
 ghost use Rattle.hub_machine.specs.Faults.{error_with, error_of, over as is_over};
 ghost use Rattle.hub_machine.specs.Faults.{overrun as is_overrun};
 
-use dp_pattern::number;
 use pv_value::{Items, NoMemory, Text, Value};
+use pv_words::number;
 use rl_packet::Packet;
 use std::alloc::Global;
 

@@ -2,7 +2,7 @@
 use Rattle.std.proofs.Common.{◌≡◌, ℕ, List, [], ◌∷◌, map, refl, sym, ap, ◌∙◌, arith}
 use Rattle.pv_value.specs.Plain.{Plain, sequence, plains, listed}
 use Rattle.pv_value.specs.Lemmas.Listed.{listed-plains}
-use Rattle.dp_pattern.specs.Words.{labelled, number}
+use Rattle.pv_words.specs.Words.{labelled, number}
 use Rattle.rl_packet.specs.Packets.{Event, Assert, Retract, Message, Sync, TurnEvent, event_value, aimed_value}
 use Rattle.rl_packet.specs.Packets.{Turn, Error, Nop, Extension, turn_value}
 use Rattle.rl_packet.specs.Grammar.{OnePacket}

@@ -4,7 +4,7 @@ use Rattle.std.proofs.Common.{codes, get_or, map, Result, Ok, Err, IfErr, IsErrA
 use Rattle.std.specs.List.{AllByRecursion}
 use Rattle.std.proofs.lemmas.Slice.Eq.{bytes_eq-Decides}
 use Rattle.pv_value.specs.Plain.{Plain, sequence, plains}
-use Rattle.dp_pattern.specs.Words.{is_word, labelled, number}
+use Rattle.pv_words.specs.Words.{is_word, labelled, number}
 use Rattle.rl_packet.specs.Packets.{Event, Assert, Retract, Message, Sync, TurnEvent, event_value, aimed_value}
 use Rattle.rl_packet.specs.Grammar.{IsTurnEvent, IsTurnOf, IsTurnEventOf, IsEventOf, IsErrorOf, NoneIs}
 use Rattle.rl_packet.specs.declared.reading.PacketFault.{PacketFault}

@@ -4,7 +4,7 @@ use Rattle.std.proofs.Common.{None}
 use Rattle.std.proofs.Common.{List, [], ◌∷◌, length, get_or, is_some, refl, sym, ap, ◌∙◌, arith}
 use Rattle.std.proofs.lemmas.Bool.Decides.{nat_tests}
 use Rattle.pv_value.specs.Plain.{Plain, integer, sequence, plains}
-use Rattle.dp_pattern.specs.Words.{number, number_in}
+use Rattle.pv_words.specs.Words.{number, number_in}
 use Rattle.rl_packet.specs.Grammar.{is_wire_reference}
 
 number_at : (m n : ℕ) (b : Bool) → nat_lt m (2 ^ 63) ≡ b → Some n ≡ cond b (Some m) None → (m ≡ n) × (n < 2 ^ 63)

@@ -3,7 +3,7 @@
 -- Syndicate Protocol, "packets".
 use Rattle.std.specs.Prelude.{List, [], ◌∷◌, map, codes, false}
 use Rattle.pv_value.specs.Plain.{Plain, boolean, sequence, plains}
-use Rattle.dp_pattern.specs.Words.{labelled, number}
+use Rattle.pv_words.specs.Words.{labelled, number}
 pub use Rattle.rl_packet.specs.declared.packets.Event.{Event}
 pub use Rattle.rl_packet.specs.declared.packets.Event.TheVariants.{Assert, Retract, Message, Sync}
 pub use Rattle.rl_packet.specs.declared.packets.TurnEvent.{TurnEvent}

@@ -3,7 +3,7 @@
 use Rattle.std.specs.Prelude.{◌≡◌, zero, suc, pos, ◌^◌, ◌<◌, Bool, true, false, ◌&&◌, is_some}
 use Rattle.pv_value.specs.Plain.{Plain, integer, record_of, sequence, set_of, dictionary, embedded}
 use Rattle.pv_value.specs.Plain.{Plains, no_more, then_more, PlainPairs, no_pairs, then_pair}
-use Rattle.dp_pattern.specs.Words.{number_in}
+use Rattle.pv_words.specs.Words.{number_in}
 use Rattle.rl_packet.specs.declared.packets.Event.{Event}
 use Rattle.rl_packet.specs.declared.packets.Event.TheVariants.{Assert, Retract, Message, Sync}
 use Rattle.rl_packet.specs.declared.packets.TurnEvent.{TurnEvent}

@@ -5,8 +5,8 @@ ghost use Rattle.std.specs.Prelude.{◌==◌};
 ghost use Rattle.std.specs.List.{AllByRecursion};
 ghost use Rattle.rl_packet.specs.Wired.{IsTurnEvent};
 
-use dp_pattern::{labelled, number};
 use pv_value::{Items, NoMemory, Value};
+use pv_words::{labelled, number};
 use std::alloc::Global;
 use std::marker::Model;
 

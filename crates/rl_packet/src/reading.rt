@@ -4,7 +4,7 @@ ghost use Rattle.std.specs.Prelude.{true, false};
 ghost use Rattle.std.specs.List.{AllByRecursion};
 ghost use Rattle.pv_value.specs.Plain.{Plain, sequence, plains, pairs};
 ghost use Rattle.pv_value.specs.View.{key_and_value};
-ghost use Rattle.dp_pattern.specs.Words.{labelled};
+ghost use Rattle.pv_words.specs.Words.{labelled};
 ghost use Rattle.rl_packet.specs.Wired.{is_wire_reference, is_wired, all_wired, all_pairs_wired};
 ghost use Rattle.rl_packet.specs.Wired.{is_peer, IsEvent, IsTurnEvent};
 ghost use Rattle.rl_packet.specs.Grammar.{is_string, is_record, NoneIs, IsPacketOf};
@@ -12,8 +12,8 @@ ghost use Rattle.rl_packet.specs.Grammar.{IsTurnOf, IsTurnEventOf, IsEventOf, Is
 ghost use Rattle.rl_packet.specs.declared.reading.PacketFault.TheVariants as fault;
 
 use crate::packets::{Event, Packet, Turn, TurnEvent};
-use dp_pattern::{is_word, number_in, worded};
 use pv_value::{Entry, NoMemory, Node, Value};
+use pv_words::{is_word, number_in, worded};
 use std::alloc::{AllocError, AllocFailed, Global};
 use thiserror::Error;
 

@@ -14,7 +14,7 @@ use Rattle.pv_value.specs.Plain.{Plain}
 use Rattle.pv_value.specs.Order.{order}
 use Rattle.pv_value.specs.Weight.{weight}
 use Rattle.pv_value.specs.Lemmas.OrderLaws.{order_same}
-use Rattle.dp_pattern.specs.Matching.{same}
+use Rattle.pv_words.specs.Parts.{same}
 use Rattle.rl_ports.specs.Ports.{place_of, weight_of, told, export_fault, IsWhy, PortsFault, Exports, Weight, NoMemory}
 use Rattle.rl_ports.specs.Kept.{Export, number_at, references, AreOnce, IsWeighed, IsKept, fault_of}
 use Rattle.rl_ports.proofs.Places.{where_it, place-append, same_turns, once_push, once_pop}

@@ -5,7 +5,7 @@ use Rattle.std.specs.Option.{option_or}
 use Rattle.std.specs.Cmp.{eq_by_cmp_equiv}
 use Rattle.pv_value.specs.Plain.{Plain}
 use Rattle.pv_value.specs.Lemmas.OrderLaws.{order_total}
-use Rattle.dp_pattern.specs.Matching.{same}
+use Rattle.pv_words.specs.Parts.{same}
 use Rattle.rl_ports.specs.Ports.{place_of}
 use Rattle.rl_ports.specs.Kept.{AreOnce}
 

@@ -8,7 +8,7 @@ use Rattle.std.specs.BTreeMap.{insert_entry, is_at}
 use Rattle.std.specs.Ordering.{nat_cmp}
 use Rattle.pv_value.specs.Weight.{weight}
 use Rattle.pv_value.specs.Plain.{Plain}
-use Rattle.dp_pattern.specs.Matching.{same}
+use Rattle.pv_words.specs.Parts.{same}
 pub use Rattle.rl_ports.specs.declared.ports.Inbound.{Inbound}
 pub use Rattle.rl_ports.specs.declared.ports.Inbound.TheVariants.{Row, Refused}
 pub use Rattle.rl_ports.specs.declared.ports.PortsFault.{PortsFault}

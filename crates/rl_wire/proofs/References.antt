@@ -5,7 +5,7 @@ use Rattle.std.proofs.lemmas.List.{append-nil}
 use Rattle.std.proofs.Math.Seq.{take-length}
 use Rattle.pv_value.specs.Plain.{Plain, integer, sequence, plains, listed}
 use Rattle.pv_value.specs.Lemmas.Listed.{listed-plains, plains-listed}
-use Rattle.dp_pattern.specs.Words.{number_in}
+use Rattle.pv_words.specs.Words.{number_in}
 use Rattle.rl_wire.specs.Crossing.{wire_of, caveats_in, caveat_kept, with_caveats}
 
 pub too_short : (xs : List Plain) → length xs < 2 → wire_of (sequence (plains xs)) ≡ None

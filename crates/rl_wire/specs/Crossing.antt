@@ -16,7 +16,7 @@ use Rattle.pv_value.specs.Order.{order}
 use Rattle.pv_value.specs.Sets.{ascending_by}
 use Rattle.pv_value.specs.Weight.{weight}
 use Rattle.pv_value.specs.Depth.{depth}
-use Rattle.dp_pattern.specs.Words.{number, number_in}
+use Rattle.pv_words.specs.Words.{number, number_in}
 use Rattle.ds_space.specs.declared.references.Reference.{Reference}
 use Rattle.ds_space.specs.References.{reference_of, reference_value}
 use Rattle.sr_caveat.specs.Spelled.{caveat_value}

@@ -4,8 +4,8 @@ ghost use Rattle.rl_wire.specs.Crossing.{wire_of, wire_value, caveats_in, caveat
 ghost use Rattle.rl_wire.specs.Crossing.{with_caveats};
 
 use crate::rebuilding::copies;
-use dp_pattern::{number, number_in};
 use pv_value::{Items, NoMemory, Node, Value};
+use pv_words::{number, number_in};
 use sr_caveat::parse_caveat;
 use std::alloc::Global;
 

@@ -2,7 +2,7 @@
 use Rattle.std.specs.Prelude.{◌≡◌, ℕ, ◌+◌, ◌-◌, ◌^◌, min, List, [], ◌∷◌, codes, map, ◌⊎◌}
 use Rattle.std.specs.List.{range_with_len}
 use Rattle.pv_value.specs.Plain.{Plain, symbol}
-use Rattle.dp_pattern.specs.Words.{labelled, number}
+use Rattle.pv_words.specs.Words.{labelled, number}
 use Rattle.rl_packet.specs.Grammar.{IsPacketOf}
 use Rattle.rl_packet.specs.declared.packets.Event.TheVariants.{Assert}
 use Rattle.rl_packet.specs.declared.packets.Packet.TheVariants.{Turn as TurnPacket}

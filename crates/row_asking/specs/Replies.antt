@@ -1,7 +1,7 @@
 -- The replies of the machine as values: a word, or a record of a number or of a packet.
 use Rattle.std.specs.Prelude.{List, ℕ, [], ◌∷◌, map, codes, Option, Some, None}
 use Rattle.pv_value.specs.Plain.{Plain, plains, sequence, symbol}
-use Rattle.dp_pattern.specs.Words.{labelled, number}
+use Rattle.pv_words.specs.Words.{labelled, number}
 use Rattle.rl_packet.specs.Packets.{packet_value}
 use Rattle.rl_packet.specs.declared.holding.Holding.{Holding}
 use Rattle.hub_machine.specs.Faults.{error_of}

@@ -1,13 +1,13 @@
 //! What a case of a row of steps does, or what it asks.
 ghost use Rattle.std.specs.Prelude.{◌≡◌, [], ◌∷◌, codes, IfOk};
 ghost use Rattle.pv_value.specs.Plain.{symbol};
-ghost use Rattle.dp_pattern.specs.Words.{labelled, number as number_value};
+ghost use Rattle.pv_words.specs.Words.{labelled, number as number_value};
 ghost use Rattle.row_asking.specs.Asking.{Asks, IsTurnAt, IsCause, assertions as assertions_of};
 ghost use Rattle.hub_machine.specs.declared.faults.Fault.TheVariants.{BadBytes};
 
-use dp_pattern::{is_word, number_in, worded};
 use hub_machine::{Fault as Cause, Step};
 use pv_value::{Node, Value};
+use pv_words::{is_word, number_in, worded};
 use rl_packet::{Event, Packet, PacketFault, Turn, TurnEvent, packet_of};
 use row_cases::Fault;
 use std::alloc::Global;

@@ -1,12 +1,12 @@
 //! What the hub answers, as values.
 ghost use Rattle.std.specs.Prelude.{◌≡◌, [], ◌∷◌, IfOk};
 ghost use Rattle.pv_value.specs.Plain.{symbol};
-ghost use Rattle.dp_pattern.specs.Words.{labelled as labelled_value};
+ghost use Rattle.pv_words.specs.Words.{labelled as labelled_value};
 ghost use Rattle.row_asking.specs.Replies.{reply_value, actor_value, holding_value, holdings_value};
 
-use dp_pattern::{labelled, number};
 use hub_machine::Reply;
 use pv_value::{Items, NoMemory, Text, Value};
+use pv_words::{labelled, number};
 use rl_packet::{Holding, packet_value};
 use std::alloc::Global;
 

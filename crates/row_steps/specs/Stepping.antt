@@ -2,7 +2,7 @@
 -- the hub has to keep it away. A question changes nothing.
 use Rattle.std.specs.Prelude.{◌≡◌, ◌-◌, ◌^◌, min}
 use Rattle.pv_value.specs.Plain.{boolean}
-use Rattle.dp_pattern.specs.Words.{number}
+use Rattle.pv_words.specs.Words.{number}
 use Rattle.rl_packet.specs.Holding.{held}
 use Rattle.hub_machine.specs.State.{is_there}
 use Rattle.hub_machine.specs.Machine.{step}

@@ -7,11 +7,11 @@ ghost use Rattle.row_asking.specs.Replies.{holdings_value};
 ghost use Rattle.row_steps.specs.Hands.{first_hand, hand_of};
 ghost use Rattle.row_steps.specs.Stepping.{IsStepped, IsAnswered};
 
-use dp_pattern::number;
 use ds_space::PlainSpace;
 use hub_core::{Hub, Reply, Step};
 use hub_outs::{Outs, turning};
 use pv_value::{NoMemory, Value};
+use pv_words::number;
 use rl_packet::held;
 use row_asking::{Asked, actor_value, holdings_value, reply_value};
 use std::alloc::Global;

@@ -2,7 +2,7 @@
 use Rattle.std.proofs.Common.{◌≡◌, ◌≢◌, ℕ, List, [], ◌∷◌, length, refl, Bool, true, false, None, codes}
 use Rattle.std.proofs.lemmas.Slice.Eq.{bytes_eq-Decides}
 use Rattle.pv_value.specs.Plain.{Plain, plains}
-use Rattle.dp_pattern.specs.Words.{is_word}
+use Rattle.pv_words.specs.Words.{is_word}
 use Rattle.sc_events.specs.Events.{event_of_four, event_of_record}
 
 pub no_record : (word : List ℕ) (fs : List Plain) → length fs ≢ 1 → length fs ≢ 2 → length fs ≢ 4

@@ -4,7 +4,7 @@ use Rattle.std.specs.Prelude.{codes}
 use Rattle.std.specs.Prelude.{Option, Some, None, is_some, option_map, if◌then◌else◌}
 use Rattle.pv_value.specs.Plain.{Plain, integer, string, byte_string, symbol, record_of, sequence, Plains, no_more}
 use Rattle.pv_value.specs.Plain.{then_more}
-use Rattle.dp_pattern.specs.Words.{is_word}
+use Rattle.pv_words.specs.Words.{is_word}
 use Rattle.dp_pattern.specs.Written.{pattern_of}
 use Rattle.sr_caveat.specs.Embedded.{has_embedded}
 pub use Rattle.sc_events.specs.declared.events.ScriptEvent.{ScriptEvent}

@@ -7,8 +7,9 @@ ghost use Rattle.sc_events.specs.Events.{bytes_event, event_of_two, is_byte_stri
 ghost use Rattle.sc_events.specs.Events.{is_symbol, is_binding, is_watch, unbuilt_where};
 ghost use Rattle.sc_events.specs.Events.{event_of_four, event_of_record, event_of};
 
-use dp_pattern::{parse, worded};
+use dp_pattern::parse;
 use pv_value::{Blob, NoMemory, Node, Text, Value};
+use pv_words::worded;
 use sr_caveat::has_embedded;
 use std::alloc::Global;
 

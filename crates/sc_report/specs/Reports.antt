@@ -2,7 +2,7 @@
 -- connections ascending, out the written spellings of all packets that were sent to it.
 use Rattle.std.specs.Prelude.{ℕ, ◌+◌, Bool, List, [], ◌∷◌, map, codes, if◌then◌else◌}
 use Rattle.pv_value.specs.Plain.{Plain, symbol, byte_string, sequence, plains}
-use Rattle.dp_pattern.specs.Words.{labelled, number}
+use Rattle.pv_words.specs.Words.{labelled, number}
 use Rattle.rl_packet.specs.declared.holding.Holding.{Holding}
 
 -- of a connection: whether it is there, the bytes that it was sent, and what its peer holds by them

@@ -5,8 +5,8 @@ ghost use Rattle.sc_report.specs.Reports.{connection_value as connection_told};
 ghost use Rattle.sc_report.specs.Reports.{connection_values, report_of};
 
 use crate::ran::{Connection, Ran};
-use dp_pattern::{labelled, number};
 use pv_value::{Items, NoMemory, Text, Value};
+use pv_words::{labelled, number};
 use rl_packet::Holding;
 use std::alloc::Global;
 

@@ -4,7 +4,7 @@ use Rattle.std.proofs.Common.{ltb}
 use Rattle.std.specs.Prelude.{codes}
 use Rattle.pv_value.specs.Plain.{Plain, symbol, record_of, sequence, dictionary, Plains, no_more, then_more}
 use Rattle.pv_value.specs.Plain.{PlainPairs, no_pairs, then_pair}
-use Rattle.dp_pattern.specs.Words.{is_word, number_in}
+use Rattle.pv_words.specs.Words.{is_word, number_in}
 use Rattle.sr_caveat.specs.Embedded.{has_embedded}
 use Rattle.sr_caveat.specs.Patterns.{Pattern, Template, Templates, Caveat, rewrite, one_of, reject, guard, Rewrites}
 use Rattle.sr_caveat.specs.Patterns.{binding, constant, record_from, sequence_from, dictionary_of, reject_all}
@@ -18,7 +18,7 @@ use Rattle.sr_caveat.specs.Written.{templates_in_pairs, caveats_of, caveats_in, 
 use Rattle.sr_caveat.specs.Laws.{guards_in_template, guards_in_templates, guards_in, guards_in_caveats}
 use Rattle.sr_caveat.specs.Laws.{guards_in_rewrites}
 use Rattle.sr_caveat.specs.Laws.{NoGuardFromTheWire}
-use Rattle.dp_pattern.specs.Lemmas.Found.{If, if_cond, if_map}
+use Rattle.pv_words.specs.Lemmas.Found.{If, if_cond, if_map}
 
 no_more_guards : (xs ys : List (List ℕ)) → xs ≡ [] → ys ≡ [] → xs ++ ys ≡ []
 no_more_guards xs ys e f = λ i. e i ++ f i

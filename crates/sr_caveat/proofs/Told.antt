@@ -3,7 +3,7 @@ use Rattle.std.proofs.Common.{◌≡◌, ℕ, ◌<◌, ◌≤◌, get_or, List, 
 use Rattle.std.proofs.Common.{Result, Ok}
 use Rattle.std.proofs.Common.{Err, IfOk, refl, ap, ◌∙◌, sym, arith}
 use Rattle.pv_value.specs.Plain.{Plain, pairs, then_more}
-use Rattle.dp_pattern.specs.Words.{labelled, HasNoWord}
+use Rattle.pv_words.specs.Words.{labelled, HasNoWord}
 use Rattle.pv_value.specs.Plain.{record_of, symbol}
 use Rattle.pv_value.specs.View.{view_node}
 use Rattle.pv_value.specs.declared.Node.{Node}

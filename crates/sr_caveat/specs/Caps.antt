@@ -4,8 +4,8 @@ use Rattle.std.specs.Prelude.{ℕ, ◌≡◌, ◌^◌, ◌<◌, true, nat_lt, Li
 use Rattle.std.specs.Prelude.{option_and_then, if◌then◌else◌}
 use Rattle.std.specs.List.{AllByRecursion}
 use Rattle.pv_value.specs.Plain.{Plain, sequence, Plains, no_more, then_more}
-use Rattle.dp_pattern.specs.Words.{number, number_in}
-use Rattle.dp_pattern.specs.Matching.{same}
+use Rattle.pv_words.specs.Words.{number, number_in}
+use Rattle.pv_words.specs.Parts.{same}
 use Rattle.sr_caveat.specs.Patterns.{Caveat, caveats}
 use Rattle.sr_caveat.specs.Spelled.{caveat_value, caveat_values}
 use Rattle.sr_caveat.specs.Written.{caveat_of}

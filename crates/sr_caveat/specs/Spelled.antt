@@ -2,7 +2,7 @@
 use Rattle.std.specs.Prelude.{ℕ, List, [], ◌∷◌, codes}
 use Rattle.pv_value.specs.Plain.{Plain, symbol, sequence, dictionary, Plains, no_more, then_more}
 use Rattle.pv_value.specs.Plain.{PlainPairs, no_pairs, then_pair}
-use Rattle.dp_pattern.specs.Words.{labelled, number}
+use Rattle.pv_words.specs.Words.{labelled, number}
 use Rattle.sr_caveat.specs.Patterns.{Kind, Boolean, Double, SignedInteger, String, ByteString, Symbol, Embedded}
 use Rattle.sr_caveat.specs.Patterns.{Pattern, discard, of_kind, bind, all_of, none_of, literal, record_with}
 use Rattle.sr_caveat.specs.Patterns.{sequence_with, dictionary_with, Patterns, no_patterns, then_pattern}

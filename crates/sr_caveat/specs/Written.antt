@@ -4,7 +4,7 @@ use Rattle.std.specs.Prelude.{option_map, unwrap_or, codes, if◌then◌else◌}
 use Rattle.pv_value.specs.Plain.{Plain, symbol, record_of, sequence, dictionary, Plains, no_more, then_more}
 use Rattle.pv_value.specs.Plain.{PlainPairs, no_pairs, then_pair}
 use Rattle.sr_caveat.specs.Embedded.{has_embedded}
-use Rattle.dp_pattern.specs.Words.{is_word, number_in}
+use Rattle.pv_words.specs.Words.{is_word, number_in}
 use Rattle.sr_caveat.specs.Patterns.{Kind, Boolean, Double, SignedInteger, String, ByteString, Symbol, Embedded}
 use Rattle.sr_caveat.specs.Patterns.{Pattern, discard, of_kind, bind, all_of, none_of, literal, record_with}
 use Rattle.sr_caveat.specs.Patterns.{sequence_with, dictionary_with, Patterns, no_patterns, then_pattern}

@@ -2,7 +2,7 @@
 ghost use Rattle.std.specs.Prelude.{◌≡◌, IfOk, map, option_map, Some, None};
 ghost use Rattle.pv_value.specs.Plain.{plains, pairs};
 ghost use Rattle.pv_value.specs.View.{key_and_value};
-ghost use Rattle.dp_pattern.specs.Words.{labelled};
+ghost use Rattle.pv_words.specs.Words.{labelled};
 ghost use Rattle.sr_caveat.specs.Patterns.{reject_all, record_from, sequence_from, dictionary_of};
 ghost use Rattle.sr_caveat.specs.Patterns.{attenuate, one_of, reject, rewrite, caveats};
 ghost use Rattle.sr_caveat.specs.Written.{names_of, pattern_of, template_of, templates_of};
@@ -19,8 +19,8 @@ use crate::binds::binds;
 use crate::embedded::has_embedded;
 use crate::patterns::parse_pattern;
 use crate::{CPat, Caveat, PatternForm, Rewrite, Rule, TemplateForm, Tmpl};
-use dp_pattern::{is_word, number_in, worded};
 use pv_value::{Entries, Entry, NoMemory, Node, Text, Value};
+use pv_words::{is_word, number_in, worded};
 use std::alloc::Global;
 use std::sync::Arc;
 

@@ -1,6 +1,6 @@
 //! The patterns that values write.
 ghost use Rattle.std.specs.Prelude.{◌≡◌, IfOk, map, option_map};
-ghost use Rattle.dp_pattern.specs.Words.{labelled};
+ghost use Rattle.pv_words.specs.Words.{labelled};
 ghost use Rattle.pv_value.specs.Plain.{plains, pairs};
 ghost use Rattle.pv_value.specs.View.{key_and_value};
 ghost use Rattle.sr_caveat.specs.Patterns.{bind, none_of, all_of, sequence_with, dictionary_with};
@@ -11,8 +11,8 @@ ghost use Rattle.sr_caveat.specs.Written.{bare_pattern, short_pattern, record_pa
 ghost use Rattle.sr_caveat.specs.View.{listed_patterns, view_pattern, keys_of};
 
 use crate::{CPat, Kind, PatternForm};
-use dp_pattern::is_word;
 use pv_value::{Entries, Entry, NoMemory, Node, Text, Value};
+use pv_words::is_word;
 use std::alloc::Global;
 
 /// The pattern that a value writes, where it is of the grammar.

@@ -3,7 +3,7 @@ ghost use Rattle.std.specs.Prelude.{◌≡◌, IfOk, map, [], codes};
 ghost use Rattle.pv_value.specs.Plain.{sequence, dictionary, symbol, plains, pairs};
 ghost use Rattle.pv_value.specs.View.{key_and_value};
 ghost use Rattle.pv_value.specs.WellFormed.{KeysAscend};
-ghost use Rattle.dp_pattern.specs.Words.{labelled};
+ghost use Rattle.pv_words.specs.Words.{labelled};
 ghost use Rattle.sr_caveat.specs.Patterns.{caveats, rewrite};
 ghost use Rattle.sr_caveat.specs.Spelled.{with_one, with_two, paired_with, kind_name};
 ghost use Rattle.sr_caveat.specs.Spelled.{pattern_value, pattern_values, template_value};
@@ -12,8 +12,8 @@ ghost use Rattle.sr_caveat.specs.Spelled.{rewrite_values};
 ghost use Rattle.sr_caveat.specs.View.{listed_patterns, listed_templates, listed_rewrites, keys_of};
 
 use crate::{CPat, Caveat, Kind, PatternForm, Rewrite, Rule, TemplateForm, Tmpl};
-use dp_pattern::{labelled, number};
 use pv_value::{Entries, Entry, Items, NoMemory, Text, Value};
+use pv_words::{labelled, number};
 use std::alloc::Global;
 
 impl Caveat {

@@ -5,7 +5,7 @@ use Rattle.std.proofs.lemmas.Bool.Decides.{nat_tests}
 use Rattle.pv_value.specs.Plain.{Plain, Plains, plains, no_more, PlainPairs}
 use Rattle.pv_value.specs.declared.Entry.{Entry}
 use Rattle.pv_value.specs.View.{key_and_value}
-use Rattle.dp_pattern.specs.Matching.{both, value_under}
+use Rattle.pv_words.specs.Parts.{both, value_under}
 use Rattle.sr_caveat.specs.Patterns.{Pattern, Patterns, no_patterns, then_pattern}
 use Rattle.sr_caveat.specs.View.{listed_patterns, keys_of}
 use Rattle.sr_caveat.specs.Lemmas.Dropping.{drop_end}

@@ -3,8 +3,8 @@ use Rattle.std.proofs.Common.{◌≡◌, ℕ, ◌+◌, List, [], ◌∷◌, ◌+
 use Rattle.std.proofs.Common.{Option, Some, None}
 use Rattle.std.proofs.Common.{is_some, option_map, option_and_then, unwrap_or, refl, sym, ap, ◌∙◌, arith}
 use Rattle.pv_value.specs.Plain.{Plain, Plains, no_more, then_more, PlainPairs}
-use Rattle.dp_pattern.specs.Lemmas.Found.{If, if_map, if_both, found_is, counted_is}
-use Rattle.dp_pattern.specs.Matching.{same, value_under}
+use Rattle.pv_words.specs.Lemmas.Found.{If, if_map, if_both, found_is, counted_is}
+use Rattle.pv_words.specs.Parts.{same, value_under}
 use Rattle.sr_caveat.specs.Patterns.{Pattern, discard, of_kind, bind, all_of, none_of, literal, record_with}
 use Rattle.sr_caveat.specs.Patterns.{sequence_with, dictionary_with, Patterns, no_patterns, then_pattern}
 use Rattle.sr_caveat.specs.Written.{binds, all_binds}

@@ -19,7 +19,7 @@ use Rattle.sr_caveat.specs.Lemmas.Capped.{cap_is}
 use Rattle.sr_pass.specs.Filling.{is_reference, if_reference, reference_with, dictionary_under, with_first, filled}
 use Rattle.sr_pass.specs.Filling.{all_filled}
 use Rattle.sr_pass.specs.Passing.{fits, if_fits}
-use Rattle.dp_pattern.specs.Lemmas.Found.{If}
+use Rattle.pv_words.specs.Lemmas.Found.{If}
 use Rattle.std.proofs.Common.{◌<◌, get_or}
 use Rattle.sr_pass.specs.Sizes.{Size, weights_of, depths_of}
 use Rattle.sr_pass.specs.Sizes.{in_place, filled_weight, filled_weights, filled_depth, filled_depths}

@@ -3,7 +3,7 @@ use Rattle.std.specs.Prelude.{Bool, true, false, List, [], ◌∷◌, Option, So
 use Rattle.std.specs.Prelude.{if◌then◌else◌}
 use Rattle.pv_value.specs.Plain.{Plain, boolean, double, integer, string, byte_string, symbol, record_of, sequence}
 use Rattle.pv_value.specs.Plain.{dictionary, embedded, Plains, no_more, then_more, PlainPairs}
-use Rattle.dp_pattern.specs.Matching.{same, both, value_under}
+use Rattle.pv_words.specs.Parts.{same, both, value_under}
 use Rattle.sr_caveat.specs.declared.Kind.{Kind}
 use Rattle.sr_caveat.specs.declared.Kind.TheVariants.{Boolean, Double, SignedInteger, String, ByteString, Symbol}
 use Rattle.sr_caveat.specs.declared.Kind.TheVariants.{Embedded}

@@ -3,7 +3,7 @@ use Rattle.std.specs.Prelude.{List, [], ◌∷◌, ◌++◌, option_map, unwrap_
 use Rattle.pv_value.specs.Plain.{Plain, Plains, no_more, then_more, PlainPairs}
 use Rattle.sr_caveat.specs.Patterns.{Pattern, discard, of_kind, bind, all_of, none_of, literal, record_with}
 use Rattle.sr_caveat.specs.Patterns.{sequence_with, dictionary_with, Patterns, no_patterns, then_pattern}
-use Rattle.dp_pattern.specs.Matching.{value_under}
+use Rattle.pv_words.specs.Parts.{value_under}
 use Rattle.sr_pass.specs.Binding.{fields_of, items_of, pairs_of}
 
 abbrev mutual

@@ -3,14 +3,14 @@ ghost use Rattle.std.specs.Prelude.{◌≡◌, ◌++◌, IfOk, OnOk, is_some, ma
 ghost use Rattle.std.specs.Prelude.{vec_items, option_and_then, unwrap_or, []};
 ghost use Rattle.pv_value.specs.Plain.{plains, pairs};
 ghost use Rattle.pv_value.specs.View.{key_and_value};
-ghost use Rattle.dp_pattern.specs.Matching.{value_under};
 ghost use Rattle.sr_caveat.specs.View.{listed_patterns, keys_of};
 ghost use Rattle.sr_pass.specs.Binding.{is_kind, bound, all_bound, each_bound, under_keys};
 ghost use Rattle.sr_pass.specs.Binding.{fields_of, items_of, pairs_of, values_under};
 ghost use Rattle.sr_pass.specs.Gathered.{gathered, all_gathered, each_gathered};
 ghost use Rattle.sr_pass.specs.Gathered.{gathered_under};
 
-use pv_value::{Entry, NoMemory, Node, Value};
+use pv_value::{Entries, Entry, NoMemory, Node, Value};
+use pv_words::value_under;
 use sr_caveat::{CPat, Kind, PatternForm};
 use std::alloc::Global;
 
@@ -63,7 +63,7 @@ fn is_dictionary(keys: &[Entry], patterns: &[CPat], value: &Value) -> bool
         (values_under (keys_of (map key_and_value keys.now)) value.now)) }
 {
     match &value.node {
-        Node::Dict(entries) => each_matches_under(keys, patterns, entries.as_slice()),
+        Node::Dict(entries) => each_matches_under(keys, patterns, entries),
         _ => false,
     }
 }
@@ -100,10 +100,10 @@ fn each_matches(patterns: &[CPat], values: &[Value]) -> bool
 /// Whether each value under a key matches the key's pattern, and there are as many patterns as
 /// keys.
 #[cycle(matching)]
-fn each_matches_under(keys: &[Entry], patterns: &[CPat], entries: &[Entry]) -> bool
+fn each_matches_under(keys: &[Entry], patterns: &[CPat], entries: &Entries) -> bool
     ensures { result ≡ is_some (option_and_then (each_bound (listed_patterns patterns.now))
         (under_keys (keys_of (map key_and_value keys.now))
-        (pairs (map key_and_value entries.now)))) }
+        (pairs entries.now))) }
 {
     if patterns.len() != keys.len() {
         return false;
@@ -133,18 +133,6 @@ fn is_kind(kind: Kind, value: &Value) -> bool
         (Kind::Embedded, Node::Emb(_)) => true,
         _ => false,
     }
-}
-
-/// The value under a key.
-fn value_under<'a>(entries: &'a [Entry], key: &Value) -> Option<&'a Value>
-    ensures { option_copied result ≡ value_under (pairs (map key_and_value entries.now)) key.now }
-{
-    for e in entries {
-        if e.key == *key {
-            return Some(&e.value);
-        }
-    }
-    None
 }
 
 /// What the pattern binds of the value, in order, where it matches. Where it doesn't, nothing was
@@ -229,7 +217,7 @@ fn gather_values(
         (keys_of (map key_and_value keys.now))) (pairs_of value.now)) []) }
 {
     match &value.node {
-        Node::Dict(entries) => gather_under(found, keys, patterns, entries.as_slice()),
+        Node::Dict(entries) => gather_under(found, keys, patterns, entries),
         _ => Ok(()),
     }
 }
@@ -261,11 +249,11 @@ fn gather_under(
     found: &mut Vec<Value>,
     keys: &[Entry],
     patterns: &[CPat],
-    entries: &[Entry],
+    entries: &Entries,
 ) -> Result<(), NoMemory>
     ensures { OnOk result (found.new.items ≡ found.old.items
         ++ gathered_under (listed_patterns patterns.now) (keys_of (map key_and_value keys.now))
-        (pairs (map key_and_value entries.now))) }
+        (pairs entries.now)) }
 {
     for i in 0..patterns.len().min(keys.len()) {
         gather_part(found, &patterns[i], value_under(entries, &keys[i].key))?;

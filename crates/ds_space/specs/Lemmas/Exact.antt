@@ -8,7 +8,7 @@ use Rattle.std.specs.List.Sorted.{IsStrictlySortedBy}
 use Rattle.pv_value.specs.Plain.{Plain}
 use Rattle.pv_value.specs.Order.{order}
 use Rattle.pv_value.specs.WellFormed.{Ascend}
-use Rattle.dp_pattern.specs.Matching.{same}
+use Rattle.pv_words.specs.Parts.{same}
 use Rattle.ds_space.specs.Wants.{wants, wanted}
 use Rattle.ds_space.specs.Changes.{Change, Left, Came, among, only_over, AreChanges, without, lacking}
 use Rattle.ds_space.specs.Laws.{ChangesAreExact}

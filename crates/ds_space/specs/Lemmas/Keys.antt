@@ -11,7 +11,7 @@ use Rattle.std.proofs.lemmas.Cmp.{tied_itself}
 use Rattle.pv_value.specs.Plain.{Plain}
 use Rattle.pv_value.specs.Order.{order}
 use Rattle.pv_value.specs.Lemmas.OrderLaws.{order_total, order_same}
-use Rattle.dp_pattern.specs.Matching.{same}
+use Rattle.pv_words.specs.Parts.{same}
 
 Equal-is_eq : (o : Ordering) → is_eq o ≡ true → o ≡ Equal
 Equal-is_eq Less e = cc

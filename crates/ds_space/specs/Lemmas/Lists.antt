@@ -18,7 +18,8 @@ use Rattle.pv_value.specs.WellFormed.{Ascend}
 use Rattle.pv_value.specs.Lemmas.OrderLaws.{order_total, order_same}
 use Rattle.pv_value.specs.Lemmas.Ascending.{ascending_sorted}
 use Rattle.dp_pattern.specs.Patterns.{Pattern}
-use Rattle.dp_pattern.specs.Matching.{same, matched}
+use Rattle.pv_words.specs.Parts.{same}
+use Rattle.dp_pattern.specs.Matching.{matched}
 use Rattle.ds_space.specs.Wants.{observer_of, captured, key_of, keys_for, keys_by, is_key, gives, wanted, wants}
 use Rattle.ds_space.specs.Changes.{among}
 use Rattle.ds_space.specs.Laws.{WantsAscend, IsOfTheRule, WantsAreTheRule}

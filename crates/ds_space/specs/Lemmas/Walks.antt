@@ -10,7 +10,7 @@ use Rattle.pv_value.specs.Plain.{Plain}
 use Rattle.pv_value.specs.Order.{order}
 use Rattle.pv_value.specs.WellFormed.{Ascend}
 use Rattle.pv_value.specs.Lemmas.OrderLaws.{order_turn, order_chain}
-use Rattle.dp_pattern.specs.Matching.{same}
+use Rattle.pv_words.specs.Parts.{same}
 use Rattle.ds_space.specs.Changes.{Change, Left, Came, among, only_over, AreChanges, skip_by, skipped, begins_with}
 use Rattle.ds_space.specs.Changes.{lacking}
 use Rattle.ds_space.specs.Wants.{wants}

@@ -7,10 +7,10 @@ use Rattle.std.specs.Option.{option_or}
 use Rattle.std.specs.List.{AllByRecursion}
 use Rattle.pv_value.specs.Plain.{Plain, integer, sequence, embedded, no_more, then_more}
 use Rattle.pv_value.specs.Weight.{weight}
-use Rattle.dp_pattern.specs.Words.{number_in}
+use Rattle.pv_words.specs.Words.{number_in}
 use Rattle.sr_caveat.specs.declared.caps.Cap.{Cap}
 use Rattle.sr_caveat.specs.Caps.{cap_of}
-use Rattle.dp_pattern.specs.Lemmas.Found.{If, if_cond}
+use Rattle.pv_words.specs.Lemmas.Found.{If, if_cond}
 use Rattle.ac_world.specs.Worlds.{WorldState}
 use Rattle.rl_packet.specs.declared.packets.Event.{Event}
 use Rattle.rl_packet.specs.declared.packets.Event.TheVariants.{Assert, Retract, Message, Sync}

@@ -5,7 +5,7 @@ use Rattle.pv_value.specs.Plain.{Plain, sequence, no_more, then_more}
 use Rattle.sr_caveat.specs.declared.caps.Cap.{Cap}
 use Rattle.sr_caveat.specs.Caps.{cap_of}
 use Rattle.sr_pass.specs.Passing.{passed, no_names}
-use Rattle.dp_pattern.specs.Lemmas.Found.{If}
+use Rattle.pv_words.specs.Lemmas.Found.{If}
 use Rattle.ac_world.specs.declared.aims.Aim.{Aim}
 use Rattle.ac_world.specs.Turns.{aim_by, aim_at, observer_in, aim_for, aim_of}
 use Rattle.rl_wire.specs.Crossing.{held_in}

@@ -8,12 +8,13 @@ use Rattle.pv_value.specs.Sets.{ascending_by}
 use Rattle.dp_pattern.specs.declared.Group.{Group}
 use Rattle.dp_pattern.specs.declared.Group.TheVariants.{InRecord, InSequence, InDictionary}
 use Rattle.dp_pattern.specs.Patterns.{Pattern, discard, bind, literal, group, Fields, no_fields, then_field}
-use Rattle.dp_pattern.specs.Matching.{same, item_at, item_under, is_of, part_of, matched}
+use Rattle.pv_words.specs.Parts.{same, item_at, item_under}
+use Rattle.dp_pattern.specs.Matching.{is_of, part_of, matched}
 use Rattle.dp_pattern.specs.Matching.{matched_fields}
 use Rattle.ds_space.specs.Wants.{observer_of, captured, keys_for, keys_by, wants}
 use Rattle.ds_space.specs.declared.space.Fanned.{Fanned}
 use Rattle.ds_space.specs.Fans.{fan_for, fan_of}
-use Rattle.dp_pattern.specs.Lemmas.Found.{If, if_cond}
+use Rattle.pv_words.specs.Lemmas.Found.{If, if_cond}
 use Rattle.rl_wire.specs.Crossing.{held_in, all_held_in}
 use Rattle.rl_wire.specs.Lemmas.Later.{all_of_front, all_of_rest}
 use Rattle.hub_valid.specs.Validity.{IsObjectValue, HoldsObjects}

@@ -7,8 +7,8 @@ use Rattle.pv_value.specs.Plain.{Plain, integer, record_of, sequence, set_of, di
 use Rattle.pv_value.specs.Plain.{string, byte_string, symbol, Plains, no_more, then_more, PlainPairs, no_pairs}
 use Rattle.pv_value.specs.Plain.{then_pair, plains, listed}
 use Rattle.pv_value.specs.Lemmas.Ascending.{or_false}
-use Rattle.dp_pattern.specs.Words.{is_word, number_in}
-use Rattle.dp_pattern.specs.Matching.{same, value_under}
+use Rattle.pv_words.specs.Words.{is_word, number_in}
+use Rattle.pv_words.specs.Parts.{same, value_under}
 use Rattle.sr_caveat.specs.Embedded.{has_embedded, any_embedded, any_pair_embedded}
 use Rattle.sr_caveat.specs.Patterns.{Pattern, discard, of_kind, bind, all_of, none_of, literal, record_with}
 use Rattle.sr_caveat.specs.Patterns.{sequence_with, dictionary_with, Patterns, no_patterns, then_pattern}
@@ -29,7 +29,7 @@ use Rattle.sr_caveat.specs.Written.{standing, names_of, pattern_of, template_of,
 use Rattle.sr_caveat.specs.Written.{templates_under_keys, templates_in_pairs, caveats_of, caveats_in, caveat_in}
 use Rattle.sr_caveat.specs.Written.{rewrites_of, rewrites_in}
 use Rattle.sr_pass.specs.Passing.{if_fits, fits, rewritten, ruled, applied, passed, no_names}
-use Rattle.dp_pattern.specs.Lemmas.Found.{If, if_cond, if_map}
+use Rattle.pv_words.specs.Lemmas.Found.{If, if_cond, if_map}
 use Rattle.sr_caveat.specs.Lemmas.CaveatsBack.{read_back, nothing_embedded}
 use Rattle.sr_caveat.specs.Lemmas.Capped.{cap_sound}
 use Rattle.rl_wire.specs.Crossing.{held_in, all_held_in, all_pairs_held_in}

@@ -4,7 +4,7 @@ use Rattle.std.proofs.Common.{ap, sym, subst, unwrap_or, nat_lt}
 use Rattle.std.specs.List.{AllByRecursion}
 use Rattle.std.specs.Map.{values_of}
 use Rattle.pv_value.specs.Plain.{Plain, boolean, sequence, plains}
-use Rattle.dp_pattern.specs.Lemmas.Found.{If}
+use Rattle.pv_words.specs.Lemmas.Found.{If}
 use Rattle.ds_space.specs.Spaces.{Rows, changed, has_row}
 use Rattle.ds_space.specs.declared.space.SpaceEvent.TheVariants.{Add, Gone}
 use Rattle.ds_space.specs.declared.space.Change.{Change}

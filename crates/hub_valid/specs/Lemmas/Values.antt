@@ -9,11 +9,11 @@ use Rattle.std.specs.List.{AllByRecursion}
 use Rattle.pv_value.specs.Plain.{Plain, record_of, sequence, embedded, no_more, then_more, plains}
 use Rattle.pv_value.specs.Plain.{PlainPairs, no_pairs, then_pair}
 use Rattle.pv_value.specs.Sets.{ascending_by}
-use Rattle.dp_pattern.specs.Matching.{same, both, value_under}
+use Rattle.pv_words.specs.Parts.{same, both, value_under}
 use Rattle.sr_caveat.specs.declared.caps.Cap.{Cap}
 use Rattle.sr_caveat.specs.Caps.{cap_of, cap_value, IsSound}
 use Rattle.sr_caveat.specs.Lemmas.Capped.{caps_are_their_values}
-use Rattle.dp_pattern.specs.Lemmas.Found.{If, if_cond}
+use Rattle.pv_words.specs.Lemmas.Found.{If, if_cond}
 use Rattle.ac_world.specs.Turns.{observer_in}
 use Rattle.rl_wire.specs.Crossing.{held_in, all_held_in, all_pairs_held_in}
 use Rattle.rl_wire.specs.Lemmas.Later.{all_of_front, all_of_rest}

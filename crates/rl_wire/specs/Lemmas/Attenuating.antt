@@ -2,7 +2,7 @@
 use Rattle.std.proofs.Common.{◌≡◌, List, [], ◌∷◌, ◌++◌, map, false, refl, ap, ◌∙◌}
 use Rattle.std.specs.List.{AllByRecursion}
 use Rattle.pv_value.specs.Plain.{Plain, sequence, then_more, plains, listed}
-use Rattle.dp_pattern.specs.Words.{number}
+use Rattle.pv_words.specs.Words.{number}
 use Rattle.sr_caveat.specs.Patterns.{Caveat, caveats}
 use Rattle.sr_caveat.specs.Spelled.{caveat_value, caveat_values}
 use Rattle.sr_caveat.specs.Written.{caveat_of}

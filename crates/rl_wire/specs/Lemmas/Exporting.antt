@@ -5,7 +5,7 @@ use Rattle.std.specs.Prelude.{is_some, option_map, if◌then◌else◌}
 use Rattle.std.specs.Option.{option_or}
 use Rattle.std.specs.List.{AllByRecursion}
 use Rattle.pv_value.specs.Plain.{Plain}
-use Rattle.dp_pattern.specs.Matching.{same}
+use Rattle.pv_words.specs.Parts.{same}
 use Rattle.ds_space.specs.Lemmas.Keys.{same_self}
 use Rattle.rl_ports.specs.Ports.{place_of, exported, fault_at}
 use Rattle.rl_wire.specs.Crossing.{all_exported, fault_out}

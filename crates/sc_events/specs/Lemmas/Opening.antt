@@ -2,7 +2,7 @@
 use Rattle.std.proofs.Common.{◌≡◌, ◌≢◌, ℕ, zero, suc, pos, Bool, true, false, nat_lt, List, codes}
 use Rattle.std.proofs.Common.{ap, ◌∙◌, subst, arith, Option, Some, None, option_map, if◌then◌else◌}
 use Rattle.pv_value.specs.Plain.{Plain, integer, string, byte_string, symbol, record_of, Plains, no_more, then_more}
-use Rattle.dp_pattern.specs.Words.{is_word}
+use Rattle.pv_words.specs.Words.{is_word}
 use Rattle.sc_events.specs.Events.{ScriptEvent, Open, Bytes, Close, Turn, Drain, LongDrain, name_in}
 use Rattle.sc_events.specs.Events.{open_event, drain_event, schema_event, event_of_one}
 use Rattle.sc_events.specs.Events.{event_of_two, unbuilt_where, is_binding, is_watch, event_of_four}

@@ -5,8 +5,8 @@ use Rattle.std.proofs.lemmas.Bool.{lt-ltb}
 use Rattle.std.proofs.lemmas.Bool.Decides.{nat_tests}
 use Rattle.std.specs.List.{AllByRecursion}
 use Rattle.pv_value.specs.Plain.{Plain, integer, sequence, Plains, no_more, then_more}
-use Rattle.dp_pattern.specs.Matching.{same}
-use Rattle.dp_pattern.specs.Words.{number, number_in}
+use Rattle.pv_words.specs.Parts.{same}
+use Rattle.pv_words.specs.Words.{number, number_in}
 use Rattle.ds_space.specs.Lemmas.Keys.{same_is, same_self}
 use Rattle.sr_caveat.specs.Patterns.{Caveat, caveats}
 use Rattle.sr_caveat.specs.Spelled.{caveat_values}

@@ -6,7 +6,7 @@ use Rattle.std.proofs.Common.{cond, refl, sym, ap, ◌∙◌, pos}
 use Rattle.std.specs.Prelude.{codes}
 use Rattle.pv_value.specs.Plain.{Plain, integer, symbol, record_of, sequence, dictionary, Plains, no_more, then_more}
 use Rattle.pv_value.specs.Plain.{PlainPairs, no_pairs, then_pair}
-use Rattle.dp_pattern.specs.Words.{is_word, labelled, number_in}
+use Rattle.pv_words.specs.Words.{is_word, labelled, number_in}
 use Rattle.sr_caveat.specs.Embedded.{has_embedded, any_embedded, any_pair_embedded}
 use Rattle.sr_caveat.specs.Patterns.{Pattern, Template, Templates, Caveat, rewrite, one_of, reject, guard, Rewrites}
 use Rattle.sr_caveat.specs.Patterns.{constant, record_from, sequence_from, dictionary_of}
@@ -21,7 +21,7 @@ use Rattle.sr_caveat.specs.Written.{templates_under_keys, templates_in_pairs, ca
 use Rattle.sr_caveat.specs.Written.{rewrites_of, rewrites_in, caveat_of}
 use Rattle.sr_caveat.specs.Laws.{CaveatsAreReadBack}
 use Rattle.sr_caveat.specs.Caps.{IsReadBack}
-use Rattle.dp_pattern.specs.Lemmas.Found.{If, if_cond, if_map}
+use Rattle.pv_words.specs.Lemmas.Found.{If, if_cond, if_map}
 use Rattle.sr_caveat.specs.Lemmas.PatternsBack.{pattern_back}
 
 -- ---- tests

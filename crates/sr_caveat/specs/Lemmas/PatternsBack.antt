@@ -3,7 +3,7 @@ use Rattle.std.proofs.Common.{◌≡◌, ℕ, List, [], ◌∷◌, Option, Some,
 use Rattle.std.specs.Prelude.{codes}
 use Rattle.pv_value.specs.Plain.{Plain, symbol, record_of, sequence, dictionary, Plains, no_more, then_more}
 use Rattle.pv_value.specs.Plain.{PlainPairs, no_pairs, then_pair}
-use Rattle.dp_pattern.specs.Words.{labelled}
+use Rattle.pv_words.specs.Words.{labelled}
 use Rattle.sr_caveat.specs.Patterns.{Kind, Boolean, Double, SignedInteger, String, ByteString, Symbol, Embedded}
 use Rattle.sr_caveat.specs.Patterns.{Pattern, discard, of_kind, bind, all_of, none_of, literal, record_with}
 use Rattle.sr_caveat.specs.Patterns.{sequence_with, dictionary_with, Patterns}
@@ -11,7 +11,7 @@ use Rattle.sr_caveat.specs.Spelled.{kind_name, paired_with, pattern_value, patte
 use Rattle.sr_caveat.specs.Written.{kind_named, keys_in, keys_of_value, short_pattern, record_pattern}
 use Rattle.sr_caveat.specs.Written.{with_pattern, pattern_of, patterns_of, patterns_in, patterns_under_keys}
 use Rattle.sr_caveat.specs.Written.{patterns_in_pairs}
-use Rattle.dp_pattern.specs.Lemmas.Found.{If, if_map, if_word}
+use Rattle.pv_words.specs.Lemmas.Found.{If, if_map, if_word}
 
 abbrev Named : List ℕ → Kind → Type 0
 Named s k = kind_name k ≡ s

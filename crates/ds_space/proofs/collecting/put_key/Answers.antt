@@ -1,7 +1,7 @@
 use Rattle.std.proofs.Common.{◌||◌, ap, ◌∙◌}
 use Rattle.std.specs.BTreeSet as sorted
 use Rattle.pv_value.specs.Order.{order}
-use Rattle.dp_pattern.specs.Matching.{same}
+use Rattle.pv_words.specs.Parts.{same}
 use Rattle.ds_space.specs.Lemmas.Keys.{or_cond, same_turns}
 use Rattle.ds_space.proofs.collecting.put_key.Goals as goal
 

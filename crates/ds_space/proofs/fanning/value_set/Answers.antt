@@ -1,6 +1,6 @@
 use Rattle.std.proofs.Common.{◌||◌, map, ap, sym, ◌∙◌}
 use Rattle.std.specs.Map.Iter.{deref}
-use Rattle.dp_pattern.specs.Matching.{same}
+use Rattle.pv_words.specs.Parts.{same}
 use Rattle.ds_space.specs.Changes.{among}
 use Rattle.ds_space.specs.Lemmas.Keys.{any-seen_push}
 use Rattle.ds_space.proofs.fanning.value_set.Goals as goal

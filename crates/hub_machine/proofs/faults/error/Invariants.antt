@@ -1,5 +1,5 @@
 use Rattle.std.proofs.Common.{◌≡◌, map, take}
-use Rattle.dp_pattern.specs.Words.{number}
+use Rattle.pv_words.specs.Words.{number}
 use Rattle.hub_machine.proofs.faults.error.Given as goal
 
 abbrev pub invariant-loop-n : goal.invariant-loop-n

@@ -13,7 +13,7 @@ use Rattle.sr_caveat.specs.Lemmas.Told.{if_ok_is, map_twice}
 use Rattle.sr_caveat.proofs.Told.{keys_same, not_listed, template_long, caveat_long, one_item}
 use Rattle.sr_caveat.proofs.Told.{two_items}
 use Rattle.sr_caveat.proofs.Told.{with_if_rewrite}
-use Rattle.dp_pattern.specs.Words.{labelled}
+use Rattle.pv_words.specs.Words.{labelled}
 use Rattle.sr_caveat.specs.Written.{with_rewrite, if_rewrite, attenuated_by, caveats_of, caveat_in}
 use Rattle.sr_caveat.specs.View.{view_rule}
 use Rattle.sr_caveat.specs.View.{keys_of, listed_templates}

@@ -1,9 +1,8 @@
--- What lasts in the loops of `value_under`, and what falls.
 use Rattle.std.proofs.Common.{◌≡◌, map, drop}
 use Rattle.pv_value.specs.Plain.{pairs}
 use Rattle.pv_value.specs.View.{key_and_value}
-use Rattle.dp_pattern.specs.Matching.{value_under}
-use Rattle.sr_pass.proofs.matching.value_under.Given as goal
+use Rattle.pv_words.specs.Parts.{value_under}
+use Rattle.pv_words.proofs.parts.value_among.Given as goal
 
 abbrev pub invariant-loop-e : goal.invariant-loop-e
 invariant-loop-e l =

@@ -1,7 +1,7 @@
 use Rattle.std.proofs.Common.{◌∙◌, sym, ap, option_copied, arith, rules}
 use Rattle.pv_value.specs.Plain.{plains}
-use Rattle.dp_pattern.proofs.Places.{got_item, placed_item, far_item}
-use Rattle.dp_pattern.proofs.parts.item_under.Goals as goal
+use Rattle.pv_words.proofs.Places.{got_item, placed_item, far_item}
+use Rattle.pv_words.proofs.parts.item_under.Goals as goal
 
 pub returns-in_err-place : goal.returns-in_err-place
 returns-in_err-place c =

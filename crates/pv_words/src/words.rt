@@ -1,6 +1,6 @@
 //! Records whose label is a symbol, and numbers.
 ghost use Rattle.std.specs.Prelude.{◌≡◌, IfOk, MatchOption};
-ghost use Rattle.dp_pattern.specs.Words.{is_word, labelled, number, number_in, HasNoWord};
+ghost use Rattle.pv_words.specs.Words.{is_word, labelled, number, number_in, HasNoWord};
 
 use pv_value::{NoMemory, Node, Text, Value};
 use std::alloc::Global;

@@ -3,8 +3,8 @@ use Rattle.std.proofs.Common.{◌≡◌, ℕ, Bool, true, false, List, ◌++◌,
 use Rattle.std.proofs.Common.{is_some, cond, refl, sym, ap, ◌∙◌}
 use Rattle.std.proofs.lemmas.Slice.Eq.{bytes_eq-Decides}
 use Rattle.pv_value.specs.Plain.{Plain}
-use Rattle.dp_pattern.specs.Matching.{both}
-use Rattle.dp_pattern.specs.Words.{is_word}
+use Rattle.pv_words.specs.Parts.{both}
+use Rattle.pv_words.specs.Words.{is_word}
 
 -- a fact about what is there
 abbrev pub If : {A : Type 0} → Option A → (A → Type 0) → Type 0

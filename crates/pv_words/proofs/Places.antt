@@ -5,8 +5,8 @@ use Rattle.std.proofs.Common.{arith, List, [], ◌∷◌, Bool, true, false, con
 use Rattle.std.proofs.Common.{ap, ◌∙◌}
 use Rattle.std.proofs.lemmas.Bool.Decides.{nat_tests}
 use Rattle.pv_value.specs.Plain.{Plain, integer, plains, Plains}
-use Rattle.dp_pattern.specs.Words.{number_in}
-use Rattle.dp_pattern.specs.Matching.{item_at, item_under}
+use Rattle.pv_words.specs.Words.{number_in}
+use Rattle.pv_words.specs.Parts.{item_at, item_under}
 
 got_by : (r : Option (Bor Plain)) (x : Plain) → is_some r ≡ true
     → ((d : Plain) → unwrap_or (option_map (λ (y : Bor Plain). y.now) r) d ≡ x) → option_copied r ≡ Some x
