@@ -1,7 +1,6 @@
 -- The goals of `gather` that the check leaves.
 use Rattle.std.proofs.Common.{◌++◌, map, sym, ap, ◌∙◌, append-nil}
 use Rattle.pv_value.specs.Plain.{pairs}
-use Rattle.pv_value.specs.View.{key_and_value}
 use Rattle.sr_pass.proofs.Beside.{each_end, under_end}
 use Rattle.std.proofs.Common.{arith}
 use Rattle.sr_caveat.specs.Lemmas.Falls.{pattern_at}
@@ -45,6 +44,6 @@ pub gather_under-returns : goal.gather_under-returns
 gather_under-returns t c =
     sym (append-nil c.loop-i.found.items)
     ∙ ap (λ xs. c.loop-i.found.items ++ xs)
-    (sym (under_end c.args.patterns.now c.args.keys.now (pairs (map key_and_value c.args.entries.now)) c.loop-i.i
+    (sym (under_end c.args.patterns.now c.args.keys.now (pairs c.args.entries.now) c.loop-i.i
     (omega arith)))
     ∙ c.loop-i.invariant

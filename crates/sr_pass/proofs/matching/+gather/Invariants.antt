@@ -45,6 +45,6 @@ abbrev pub invariant-gather_under-loop-i : goal.invariant-gather_under-loop-i
 invariant-gather_under-loop-i l =
     l.found.items ++ gathered_under (listed_patterns (drop l.i l.patterns))
     (keys_of (map key_and_value (drop l.i l.keys)))
-    (pairs (map key_and_value l.entries))
+    (pairs l.entries)
     ≡ l.initial.found.items ++ gathered_under (listed_patterns l.patterns) (keys_of (map key_and_value l.keys))
-    (pairs (map key_and_value l.entries))
+    (pairs l.entries)

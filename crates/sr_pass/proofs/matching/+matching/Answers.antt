@@ -5,7 +5,6 @@ use Rattle.sr_pass.specs.Binding.{bound, each_bound, values_under}
 use Rattle.std.proofs.Common.{arith}
 use Rattle.sr_caveat.specs.Lemmas.Falls.{pattern_at}
 use Rattle.pv_value.specs.Plain.{pairs}
-use Rattle.pv_value.specs.View.{key_and_value}
 use Rattle.std.proofs.Common.{map}
 use Rattle.sr_pass.proofs.Beside.{lengths_differ, keys_differ}
 use Rattle.sr_pass.proofs.matching.+matching.Goals as goal
@@ -43,7 +42,7 @@ each_matches-returns-then-patterns-values t c =
 
 pub each_matches_under-returns-then-patterns-keys : goal.each_matches_under-returns-then-patterns-keys
 each_matches_under-returns-then-patterns-keys t c =
-    keys_differ c.args.patterns.now c.args.keys.now (pairs (map key_and_value c.args.entries.now)) (λ e. omega arith)
+    keys_differ c.args.patterns.now c.args.keys.now (pairs c.args.entries.now) (λ e. omega arith)
 
 pub matches-returns-in-Dict : goal.matches-returns-in-Dict
 matches-returns-in-Dict t c =

@@ -41,6 +41,6 @@ invariant-each_matches-loop-i l =
 abbrev pub invariant-each_matches_under-loop-i : goal.invariant-each_matches_under-loop-i
 invariant-each_matches_under-loop-i l =
     is_some (option_and_then (each_bound (listed_patterns (drop l.i l.patterns)))
-    (under_keys (keys_of (map key_and_value (drop l.i l.keys))) (pairs (map key_and_value l.entries))))
+    (under_keys (keys_of (map key_and_value (drop l.i l.keys))) (pairs l.entries)))
     ≡ is_some (option_and_then (each_bound (listed_patterns l.patterns))
-    (under_keys (keys_of (map key_and_value l.keys)) (pairs (map key_and_value l.entries))))
+    (under_keys (keys_of (map key_and_value l.keys)) (pairs l.entries)))
