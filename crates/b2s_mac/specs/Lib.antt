@@ -1,0 +1,3 @@
+pub mod Blake2s
+pub mod Hmac
+pub mod Hashing
