@@ -18,7 +18,8 @@ OneCourse = (st : StreamState) (c d : StreamCourse) → AreBytes st.rest → Are
 -- the packets that were read, and those that are read with more bytes behind what was left, are those of all the bytes
 abbrev pub ReadingGoesOn : Type 0
 ReadingGoesOn = (st : StreamState) (more : List ℕ) (c d : StreamCourse)
-    → ArePacketsOf st c → ArePacketsOf (with_bytes more c.left) d → ArePacketsOf (with_bytes more st) (behind c.packets d)
+    → ArePacketsOf st c → ArePacketsOf (with_bytes more c.left) d
+    → ArePacketsOf (with_bytes more st) (behind c.packets d)
 
 -- what isn't waited for stays as it is whatever comes behind it
 abbrev pub EndsStay : Type 0

@@ -2,3 +2,4 @@
 pub mod Attenuating
 pub mod Exporting
 pub mod Later
+pub mod Returning

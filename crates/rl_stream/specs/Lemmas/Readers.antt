@@ -1,7 +1,7 @@
--- What a reader of a stream keeps true: these packets were read, and this is left. A packet more is read, bytes come, or
--- no packet is next, and all that was read are the packets of the stream.
-use Rattle.std.proofs.Common.{◌≡◌, ℕ, zero, suc, ◌+◌, ◌<◌, List, [], ◌∷◌, ◌++◌, length, false, refl, sym, ap, ◌∙◌, subst}
-use Rattle.std.proofs.Common.{append_assoc, arith}
+-- What a reader of a stream keeps true: these packets were read, and this is left. A packet more is read, or bytes come;
+-- where no packet is next, those that were read are the packets of the stream.
+use Rattle.std.proofs.Common.{◌≡◌, ℕ, zero, suc, ◌+◌, ◌<◌, List, [], ◌∷◌, ◌++◌, length, false, refl, sym, ap, ◌∙◌}
+use Rattle.std.proofs.Common.{subst, append_assoc, arith}
 use Rattle.std.specs.List.{concat}
 use Rattle.std.proofs.lemmas.List.{append-nil, drop-append-le}
 use Rattle.std.proofs.Math.Seq.{take-append_seam}

@@ -1,0 +1,152 @@
+-- A reference that went out comes back when its peer writes it, so that no two are called alike.
+use Rattle.std.proofs.Common.{◌≡◌, ℕ, zero, suc, pos, ◌<◌, ◌≤◌, ◌^◌, List, [], ◌∷◌, Bool, true, false, length}
+use Rattle.std.proofs.Common.{Option, Some, None, refl, sym, ap, ◌∙◌, subst, arith}
+use Rattle.std.specs.Prelude.{is_some, option_map, unwrap_or, slice_get, ◌&&◌, nat_lt, if◌then◌else◌}
+use Rattle.std.specs.List.{AllByRecursion, flat_map}
+use Rattle.std.proofs.lemmas.Bool.Decides.{nat_tests}
+use Rattle.std.proofs.lemmas.List.{append-nil}
+use Rattle.std.proofs.lemmas.Option.{slice_get_within}
+use Rattle.pv_value.specs.Plain.{Plain, integer, sequence, embedded, Plains, no_more, then_more, plains, listed}
+use Rattle.pv_value.specs.Lemmas.Listed.{plains-listed}
+use Rattle.pv_words.specs.Words.{number, number_in}
+use Rattle.pv_words.specs.Parts.{same}
+use Rattle.ds_space.specs.declared.references.Reference.{Reference}
+use Rattle.ds_space.specs.References.{reference_of}
+use Rattle.ds_space.specs.Lemmas.Keys.{same_is}
+use Rattle.rl_ports.specs.Ports.{place_of, number_of}
+use Rattle.rl_wire.specs.Crossing.{is_own, foreign_of, foreign_in, actor_at, wire_value, reference_out, caveats_in}
+use Rattle.rl_wire.specs.Crossing.{with_caveats, wire_of, wire_where, reference_in, exports_with}
+use Rattle.rl_wire.specs.Crossing.{held_in, crossed_in, Own, ExportedAs}
+use Rattle.rl_wire.specs.Laws.{IsReference, IsAmong, HasGoneOut, turned, written_back}
+use Rattle.rl_wire.specs.Laws.{WhatGoesOutIsExported, ReferencesComeBack, ReferencesStayApart}
+use Rattle.rl_wire.specs.Lemmas.Exporting.{are_exported}
+use Rattle.rl_wire.specs.Lemmas.Later.{all_of_front, all_of_rest}
+
+-- ---- what a reference is written as
+
+record IsWrittenAs (x : Plain) (r : Reference) (caveats : Plains) : Type 0 where
+  is : x ≡ sequence (then_more (number r.at) (then_more (number r.entity) caveats))
+  small : r.entity < 2 ^ 63
+
+written_as : (x : Plain) (r : Reference) → reference_of x ≡ Some r → (cs : Plains) × IsWrittenAs x r cs
+written_as (sequence (then_more (integer (pos a)) (then_more (integer (pos e)) cs))) r is =
+    by (nat_lt a (2 ^ 32)) (nat_lt e (2 ^ 63)) refl is
+  where
+    by : (b c : Bool) → nat_lt e (2 ^ 63) ≡ c
+        → (if b && c then Some (record { at = a; entity = e }) else None) ≡ Some r
+        → (ds : Plains) × IsWrittenAs (sequence (then_more (integer (pos a)) (then_more (integer (pos e)) cs))) r ds
+    by true true test same =
+        let at : a ≡ r.at = cc in
+        let entity : e ≡ r.entity = cc in
+        let small : e < 2 ^ 63 = grind (arith, nat_tests) in (
+          cs,
+          record {
+            is = λ i. sequence (then_more (number (at i)) (then_more (number (entity i)) cs));
+            small = subst (λ n. n < 2 ^ 63) entity small;
+          },
+        )
+    by true false test same = absurd cc
+    by false c test same = absurd cc
+written_as x r is = absurd cc
+
+no_caveats : (cs : Plains) → length (listed cs) ≡ 0 → cs ≡ no_more
+no_caveats no_more none = refl
+no_caveats (then_more c cs) none = absurd (omega arith)
+
+small_number : (n : ℕ) → n < 2 ^ 63 → number_in (number n) ≡ Some n
+small_number n small = by (nat_lt n (2 ^ 63)) refl
+  where
+    by : (b : Bool) → nat_lt n (2 ^ 63) ≡ b → (if b then Some n else None) ≡ Some n
+    by true test = refl
+    by false test = absurd (grind (arith, nat_tests))
+
+-- ---- one of the connection's own
+
+is_at : (a : ℕ) (x : Plain) (r : Reference) → is_own a x r ≡ true → (r.at ≡ a) × (length (caveats_in x) ≡ 0)
+is_at a x r own = (grind (arith, nat_tests, own), grind (arith, nat_tests, own))
+
+own_back : (exports : List Plain) (a : ℕ) (x : Plain) (r : Reference) → reference_of x ≡ Some r → is_own a x r ≡ true
+    → reference_in exports a (wire_value 0 r.entity) (wire_of (wire_value 0 r.entity)) ≡ x
+own_back exports a x r is own =
+    let w = written_as x r is in
+    let at = is_at a x r own in
+    let none = no_caveats w.0 (sym (ap (λ y. length (caveats_in y)) w.1.is) ∙ at.1) in
+    ap (λ o. reference_in exports a (wire_value 0 r.entity) (wire_where Own o)) (small_number r.entity w.1.small)
+    ∙ sym (w.1.is ∙ ap (λ cs. sequence (then_more (number r.at) (then_more (number r.entity) cs))) none
+    ∙ ap (λ n. sequence (then_more (number n) (then_more (number r.entity) no_more))) at.0)
+
+-- ---- an export
+
+there : (x : Plain) (exports : List Plain) (n : ℕ) → place_of x exports ≡ Some n → slice_get exports n ≡ Some x
+there x [] n is = cc
+there x (e ∷ es) n is = by (same x e) (place_of x es) n refl is (there x es)
+  where
+    by : (b : Bool) (o : Option ℕ) (m : ℕ) → same x e ≡ b → (if b then Some zero else option_map suc o) ≡ Some m
+        → ((k : ℕ) → o ≡ Some k → slice_get es k ≡ Some x) → slice_get (e ∷ es) m ≡ Some x
+    by true o zero test found later = ap Some (sym (same_is x e test))
+    by true o (suc m) test found later = absurd cc
+    by false None m test found later = absurd cc
+    by false (Some k) zero test found later = absurd cc
+    by false (Some k) (suc m) test found later = later m cc
+
+with_none : (x : Plain) → with_caveats [] x ≡ x
+with_none (sequence xs) = ap sequence (ap plains (append-nil (listed xs)) ∙ plains-listed xs)
+with_none x = refl
+
+export_back : (exports : List Plain) (a n : ℕ) (x : Plain) → length exports ≤ 2 ^ 63 → place_of x exports ≡ Some n
+    → reference_in exports a (wire_value 1 n) (wire_of (wire_value 1 n)) ≡ x
+export_back exports a n x few is =
+    let at = there x exports n is in
+    let small : n < 2 ^ 63 = omega (arith, slice_get_within exports n x at, few) in
+    ap (λ o. reference_in exports a (wire_value 1 n) (wire_where ExportedAs o)) (small_number n small)
+    ∙ ap (λ o. unwrap_or (option_map (with_caveats []) o) (wire_value 1 n)) at ∙ with_none x
+
+-- ---- each reference
+
+-- as its peer writes it, and what that names
+abbrev back_from : List Plain → ℕ → Plain → Plain
+back_from exports a w = reference_in exports a (turned w) (wire_of (turned w))
+
+among_back : (exports : List Plain) (a : ℕ) (x : Plain) (o : Option ℕ) → length exports ≤ 2 ^ 63 → place_of x exports ≡ o
+    → is_some o ≡ true → back_from exports a (wire_value 0 (unwrap_or o (length exports))) ≡ x
+among_back exports a x None few is there = absurd cc
+among_back exports a x (Some n) few is there = export_back exports a n x few is
+
+one_back : (exports : List Plain) (a : ℕ) (x : Plain) (r : Reference) (own : Bool) → length exports ≤ 2 ^ 63
+    → reference_of x ≡ Some r → is_own a x r ≡ own → AllByRecursion (IsAmong exports) (if own then [] else x ∷ [])
+    → back_from exports a (if own then wire_value 1 r.entity else wire_value 0 (number_of x exports)) ≡ x
+one_back exports a x r true few is own out = own_back exports a x r is own
+one_back exports a x r false few is own out = among_back exports a x (place_of x exports) few refl out.0
+
+comes_back : (exports : List Plain) (a : ℕ) (x : Plain) (o : Option Reference) → length exports ≤ 2 ^ 63
+    → reference_of x ≡ o → is_some o ≡ true → AllByRecursion (IsAmong exports) (foreign_of a x o)
+    → back_from exports a (reference_out exports a x o) ≡ x
+comes_back exports a x None few is some out = absurd cc
+comes_back exports a x (Some r) few is some out = one_back exports a x r (is_own a x r) few is refl out
+
+pub references_come_back : ReferencesComeBack
+references_come_back exports k x few gone =
+    ap embedded (comes_back exports (actor_at k) x (reference_of x) few refl gone.reference gone.exported)
+
+pub references_stay_apart : ReferencesStayApart
+references_stay_apart exports k x y few gone went same =
+    let e = sym (references_come_back exports k x few gone)
+    ∙ ap (λ w. crossed_in exports k (written_back w)) same
+    ∙ references_come_back exports k y few went in
+    cc
+
+-- ---- what went out is exported
+
+all_gone : (exports : List Plain) (k : ℕ) (xs : List Plain) → AllByRecursion IsReference xs
+    → AllByRecursion (IsAmong exports) (flat_map (λ x. foreign_of (actor_at k) x (reference_of x)) xs)
+    → AllByRecursion (HasGoneOut exports k) xs
+all_gone exports k [] are out = tt
+all_gone exports k (x ∷ xs) are out =
+    let F : Plain → List Plain = λ y. foreign_of (actor_at k) y (reference_of y) in (
+      record { reference = are.0; exported = all_of_front (IsAmong exports) (F x) (flat_map F xs) out },
+      all_gone exports k xs are.1 (all_of_rest (IsAmong exports) (F x) (flat_map F xs) out),
+    )
+
+pub what_goes_out_is_exported : WhatGoesOutIsExported
+what_goes_out_is_exported exports k v are =
+    all_gone (exports_with exports k v) k (held_in v) are (are_exported exports (foreign_in k v))
