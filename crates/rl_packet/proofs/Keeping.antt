@@ -1,12 +1,14 @@
 -- What the last events leave, one event earlier.
-use Rattle.std.proofs.Common.{◌≡◌, ℕ, ◌+◌, ◌-◌, ◌<◌, List, ◌∷◌, true, false, cond, length, get_or, drop, sym, ap, ◌∙◌}
-use Rattle.std.proofs.Common.{eqb, arith}
+use Rattle.std.proofs.Common.{◌≡◌, ℕ, ◌+◌, ◌-◌, ◌<◌, List, ◌∷◌, true, false, cond, length, get_or, drop, sym, ap}
+use Rattle.std.proofs.Common.{◌∙◌, arith}
 use Rattle.std.specs.List.{list_any}
+use Rattle.std.specs.BTreeSet.{contains}
+use Rattle.std.specs.Ordering.{nat_cmp}
 use Rattle.std.proofs.lemmas.List.{drop_more}
 use Rattle.pv_value.specs.Plain.{Plain}
 use Rattle.rl_packet.specs.Packets.{TurnEvent, Assert}
 use Rattle.rl_packet.specs.Holding.{retracted_by, kept, all_kept, holdings_in_order, insert_holding}
-use Rattle.rl_packet.specs.Kept.{IsKept}
+use Rattle.rl_packet.specs.Kept.{AreNumbered, IsPut, IsKept}
 use Rattle.rl_packet.specs.declared.holding.Kept.{Kept}
 
 none_more : (e : TurnEvent) (v : Plain) (h m : ℕ) (later : List TurnEvent) → e.event ≡ Assert v h
@@ -14,27 +16,32 @@ none_more : (e : TurnEvent) (v : Plain) (h m : ℕ) (later : List TurnEvent) →
 none_more e v h m later is = rw is
 
 pub kept_assertion : (later : List TurnEvent) (old new : Kept) (e : TurnEvent) (v : Plain) (h : ℕ) → e.event
-    ≡ Assert v h → list_any (λ n. eqb n h) old.retracted.items ≡ false → new.retracted.items ≡ old.retracted.items
-    → new.holdings.items ≡ insert_holding (record { oid = e.oid; handle = h; value = v }) old.holdings.items
+    ≡ Assert v h → contains nat_cmp old.retracted h ≡ false → new.retracted ≡ old.retracted
+    → (AreNumbered old.holdings.entries
+    → IsPut (record { oid = e.oid; handle = h; value = v }) old.holdings.entries new.holdings.entries)
     → IsKept later old → IsKept (e ∷ later) new
-kept_assertion later old new e v h is none same added k = record {
-  retracted = λ m. none_more e v h m later is ∙ (k.retracted m ∙ ap (list_any (λ n. eqb n m)) (sym same));
+kept_assertion later old new e v h is none same put k = record {
+  retracted = λ m. none_more e v h m later is ∙ (k.retracted m ∙ ap (λ s. contains nat_cmp s m) (sym same));
   holdings =
-      added ∙ (ap (insert_holding (record { oid = e.oid; handle = h; value = v })) k.holdings
+      added.holdings ∙ (ap (insert_holding (record { oid = e.oid; handle = h; value = v })) k.holdings
       ∙ sym (ap holdings_in_order stays));
+  numbered = added.numbered;
 }
   where
+    added : IsPut (record { oid = e.oid; handle = h; value = v }) old.holdings.entries new.holdings.entries
+    added = put k.numbered
+
     stays : all_kept (e ∷ later) ≡ record { oid = e.oid; handle = h; value = v } ∷ all_kept later
     stays = ap (λ w. kept e w later (all_kept later)) is
         ∙ ap (λ b. cond b (all_kept later) (record { oid = e.oid; handle = h; value = v } ∷ all_kept later))
         (k.retracted h ∙ none)
 
-pub retracted_assertion : (later : List TurnEvent) (old new : Kept) (e : TurnEvent) (v : Plain) (h : ℕ) → e.event
-    ≡ Assert v h → list_any (λ n. eqb n h) old.retracted.items ≡ true → new.retracted.items ≡ old.retracted.items
-    → new.holdings.items ≡ old.holdings.items → IsKept later old → IsKept (e ∷ later) new
-retracted_assertion later old new e v h is some same left k = record {
-  retracted = λ m. none_more e v h m later is ∙ (k.retracted m ∙ ap (list_any (λ n. eqb n m)) (sym same));
-  holdings = left ∙ (k.holdings ∙ sym (ap holdings_in_order goes));
+pub retracted_assertion : (later : List TurnEvent) (old : Kept) (e : TurnEvent) (v : Plain) (h : ℕ) → e.event
+    ≡ Assert v h → contains nat_cmp old.retracted h ≡ true → IsKept later old → IsKept (e ∷ later) old
+retracted_assertion later old e v h is some k = record {
+  retracted = λ m. none_more e v h m later is ∙ k.retracted m;
+  holdings = k.holdings ∙ sym (ap holdings_in_order goes);
+  numbered = k.numbered;
 }
   where
     goes : all_kept (e ∷ later) ≡ all_kept later

@@ -1,4 +1,5 @@
 pub mod Events
 pub mod Keeping
+pub mod Putting
 pub mod Refusals
 pub mod Wires

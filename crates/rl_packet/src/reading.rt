@@ -14,7 +14,7 @@ ghost use Rattle.rl_packet.specs.declared.reading.PacketFault.TheVariants as fau
 use crate::packets::{Event, Packet, Turn, TurnEvent};
 use pv_value::{Entry, NoMemory, Node, Value};
 use pv_words::{is_word, number_in, worded};
-use std::alloc::{AllocError, AllocFailed, Global};
+use std::alloc::{AllocFailed, Global};
 use thiserror::Error;
 
 /// Why a value is no packet.
@@ -32,14 +32,6 @@ impl From<NoMemory> for PacketFault {
     ghost from_gives = { λ _ e. e ≡ fault.NoMemory };
 
     fn from(_: NoMemory) -> PacketFault {
-        PacketFault::NoMemory
-    }
-}
-
-impl From<AllocError> for PacketFault {
-    ghost from_gives = { λ _ e. e ≡ fault.NoMemory };
-
-    fn from(_: AllocError) -> PacketFault {
         PacketFault::NoMemory
     }
 }

@@ -3,7 +3,6 @@ ghost use Rattle.std.specs.Prelude.{◌≡◌};
 ghost use Rattle.rl_wire.specs.declared.faults.WireFault.TheVariants as fault;
 
 use pv_value::NoMemory;
-use std::alloc::{AllocError, AllocFailed};
 use thiserror::Error;
 
 /// Why a value can't come in.
@@ -24,22 +23,6 @@ impl From<NoMemory> for WireFault {
     ghost from_gives = { λ _ e. e ≡ fault.NoMemory };
 
     fn from(_: NoMemory) -> WireFault {
-        WireFault::NoMemory
-    }
-}
-
-impl From<AllocError> for WireFault {
-    ghost from_gives = { λ _ e. e ≡ fault.NoMemory };
-
-    fn from(_: AllocError) -> WireFault {
-        WireFault::NoMemory
-    }
-}
-
-impl<T: Drop> From<AllocFailed<T>> for WireFault {
-    ghost from_gives = { λ _ e. e ≡ fault.NoMemory };
-
-    fn from(_: AllocFailed<T>) -> WireFault {
         WireFault::NoMemory
     }
 }

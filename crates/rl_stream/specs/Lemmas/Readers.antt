@@ -1,5 +1,5 @@
--- What a reader of a stream keeps true: these packets were read, and this is left. A packet more is read, or bytes come;
--- where no packet is next, those that were read are the packets of the stream.
+-- What a reader of a stream keeps true: these packets were read, and this is left. A packet more is read, or bytes
+-- come; where no packet is next, those that were read are the packets of the stream.
 use Rattle.std.proofs.Common.{◌≡◌, ℕ, zero, suc, ◌+◌, ◌<◌, List, [], ◌∷◌, ◌++◌, length, false, refl, sym, ap, ◌∙◌}
 use Rattle.std.proofs.Common.{subst, append_assoc, arith}
 use Rattle.std.specs.List.{concat}
@@ -153,7 +153,8 @@ pieces_read N decides (b ∷ bs) st are =
     let c = packets_of N st in
     let first = deciders_tell N decides st (front_bytes st.rest (b ++ concat bs) are) in
     let longer = still_read (b ++ concat bs) c.packets st c.left first.packets in
-    let all = left_are_bytes c.packets (with_bytes (b ++ concat bs) st) (with_bytes (b ++ concat bs) c.left) longer are in
+    let all = left_are_bytes c.packets (with_bytes (b ++ concat bs) st) (with_bytes (b ++ concat bs) c.left)
+    longer are in
     let then = pieces_read N decides bs (with_bytes b c.left)
     (subst AreBytes (sym (append_assoc c.left.rest b (concat bs))) all) in
     let same : with_bytes (concat bs) (with_bytes b c.left) ≡ with_bytes (b ++ concat bs) c.left =

@@ -107,8 +107,8 @@ export_back exports a n x few is =
 abbrev back_from : List Plain → ℕ → Plain → Plain
 back_from exports a w = reference_in exports a (turned w) (wire_of (turned w))
 
-among_back : (exports : List Plain) (a : ℕ) (x : Plain) (o : Option ℕ) → length exports ≤ 2 ^ 63 → place_of x exports ≡ o
-    → is_some o ≡ true → back_from exports a (wire_value 0 (unwrap_or o (length exports))) ≡ x
+among_back : (exports : List Plain) (a : ℕ) (x : Plain) (o : Option ℕ) → length exports ≤ 2 ^ 63
+    → place_of x exports ≡ o → is_some o ≡ true → back_from exports a (wire_value 0 (unwrap_or o (length exports))) ≡ x
 among_back exports a x None few is there = absurd cc
 among_back exports a x (Some n) few is there = export_back exports a n x few is
 
