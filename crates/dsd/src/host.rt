@@ -48,6 +48,12 @@ impl<'a, Rt: Files> Listen for RealHost<'a, Rt> {
 
     ghost address = { λ _. None };
 
+    ghost files = { λ _. None };
+
+    ghost file_faults = { λ h. h.file_faults };
+
+    ghost port_faults = { λ h. h.port_faults };
+
     fn faults(&self) -> u64 {
         0
     }
@@ -59,12 +65,6 @@ impl<'a, Rt: Files> Listen for RealHost<'a, Rt> {
 }
 
 impl<'a, Rt: Files> Host for RealHost<'a, Rt> {
-    ghost files = { λ _. None };
-
-    ghost file_faults = { λ h. h.file_faults };
-
-    ghost port_faults = { λ h. h.port_faults };
-
     fn file_faults(&self) -> u64 {
         self.file_faults
     }

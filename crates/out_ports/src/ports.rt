@@ -126,6 +126,16 @@ pub trait Listen {
     /// Where it accepts, none before it has a port.
     ghost address: { Self → Option (List ℕ) };
 
+    /// Of a host, the files, as names and contents, where it tells them. The first of a name
+    /// counts. A listener that is no host tells none, and no count of their faults.
+    ghost files: { Self → Option (List (List ℕ × List ℕ)) };
+
+    /// Of a host, how often a file couldn't be read.
+    ghost file_faults: { Self → ℕ };
+
+    /// Of a host, how often a port couldn't be opened.
+    ghost port_faults: { Self → ℕ };
+
     /// How often an accept has failed.
     fn faults(&self) -> u64
         ensures { result ≡ faults self.now };
@@ -136,6 +146,10 @@ pub trait Listen {
         ensures ends { stops self.new ≡ stops_after result (stops self.old) }
         ensures no_port { address self.old ≡ None → result ≡ Accepted.Stopped }
         ensures place { address self.new ≡ address self.old }
+        // A host's files and its other counts stay.
+        ensures same_files { files self.new ≡ files self.old }
+        ensures same_file_faults { file_faults self.new ≡ file_faults self.old }
+        ensures same_port_faults { port_faults self.new ≡ port_faults self.old }
         ensures lasting { faults self.old ≤ faults self.new }
         ensures cause { result ≡ Accepted.Failed → Rose (faults self.old) (faults self.new) };
 }
@@ -159,36 +173,27 @@ impl From<AllocError> for HostFault {
 
 /// The files and the port that a program is given.
 pub trait Host: Listen {
-    /// The files, as names and contents, where the host tells them. The first of a name counts.
-    ghost files: { Self → Option (List (List ℕ × List ℕ)) };
-
-    /// How often a file couldn't be read.
-    ghost file_faults: { Self → ℕ };
-
-    /// How often a port couldn't be opened.
-    ghost port_faults: { Self → ℕ };
-
     /// How often a file couldn't be read.
     fn file_faults(&self) -> u64
-        ensures { result ≡ file_faults self.now };
+        ensures { result ≡ Self.file_faults self.now };
 
     /// How often a port couldn't be opened.
     fn port_faults(&self) -> u64
-        ensures { result ≡ port_faults self.now };
+        ensures { result ≡ Self.port_faults self.now };
 
     /// The first [`FILE_READ`] bytes of a file.
     fn file(&mut self, alloc: Global, name: &str) -> Result<Vec<u8>, HostFault>
         ensures size { IfOk result (λ bytes. vec_len bytes ≤ 1048577) }
-        ensures content { IfOk result (λ bytes. IsFile (files self.old) name.now bytes.items) }
+        ensures content { IfOk result (λ bytes. IsFile (Self.files self.old) name.now bytes.items) }
         ensures cause { IsErrOf result HostFault.Failed →
-            Rose (file_faults self.old) (file_faults self.new) }
-        ensures lasting { file_faults self.old ≤ file_faults self.new }
-        ensures same_files { files self.new ≡ files self.old }
+            Rose (Self.file_faults self.old) (Self.file_faults self.new) }
+        ensures lasting { Self.file_faults self.old ≤ Self.file_faults self.new }
+        ensures same_files { Self.files self.new ≡ Self.files self.old }
         // What is told of ports and links stays.
         ensures place { Self.address self.new ≡ Self.address self.old }
         ensures links { Self.gave self.new ≡ Self.gave self.old }
         ensures ends { Self.stops self.new ≡ Self.stops self.old }
-        ensures port_lasting { port_faults self.old ≤ port_faults self.new }
+        ensures port_lasting { Self.port_faults self.old ≤ Self.port_faults self.new }
         ensures accept_lasting { Self.faults self.old ≤ Self.faults self.new };
 
     /// Opens a port, from which links are accepted from then on.
@@ -196,12 +201,12 @@ pub trait Host: Listen {
         ensures open { OnOk result (Self.address self.new ≡ Some addr.now) }
         ensures stays { OnErr result (Self.address self.new ≡ Self.address self.old) }
         ensures cause { IsErrOf result HostFault.Failed →
-            Rose (port_faults self.old) (port_faults self.new) }
-        ensures lasting { port_faults self.old ≤ port_faults self.new }
+            Rose (Self.port_faults self.old) (Self.port_faults self.new) }
+        ensures lasting { Self.port_faults self.old ≤ Self.port_faults self.new }
         // What is told of files and links stays.
-        ensures same_files { files self.new ≡ files self.old }
+        ensures same_files { Self.files self.new ≡ Self.files self.old }
         ensures links { Self.gave self.new ≡ Self.gave self.old }
         ensures ends { Self.stops self.new ≡ Self.stops self.old }
-        ensures file_lasting { file_faults self.old ≤ file_faults self.new }
+        ensures file_lasting { Self.file_faults self.old ≤ Self.file_faults self.new }
         ensures accept_lasting { Self.faults self.old ≤ Self.faults self.new };
 }

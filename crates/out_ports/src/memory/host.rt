@@ -90,6 +90,12 @@ impl Listen for MemHost {
 
     ghost address = { λ h. h.address };
 
+    ghost files = { λ h. Some h.files };
+
+    ghost file_faults = { λ h. h.file_calls.faults };
+
+    ghost port_faults = { λ h. h.port_calls.faults };
+
     fn faults(&self) -> u64 {
         self.listen.faults()
     }
@@ -130,12 +136,6 @@ fn front(bytes: &[u8]) -> &[u8]
 }
 
 impl Host for MemHost {
-    ghost files = { λ h. Some h.files };
-
-    ghost file_faults = { λ h. h.file_calls.faults };
-
-    ghost port_faults = { λ h. h.port_calls.faults };
-
     fn file_faults(&self) -> u64 {
         self.file_calls.faults()
     }

@@ -1,5 +1,5 @@
 //! Links in memory, and a listener that gives them.
-ghost use Rattle.std.specs.Prelude.{◌≡◌, ◌≤◌, [], Some};
+ghost use Rattle.std.specs.Prelude.{◌≡◌, ◌≤◌, [], None, Some};
 ghost use Rattle.out_ports.specs.Ports.{raised};
 ghost use Rattle.out_ports.specs.MemListen.{listener_of, accept_answer, after_accept};
 
@@ -86,6 +86,12 @@ impl Listen for MemListen {
     ghost faults = { λ l. l.calls.faults };
 
     ghost address = { λ _. Some [] };
+
+    ghost files = { λ _. None };
+
+    ghost file_faults = { λ _. 0 };
+
+    ghost port_faults = { λ _. 0 };
 
     fn faults(&self) -> u64 {
         self.calls.faults()
