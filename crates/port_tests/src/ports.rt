@@ -1,71 +1,101 @@
 //! The listener and the host in memory.
 use out_ports::memory::{MemFile, MemHost, MemLink, MemListen, MemSink, MemSource};
 use out_ports::ports::{Accepted, Host, HostFault, Listen};
-use std::alloc::Global;
+use std::alloc::{AllocError, Global};
 use std::test::Fail;
 
-fn link(alloc: Global, text: &str) -> Result<MemLink, Fail> {
-    let bytes = Vec::from_slice(alloc, text.as_bytes())?;
+/// A link from which these bytes can be read.
+fn link(alloc: Global, bytes: &[u8]) -> Result<MemLink, AllocError> {
+    let bytes = Vec::from_slice(alloc, bytes)?;
     Ok(MemLink {
         reads: MemSource::new(bytes, 8, Vec::new(alloc)),
-        writes: MemSink::new(Vec::with_capacity(alloc, 8)?, Vec::new(alloc)),
+        writes: MemSink::new(Vec::new(alloc), Vec::new(alloc)),
     })
+}
+
+/// A listener that gives the links `a` and `b`, and fails at these accepts.
+fn listener(alloc: Global, failing: &[u64]) -> Result<MemListen, AllocError> {
+    let mut links = Vec::new(alloc);
+    links.push(link(alloc, b"a")?)?;
+    links.push(link(alloc, b"b")?)?;
+    Ok(MemListen::new(links, Vec::from_slice(alloc, failing)?))
+}
+
+/// The answer to an accept: `s` for a stop, `f` for a fault, `m` for want of memory, and for a link
+/// the first byte that can be read of it.
+fn answer(answer: Accepted<MemSource, MemSink>) -> u8 {
+    match answer {
+        Accepted::Link(reads, _) => *reads.left().first().unwrap_or(&b'?'),
+        Accepted::Stopped => b's',
+        Accepted::Failed => b'f',
+        Accepted::NoMemory => b'm',
+    }
+}
+
+/// The answers to four accepts, of which the second is to fail.
+fn four_answers(alloc: Global) -> Result<[u8; 4], AllocError> {
+    let mut listener = listener(alloc, &[1])?;
+    let mut answers = [0; 4];
+    for given in answers.iter_mut() {
+        *given = answer(listener.accept(alloc));
+    }
+    Ok(answers)
 }
 
 #[test]
 fn a_listener_gives_its_links_and_stops(rt: HostRuntime) -> Result<(), Fail> {
-    let alloc = rt.alloc();
-    let links = vec![in alloc; link(alloc, "a")?, link(alloc, "b")?]?;
-    let mut listener = MemListen::new(links, vec![in alloc; 1u64]?);
-    let Accepted::Link(first, _) = listener.accept(alloc) else {
-        return Err("no first link".into());
-    };
-    assert_eq!(rt; first.left(), b"a".as_slice());
-    assert!(rt; matches!(listener.accept(alloc), Accepted::Failed));
-    let Accepted::Link(second, _) = listener.accept(alloc) else {
-        return Err("no second link".into());
-    };
-    assert_eq!(rt; second.left(), b"b".as_slice());
-    assert!(rt; matches!(listener.accept(alloc), Accepted::Stopped));
-    assert_eq!(rt;
-        (listener.gave(), listener.stops(), listener.faults()),
-        (2, 1, 1)
-    );
+    assert!(rt; four_answers(rt.alloc())? == *b"afbs");
     Ok(())
+}
+
+/// A host with one file and the links `a` and `b`, whose call of `file` fails at 2, and of `port`
+/// at 0.
+fn host(alloc: Global) -> Result<MemHost, AllocError> {
+    let mut files = Vec::new(alloc);
+    files.push(MemFile {
+        name: String::from_str(alloc, "short")?,
+        bytes: Vec::from_slice(alloc, b"abc")?,
+    })?;
+    let failing_files = Vec::from_slice(alloc, &[2])?;
+    let failing_ports = Vec::from_slice(alloc, &[0])?;
+    Ok(MemHost::new(files, listener(alloc, &[])?, failing_files, failing_ports))
+}
+
+/// Whether these are the bytes of a file.
+fn gives(alloc: Global, host: &mut MemHost, name: &str, wanted: &[u8]) -> bool {
+    match host.file(alloc, name) {
+        Ok(bytes) => bytes.as_slice() == wanted,
+        Err(_) => false,
+    }
+}
+
+fn fails(alloc: Global, host: &mut MemHost, name: &str) -> bool {
+    matches!(host.file(alloc, name), Err(HostFault::Failed))
+}
+
+fn host_gives_its_files(alloc: Global) -> Result<bool, AllocError> {
+    let mut host = host(alloc)?;
+    let given = gives(alloc, &mut host, "short", b"abc");
+    let failed = fails(alloc, &mut host, "other") && fails(alloc, &mut host, "short");
+    Ok(given && failed && host.file_faults() == 2)
 }
 
 #[test]
 fn a_host_gives_its_files(rt: HostRuntime) -> Result<(), Fail> {
-    let alloc = rt.alloc();
-    let file = MemFile {
-        name: String::from_str(alloc, "short")?,
-        bytes: Vec::from_slice(alloc, b"abc")?,
-    };
-    let listener = MemListen::new(Vec::new(alloc), Vec::new(alloc));
-    let files = vec![in alloc; file]?;
-    let mut host = MemHost::new(files, listener, vec![in alloc; 2u64]?, Vec::new(alloc));
-    assert_eq!(rt; host.file(alloc, "short")?.as_slice(), b"abc".as_slice());
-    assert!(rt; matches!(host.file(alloc, "other"), Err(HostFault::Failed)));
-    assert!(rt; matches!(host.file(alloc, "short"), Err(HostFault::Failed)));
-    assert_eq!(rt; host.file_faults(), 2);
+    assert!(rt; host_gives_its_files(rt.alloc())?);
     Ok(())
+}
+
+/// Before a port is open no link comes, and that is no call of the listener.
+fn host_gives_links_behind_its_port(alloc: Global) -> Result<bool, AllocError> {
+    let mut host = host(alloc)?;
+    let closed = answer(host.accept(alloc)) == b's' && host.port(alloc, "a:1").is_err();
+    let open = host.port(alloc, "a:1").is_ok() && answer(host.accept(alloc)) == b'a';
+    Ok(closed && open && host.port_faults() == 1 && host.listener().stops() == 1)
 }
 
 #[test]
 fn a_host_gives_links_behind_its_port(rt: HostRuntime) -> Result<(), Fail> {
-    let alloc = rt.alloc();
-    let listener = MemListen::new(vec![in alloc; link(alloc, "a")?]?, Vec::new(alloc));
-    let mut host = MemHost::new(
-        Vec::new(alloc),
-        listener,
-        Vec::new(alloc),
-        vec![in alloc; 0u64]?,
-    );
-    assert!(rt; matches!(host.accept(alloc), Accepted::Stopped));
-    assert_eq!(rt; host.port(alloc, "a:1"), Err(HostFault::Failed));
-    assert_eq!(rt; host.port(alloc, "a:1"), Ok(()));
-    assert!(rt; matches!(host.accept(alloc), Accepted::Link(_, _)));
-    assert_eq!(rt; (host.port_faults(), host.faults()), (1, 0));
-    assert_eq!(rt; (host.listener().gave(), host.listener().stops()), (1, 1));
+    assert!(rt; host_gives_links_behind_its_port(rt.alloc())?);
     Ok(())
 }

@@ -1,0 +1,97 @@
+//! A source and a sink in memory, and whole texts over them.
+use out_ports::memory::{MemSink, MemSource};
+use out_ports::ports::{HostFault, Sink, Source};
+use out_ports::streams::{ReadFault, WriteFault, read_front, read_to_end, write_all};
+use std::alloc::{AllocError, Global};
+use std::test::Fail;
+
+/// A source of five bytes in pieces of two, which fails at these takes.
+fn source(alloc: Global, failing: &[u64]) -> Result<MemSource, AllocError> {
+    let bytes = Vec::from_slice(alloc, b"abcde")?;
+    Ok(MemSource::new(bytes, 2, Vec::from_slice(alloc, failing)?))
+}
+
+/// Whether reading to the end stops at a fault.
+fn stops(alloc: Global, source: &mut MemSource) -> bool {
+    matches!(read_to_end(alloc, source), Err(ReadFault::Failed))
+}
+
+/// Whether these bytes are read to the end.
+fn reads(alloc: Global, source: &mut MemSource, wanted: &[u8]) -> bool {
+    match read_to_end(alloc, source) {
+        Ok(bytes) => bytes.as_slice() == wanted,
+        Err(_) => false,
+    }
+}
+
+/// Whether the first three bytes, or those that are left, are these.
+fn begins(alloc: Global, source: &mut MemSource, wanted: &[u8]) -> bool {
+    match read_front(alloc, source, 3) {
+        Ok(bytes) => bytes.as_slice() == wanted,
+        Err(_) => false,
+    }
+}
+
+/// What was read before the second take is gone with its fault, and the rest is left.
+fn failed_take_leaves_the_rest(alloc: Global) -> Result<bool, AllocError> {
+    let mut source = source(alloc, &[1])?;
+    let stopped = stops(alloc, &mut source) && source.faults() == 1;
+    Ok(stopped && reads(alloc, &mut source, b"cde"))
+}
+
+#[test]
+fn a_take_that_fails_leaves_the_rest(rt: HostRuntime) -> Result<(), Fail> {
+    assert!(rt; failed_take_leaves_the_rest(rt.alloc())?);
+    Ok(())
+}
+
+/// The second piece is taken whole, and of it only the first byte is given.
+fn front_ends_within_a_piece(alloc: Global) -> Result<bool, AllocError> {
+    let mut source = source(alloc, &[])?;
+    Ok(begins(alloc, &mut source, b"abc") && begins(alloc, &mut source, b"e"))
+}
+
+#[test]
+fn a_front_ends_within_a_piece(rt: HostRuntime) -> Result<(), Fail> {
+    assert!(rt; front_ends_within_a_piece(rt.alloc())?);
+    Ok(())
+}
+
+/// A sink with room for five bytes, which fails at its second put.
+fn sink(alloc: Global) -> Result<MemSink, AllocError> {
+    let room = Vec::with_capacity(alloc, 5)?;
+    Ok(MemSink::new(room, Vec::from_slice(alloc, &[1])?))
+}
+
+fn writes(sink: &mut MemSink, bytes: &[u8]) -> bool {
+    write_all(sink, bytes).is_ok()
+}
+
+/// The third put goes past the room.
+fn failed_put_leaves_what_came_before(alloc: Global) -> Result<bool, AllocError> {
+    let mut sink = sink(alloc)?;
+    let first = writes(&mut sink, b"abc") && !writes(&mut sink, b"de");
+    let then = !writes(&mut sink, b"def") && writes(&mut sink, b"fg");
+    sink.finish();
+    Ok(first && then && sink.held() == b"abcfg".as_slice() && sink.finishes() == 1)
+}
+
+#[test]
+fn a_put_that_fails_leaves_what_came_before(rt: HostRuntime) -> Result<(), Fail> {
+    assert!(rt; failed_put_leaves_what_came_before(rt.alloc())?);
+    Ok(())
+}
+
+fn texts_of_faults(alloc: Global) -> Result<String, AllocError> {
+    let (host, no_memory) = (HostFault::Failed, HostFault::NoMemory);
+    let (read, write) = (ReadFault::Failed, WriteFault);
+    format!(in alloc; "{host}; {no_memory}; {read}; {write}")
+}
+
+#[test]
+fn the_texts_of_faults(rt: HostRuntime) -> Result<(), Fail> {
+    let texts = texts_of_faults(rt.alloc())?;
+    let wanted = "the file or the port failed; out of memory; the source failed; the sink failed";
+    assert!(rt; texts.as_str() == wanted);
+    Ok(())
+}
