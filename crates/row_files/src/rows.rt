@@ -1,13 +1,14 @@
 //! Rows: what the program is given, and what it has to answer.
-ghost use Rattle.std.specs.Prelude.{◌≡◌, ℕ, ◌++◌, List, [], map, replicate, IfOk, OnOk};
+ghost use Rattle.std.specs.Prelude.{◌≡◌, ℕ, ◌++◌, [], false, map, replicate, IfOk, OnOk};
 ghost use Rattle.std.specs.Prelude.{string_bytes};
 ghost use Rattle.std.specs.Str.Parse.{ParsesUnsigned};
-ghost use Rattle.row_files.specs.Lines.{lines_of, first_word};
-ghost use Rattle.row_files.specs.Sections.{section_told, with_lines};
+ghost use Rattle.row_files.specs.Lines.{first_word};
+ghost use Rattle.row_files.specs.Sections.{section_told};
 ghost use Rattle.row_files.specs.Rows.{AddsNumber, AddsWord, AreNumbers, AreWords, behind_form};
 ghost use Rattle.row_files.specs.Rows.{AreWrittenIn, AreTimes, row_told, empty_row, with_end};
-ghost use Rattle.row_files.specs.Rows.{TakesInput, TakesOutput, TakesStatus, Takes};
-ghost use Rattle.row_files.specs.Rows.{AddsSection, AreRows};
+ghost use Rattle.row_files.specs.Rows.{nothing_said, IsPlaced, SaysPiece, SaysTakes, SaysRoom};
+ghost use Rattle.row_files.specs.Rows.{SaysPuts, TakesWords, TakesInput, TakesOutput};
+ghost use Rattle.row_files.specs.Rows.{TakesStatus, Takes, AddsSection, AreRows, AreRowsIn};
 
 use crate::faults::LineFault;
 use crate::lines::word_and_rest;
@@ -32,6 +33,63 @@ pub struct Row {
     /// The puts that fail, counted from 0.
     pub puts: Vec<u64>,
     pub wanted: Outcome,
+    said: Said,
+}
+
+/// Which of the things that a row may say but once it has said.
+#[derive(Clone, Copy)]
+struct Said {
+    words: bool,
+    pieces: bool,
+    takes: bool,
+    room: bool,
+    puts: bool,
+    status: bool,
+}
+
+impl Said {
+    fn nothing() -> Said
+        ensures { result ≡ nothing_said }
+    {
+        Said {
+            words: false,
+            pieces: false,
+            takes: false,
+            room: false,
+            puts: false,
+            status: false,
+        }
+    }
+}
+
+/// Refuses what was said before.
+fn once(said: bool) -> Result<(), Fault>
+    ensures { OnOk result (said ≡ false) }
+{
+    if said {
+        return Err(Fault::Form("said before in this row"));
+    }
+    Ok(())
+}
+
+/// Refuses a body where there is to be none.
+fn bare(body: &str) -> Result<(), Fault>
+    ensures { OnOk result (body.now ≡ []) }
+{
+    if !body.is_empty() {
+        return Err(Fault::Form("a body that belongs to no form"));
+    }
+    Ok(())
+}
+
+/// Refuses a body that stands elsewhere than below a form alone on its line.
+fn placed(rest: &str, body: &str) -> Result<(), Fault>
+    ensures { OnOk result (IsPlaced rest.now body.now) }
+{
+    match find_form(rest) {
+        Some(_) => Ok(()),
+        None => bare(body),
+    }
 }
 
 /// How many bytes a take gives, where a row doesn't say it.
@@ -62,6 +120,7 @@ impl Row {
                 line: Vec::new(alloc),
                 output: Vec::new(alloc),
             },
+            said: Said::nothing(),
         })
     }
 
@@ -72,38 +131,38 @@ impl Row {
     {
         let rest = section.rest.as_str();
         let body = section.body.as_str();
-        if !body.is_empty() && find_form(rest).is_none() {
-            return Err(Fault::Form("a body that belongs to no form"));
-        }
         match section.keyword.as_str() {
-            "words" => self.take_words(alloc, rest),
+            "words" => self.take_words(alloc, rest, body),
             "input" => self.take_input(alloc, rest, body),
             "output" => self.take_output(alloc, rest, body),
-            "status" => self.take_status(rest),
+            "status" => self.take_status(alloc, rest, body),
             _ => Err(Fault::Form("no keyword of rows")),
         }
     }
 
-    fn take_words(&mut self, alloc: Global, rest: &str) -> Result<(), Fault>
-        ensures { OnOk result ((ws : List (List ℕ)) × AreWords rest.now ws
-            × (row_told self.new ≡ record (row_told self.old) { words = ws })) }
+    fn take_words(&mut self, alloc: Global, rest: &str, body: &str) -> Result<(), Fault>
+        ensures { OnOk result
+            (TakesWords rest.now body.now (row_told self.old) (row_told self.new)) }
     {
+        bare(body)?;
+        once(self.said.words)?;
         self.words = words_of(alloc, rest)?;
+        self.said.words = true;
         Ok(())
     }
 
     /// `pieces N`, `fails at N ..`, `times N HH`, or a form and a body.
     fn take_input(&mut self, alloc: Global, rest: &str, body: &str) -> Result<(), Fault>
-        ensures { OnOk result
+        ensures placed { OnOk result (IsPlaced rest.now body.now) }
+        ensures taken { OnOk result
             (TakesInput rest.now body.now (row_told self.old) (row_told self.new)) }
     {
+        placed(rest, body)?;
         if let Some(piece) = rest.strip_prefix("pieces ") {
-            self.piece = number(piece)?;
-            return Ok(());
+            return self.say_piece(number(piece)?);
         }
         if let Some(takes) = rest.strip_prefix("fails at ") {
-            self.takes = numbers(alloc, takes)?;
-            return Ok(());
+            return self.say_takes(numbers(alloc, takes)?);
         }
         if let Some(times) = rest.strip_prefix("times ") {
             let bytes = bytes_of_times(alloc, times)?;
@@ -115,31 +174,71 @@ impl Row {
         Ok(())
     }
 
+    fn say_piece(&mut self, piece: usize) -> Result<(), Fault>
+        ensures { OnOk result (SaysPiece piece (row_told self.old) (row_told self.new)) }
+    {
+        once(self.said.pieces)?;
+        self.piece = piece;
+        self.said.pieces = true;
+        Ok(())
+    }
+
+    fn say_takes(&mut self, takes: Vec<u64>) -> Result<(), Fault>
+        ensures { OnOk result (SaysTakes takes.items (row_told self.old) (row_told self.new)) }
+    {
+        once(self.said.takes)?;
+        self.takes = takes;
+        self.said.takes = true;
+        Ok(())
+    }
+
     /// `room N`, `fails at N ..`, or a form and a body.
     fn take_output(&mut self, alloc: Global, rest: &str, body: &str) -> Result<(), Fault>
-        ensures { OnOk result
+        ensures placed { OnOk result (IsPlaced rest.now body.now) }
+        ensures taken { OnOk result
             (TakesOutput rest.now body.now (row_told self.old) (row_told self.new)) }
     {
+        placed(rest, body)?;
         if let Some(room) = rest.strip_prefix("room ") {
-            self.room = number(room)?;
-            return Ok(());
+            return self.say_room(number(room)?);
         }
         if let Some(puts) = rest.strip_prefix("fails at ") {
-            self.puts = numbers(alloc, puts)?;
-            return Ok(());
+            return self.say_puts(numbers(alloc, puts)?);
         }
         let bytes = written_bytes(alloc, rest, body)?;
         self.wanted.output.extend_from_slice(&bytes)?;
         Ok(())
     }
 
-    /// A status, and the line that is written with it.
-    fn take_status(&mut self, rest: &str) -> Result<(), Fault>
-        ensures { OnOk result (TakesStatus rest.now (row_told self.old) (row_told self.new)) }
+    fn say_room(&mut self, room: usize) -> Result<(), Fault>
+        ensures { OnOk result (SaysRoom room (row_told self.old) (row_told self.new)) }
     {
+        once(self.said.room)?;
+        self.room = room;
+        self.said.room = true;
+        Ok(())
+    }
+
+    fn say_puts(&mut self, puts: Vec<u64>) -> Result<(), Fault>
+        ensures { OnOk result (SaysPuts puts.items (row_told self.old) (row_told self.new)) }
+    {
+        once(self.said.puts)?;
+        self.puts = puts;
+        self.said.puts = true;
+        Ok(())
+    }
+
+    /// A status, and the line that is written with it.
+    fn take_status(&mut self, alloc: Global, rest: &str, body: &str) -> Result<(), Fault>
+        ensures { OnOk result
+            (TakesStatus rest.now body.now (row_told self.old) (row_told self.new)) }
+    {
+        bare(body)?;
+        once(self.said.status)?;
         let (status, line) = word_and_rest(rest);
         self.wanted.status = status_of(status)?;
-        push_line(&mut self.wanted.line, line)?;
+        self.wanted.line = line_with_end(alloc, line)?;
+        self.said.status = true;
         Ok(())
     }
 }
@@ -153,15 +252,15 @@ fn status_of(text: &str) -> Result<u8, Fault>
     }
 }
 
-/// Appends a line with its line feed, where it isn't empty.
-fn push_line(out: &mut Vec<u8>, line: &str) -> Result<(), Fault>
-    ensures { OnOk result (out.new.items ≡ out.old.items ++ with_end line.now) }
+/// A line with its line feed, or nothing where it is empty.
+fn line_with_end(alloc: Global, line: &str) -> Result<Vec<u8>, Fault>
+    ensures { IfOk result (λ bytes. bytes.items ≡ with_end line.now) }
 {
+    let mut bytes = Vec::from_slice(alloc, line.as_bytes())?;
     if !line.is_empty() {
-        out.extend_from_slice(line.as_bytes())?;
-        out.push(b'\n')?;
+        bytes.push(b'\n')?;
     }
-    Ok(())
+    Ok(bytes)
 }
 
 /// A number, and a byte in two digits, which comes so often.
@@ -268,10 +367,10 @@ fn push_word(alloc: Global, words: &mut Vec<String>, word: &str) -> Result<(), F
     Ok(())
 }
 
-/// The rows of a file.
+/// The rows of a file. One is refused in which a row says twice what it may say but once, a body
+/// stands below a line that takes none, or anything stands before the first row.
 pub fn rows_of(alloc: Global, text: &str) -> Result<Vec<Row>, LineFault>
-    ensures { IfOk result (λ rows. AreRows (with_lines 1 (lines_of text.now) [])
-        (map row_told rows.items)) }
+    ensures { IfOk result (λ rows. AreRowsIn text.now (map row_told rows.items)) }
 {
     let sections = sections_of(alloc, text)?;
     rows_in(alloc, &sections)
@@ -297,6 +396,7 @@ fn add_section(alloc: Global, rows: &mut Vec<Row>, section: &Section) -> Result<
         (map row_told rows.new.items)) }
 {
     if section.keyword.as_str() == "row" {
+        bare(section.body.as_str())?;
         rows.push(Row::new(alloc, section.line, section.rest.as_str())?)?;
         return Ok(());
     }

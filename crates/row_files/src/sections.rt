@@ -1,7 +1,7 @@
 //! A file of rows as its sections: a line with a keyword, and the lines of its body.
-ghost use Rattle.std.specs.Prelude.{◌≡◌, ◌++◌, ◌∷◌, [], map, IfOk, OnOk, string_bytes};
-ghost use Rattle.row_files.specs.Lines.{lines_of, IsSectionLine};
-ghost use Rattle.row_files.specs.Sections.{section_told, with_more, with_line, with_lines};
+ghost use Rattle.std.specs.Prelude.{◌≡◌, ◌++◌, ◌∷◌, [], Some, map, IfOk, OnOk, string_bytes};
+ghost use Rattle.row_files.specs.Lines.{IsSectionLine};
+ghost use Rattle.row_files.specs.Sections.{section_told, with_more, with_line, AreSections};
 
 use crate::faults::LineFault;
 use crate::lines::{is_left_out, without_blank, word_and_rest};
@@ -44,10 +44,10 @@ fn line_of(line: &str) -> Line<'_>
     Line::Says(keyword, rest)
 }
 
-/// The sections of a file.
+/// The sections of a file. A line of a body before the first keyword is refused.
 pub fn sections_of(alloc: Global, text: &str) -> Result<Vec<Section>, LineFault>
     ensures { IfOk result (λ sections.
-        map section_told sections.items ≡ with_lines 1 (lines_of text.now) []) }
+        AreSections text.now (map section_told sections.items)) }
 {
     let mut sections = Vec::new(alloc);
     let mut place = 1usize;
@@ -67,8 +67,8 @@ fn add_line(
     place: usize,
     line: &str,
 ) -> Result<(), Fault>
-    ensures { OnOk result (map section_told sections.new.items
-        ≡ with_line place line.now (map section_told sections.old.items)) }
+    ensures { OnOk result (with_line place line.now (map section_told sections.old.items)
+        ≡ Some (map section_told sections.new.items)) }
 {
     match line_of(line) {
         Line::Nothing => Ok(()),
@@ -87,8 +87,8 @@ fn add_line(
 
 /// Takes a line into the body of the last section.
 fn add_more(sections: &mut Vec<Section>, line: &str) -> Result<(), Fault>
-    ensures { OnOk result (map section_told sections.new.items
-        ≡ with_more (line.now ++ 10 ∷ []) (map section_told sections.old.items)) }
+    ensures { OnOk result (with_more (line.now ++ 10 ∷ []) (map section_told sections.old.items)
+        ≡ Some (map section_told sections.new.items)) }
 {
     let Some(last) = sections.pop() else {
         return Err(Fault::Form("a body without a keyword"));

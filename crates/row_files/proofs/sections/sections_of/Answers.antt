@@ -1,4 +1,4 @@
-use Rattle.std.proofs.Common.{◌≡◌, ◌∙◌, ◌+◌, ◌==◌, ◌++◌, ◌∷◌, [], map, drop, length}
+use Rattle.std.proofs.Common.{◌≡◌, ◌∙◌, ◌+◌, ◌==◌, ◌++◌, ◌∷◌, [], Some, map, drop, length, get_or}
 use Rattle.std.proofs.Common.{lit<, ap, sym, arith}
 use Rattle.std.proofs.lemmas.Iterator.Consumers.{YieldsList-at, YieldsList-turn, YieldsList-end}
 use Rattle.std.proofs.lemmas.Iterator.Splits.{YieldsList-from_str_split}
@@ -31,12 +31,12 @@ loop-line-preserved c =
     let longer = length_push c.loop-line.yielded c.in-Some.line in
     let at : place ≡ n + 1 = c.loop-line.invariant.1 in
     let next : c.saturating_add-place.result ≡ place + 1 = omega (arith, turn.0, parts, most) in
-    let told = c.in_default.ensures ∙ ap (λ l. with_line place l ss) turn.1 in
+    let told : with_line place (get_or lines n line) ss ≡ Some more =
+    ap (λ l. with_line place l ss) (sym turn.1) ∙ c.in_default.ensures in
     let new =
     ap (λ p. with_lines p (drop (length (c.loop-line.yielded ++ c.in-Some.line ∷ [])) lines) more) next
-    ∙ ap (λ m. with_lines (place + 1) (drop m lines) more) longer
-    ∙ ap (λ s. with_lines (place + 1) (drop (n + 1) lines) s) told in
-    (new ∙ sym (with_next place lines n line ss turn.0) ∙ c.loop-line.invariant.0, next ∙ omega (arith, longer))
+    ∙ ap (λ m. with_lines (place + 1) (drop m lines) more) longer in
+    (new ∙ sym (with_next place lines n line ss more turn.0 told) ∙ c.loop-line.invariant.0, next ∙ omega (arith, longer))
 
 pub returns : goal.returns
 returns c =
@@ -47,8 +47,5 @@ returns c =
     c.split-line-items.ensures.has_more c.split-line-items.ensures.pattern) in
     let all = YieldsList-end road c.loop-line.yielded _ c.loop-line.yielded_by _ _ c.in-None.is c.next.ensures.steps in
     let ss = map section_told c.loop-line.sections.items in
-    sym (ap (λ ls. with_lines c.loop-line.place ls ss) (drop_all (length c.loop-line.yielded) lines (omega (
-      arith,
-      all.1,
-    ))))
-    ∙ c.loop-line.invariant.0
+    let none = drop_all (length c.loop-line.yielded) lines (omega (arith, all.1)) in
+    sym c.loop-line.invariant.0 ∙ ap (λ ls. with_lines c.loop-line.place ls ss) none

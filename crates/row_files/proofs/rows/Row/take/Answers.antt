@@ -7,11 +7,13 @@ returns-in-input c =
     let word : string_bytes c.args.section.now.keyword ≡ codes "input" = search rules in
     let rest = c.as_str-rest.ensures.value in
     let body = c.as_str-body.ensures.value in
-    on_ok c.take_input.result _ _ (λ h. inr (inl (word, rw (rest, body) at h))) c.take_input.ensures
+    on_ok c.take_input.result _ _ _ (λ p h. inr (inl (word, rw (rest, body) at p, rw (rest, body) at h)))
+    c.take_input.ensures.placed c.take_input.ensures.taken
 
 pub returns-in-output : goal.returns-in-output
 returns-in-output c =
     let word : string_bytes c.args.section.now.keyword ≡ codes "output" = search rules in
     let rest = c.as_str-rest.ensures.value in
     let body = c.as_str-body.ensures.value in
-    on_ok c.take_output.result _ _ (λ h. inr (inr (inl (word, rw (rest, body) at h)))) c.take_output.ensures
+    on_ok c.take_output.result _ _ _ (λ p h. inr (inr (inl (word, rw (rest, body) at p, rw (rest, body) at h))))
+    c.take_output.ensures.placed c.take_output.ensures.taken

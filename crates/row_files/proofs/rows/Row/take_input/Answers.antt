@@ -2,8 +2,8 @@ use Rattle.std.proofs.Common.{◌≡◌, ◌∙◌, ◌++◌, inl, inr, codes, a
 use Rattle.row_files.specs.Rows.{row_told}
 use Rattle.row_files.proofs.rows.Row.take_input.Goals as goal
 
-pub returns-in-Some-strip_prefix-2 : goal.returns-in-Some-strip_prefix-2
-returns-in-Some-strip_prefix-2 c =
+pub returns-in-Some-strip_prefix-2-clause-taken : goal.returns-in-Some-strip_prefix-2-clause-taken
+returns-in-Some-strip_prefix-2-clause-taken c =
     let times = c.in-Some-strip_prefix-2.times.now in
     let begins = c.in-Some-strip_prefix-2.ensures.cases in
     let is : c.args.rest.now ≡ codes "times " ++ times = begins.1.1 ∙ ap (λ t. codes "times " ++ t) (sym begins.2) in
