@@ -1,6 +1,7 @@
 -- What was written to a sink that held nothing.
 use Rattle.std.proofs.Common.{◌≡◌, ℕ, ◌++◌, List, [], take, Option, Some, None, IfSome, unwrap_or, subst, sym, ap, ◌∙◌}
-use Rattle.out_ports.specs.Ports.{Appends, AppendsFront}
+use Rattle.std.proofs.Common.{◌+◌, ◌-◌, ◌^◌, ◌≤◌, min, arith}
+use Rattle.out_ports.specs.Ports.{Appends, AppendsFront, Rose}
 use Rattle.dsd_top.specs.Statuses.{IsAnswerOf, IsAnswered, IsCut}
 use Rattle.dsd_top.specs.declared.words.Command.{Command}
 use Rattle.row_runs.specs.Outcomes.{IsFrontOf, IsFrontOfAnswer}
@@ -24,3 +25,7 @@ answer_held c input old new empty h = subst (IsAnswerOf c input) (sym (all_held 
 pub cut_held : (c : Command) (input old new : List ℕ) → old ≡ [] → IsCut c input (Some old) (Some new)
     → IsFrontOfAnswer c input new
 cut_held c input old new empty h = (h.0, h.1, front_held old new h.0 empty h.2)
+
+-- a count that rose from nothing
+pub rose : (old new : ℕ) → old ≡ 0 → Rose old new → 1 ≤ new
+rose old new none h = let up : min (old + 1) (2 ^ 64 - 1) ≤ new = h in omega (arith, up)

@@ -4,9 +4,9 @@ use Rattle.std.specs.Prelude.{IfSome}
 use Rattle.dsd_top.specs.Commands.{request_of, command_of, notice_of, text_of, is_serve}
 use Rattle.dsd_top.specs.Statuses.{statuses_of, IsAnswerOf, IsBadInput, IsOver, IsNotBuilt}
 use Rattle.dsd_top.specs.declared.words.Command.{Command}
-use Rattle.row_files.specs.Lines.{lines_of}
-use Rattle.row_files.specs.Rows.{RowTold, AreRows}
-use Rattle.row_files.specs.Sections.{with_lines}
+use Rattle.out_ports.specs.MemSource.{ToldSource, source_of}
+use Rattle.out_ports.specs.MemSink.{ToldSink, sink_of}
+use Rattle.row_files.specs.Rows.{RowTold, AreRowsIn}
 
 -- a front of these bytes
 abbrev pub IsFrontOf : List ℕ → List ℕ → Type 0
@@ -16,32 +16,56 @@ IsFrontOf bytes out = (n : ℕ) × (n ≤ length bytes) × (out ≡ take n bytes
 abbrev pub IsFrontOfAnswer : Command → List ℕ → List ℕ → Type 0
 IsFrontOfAnswer c input output = (whole : List ℕ) × IsAnswerOf c input whole × IsFrontOf whole output
 
--- what a status says of the program's words, its input and its output
-pub record IsOutcome (words : List (List ℕ)) (input : List ℕ) (status : ℕ) (output : List ℕ) : Type 0 where
-  pub of_request : Contains (statuses_of (request_of words)) status
-  pub bad_words : (status ≡ 2) ↔ (request_of words ≡ None)
-  pub done : status ≡ 0 → IfSome (command_of words) (λ c. IsAnswerOf c input output)
-  pub shown : status ≡ 0 → IfSome (notice_of words) (λ n. output ≡ text_of n)
-  pub bad_input : status ≡ 1 → IfSome (command_of words) (λ c. IsBadInput c input)
-  pub limit : status ≡ 6 → IfSome (command_of words) (λ c. IsOver c input)
-  pub not_built : status ≡ 10 → IfSome (command_of words) (λ c. IsNotBuilt c input)
-  pub cut : status ≡ 4 → IfSome (command_of words) (λ c. IsFrontOfAnswer c input output)
-  pub shown_front : status ≡ 4 → IfSome (notice_of words) (λ n. IsFrontOf (text_of n) output)
-  pub unwritten : status ≢ 0 → status ≢ 4 → output ≡ []
+-- the input, the output and standard error, in memory
+pub record Streams : Type 0 where
+  pub input : ToldSource
+  pub out : ToldSink
+  pub diag : ToldSink
+
+-- those that a row gives: the input and the output fail where it says so; of a line 4,096 bytes are kept
+abbrev pub streams_of : RowTold → Streams
+streams_of row = record {
+  input = source_of row.input row.piece row.takes;
+  out = sink_of row.room row.puts;
+  diag = sink_of 4096 [];
+}
+
+-- what a status says of a row's words and streams, and of what they are then
+pub record IsRun (row : RowTold) (now : Streams) (status : ℕ) : Type 0 where
+  pub of_request : Contains (statuses_of (request_of row.words)) status
+  pub bad_words : (status ≡ 2) ↔ (request_of row.words ≡ None)
+  pub done : status ≡ 0 → IfSome (command_of row.words) (λ c. IsAnswerOf c row.input now.out.held)
+  pub shown : status ≡ 0 → IfSome (notice_of row.words) (λ n. now.out.held ≡ text_of n)
+  pub bad_input : status ≡ 1 → IfSome (command_of row.words) (λ c. IsBadInput c row.input)
+  pub limit : status ≡ 6 → IfSome (command_of row.words) (λ c. IsOver c row.input)
+  pub not_built : status ≡ 10 → IfSome (command_of row.words) (λ c. IsNotBuilt c row.input)
+  pub cut : status ≡ 4 → IfSome (command_of row.words) (λ c. IsFrontOfAnswer c row.input now.out.held)
+  pub shown_front : status ≡ 4 → IfSome (notice_of row.words) (λ n. IsFrontOf (text_of n) now.out.held)
+  pub unwritten : status ≢ 0 → status ≢ 4 → now.out.held ≡ []
+  -- the input ended, or wasn't read
+  pub ended : status ≢ 3 → status ≢ 5 → IfSome (command_of row.words) (λ c. now.input.ended ≡ true)
+  pub unread : command_of row.words ≡ None → now.input ≡ (streams_of row).input
+  -- a take, or a put, has failed
+  pub read_failed : status ≡ 3 → 1 ≤ now.input.calls.faults
+  pub write_failed : status ≡ 4 → 1 ≤ now.out.calls.faults
+
+-- a status, a line on standard error and an output come of a row
+abbrev pub IsOutcome : RowTold → ℕ → List ℕ → List ℕ → Type 0
+IsOutcome row status line output =
+    (now : Streams) × IsRun row now status × (line ≡ now.diag.held) × (output ≡ now.out.held)
 
 -- what isn't run: words whose first begins with `serve`, or an input in pieces of no byte
 abbrev pub IsUnfit : List (List ℕ) → ℕ → Type 0
 IsUnfit words piece = (is_serve words ≡ true) ⊎ (piece ≡ 0)
 
--- the status and the output of a row are what comes of its words and its input
+-- the status, the line and the output of a row are what comes of it
 abbrev pub RowHolds : RowTold → Type 0
-RowHolds row = IsOutcome row.words row.input row.status row.output
+RowHolds row = IsOutcome row row.status row.error row.output
 
 -- the rows of a file hold, and so many passed
 abbrev pub FileHolds : List ℕ → ℕ → Type 0
 FileHolds text passed =
-    (rows : List RowTold) × AreRows (with_lines 1 (lines_of text) []) rows × All RowHolds rows
-    × (passed ≡ length rows)
+    (rows : List RowTold) × AreRowsIn text rows × All RowHolds rows × (passed ≡ length rows)
 
 -- each row is a case
 abbrev pub is_row : RowTold → Bool

@@ -1,9 +1,11 @@
 //! What comes of a row.
 ghost use Rattle.std.specs.Prelude.{◌≡◌, ◌≢◌, ◌≤◌, [], false, IfOk, IfErr};
 ghost use Rattle.out_ports.specs.MemSource.{source_of as source_told};
+ghost use Rattle.out_ports.specs.MemSink.{sink_of as sink_told};
 ghost use Rattle.dsd_top.specs.Commands.{texts, is_serve as begins_with_serve};
 ghost use Rattle.row_cases.specs.declared.faults.Fault.TheVariants.{NoMemory};
-ghost use Rattle.row_runs.specs.Outcomes.{IsOutcome, IsUnfit};
+ghost use Rattle.row_files.specs.Rows.{row_told};
+ghost use Rattle.row_runs.specs.Outcomes.{Streams, streams_of, IsRun, IsOutcome, IsUnfit};
 
 use dsd_top::dsd_once;
 use out_ports::memory::{MemHost, MemListen, MemSink, MemSource};
@@ -27,8 +29,8 @@ fn is_serve(words: &[String]) -> bool
 /// What comes of what a row gives. A row whose first word begins with `serve`, or whose pieces have
 /// no byte, is refused by its form.
 pub fn outcome_of(alloc: Global, row: &Row) -> Result<Outcome, Fault>
-    ensures outcome { IfOk result (λ outcome. IsOutcome (texts row.now.words.items)
-        row.now.input.items outcome.status outcome.output.items) }
+    ensures outcome { IfOk result (λ outcome. IsOutcome (row_told row.now)
+        outcome.status outcome.line.items outcome.output.items) }
     ensures refused { IfErr result (λ f. f ≢ NoMemory
         → IsUnfit (texts row.now.words.items) row.now.piece) }
 {
@@ -53,21 +55,22 @@ fn source_of(row: &Row) -> Result<MemSource, AllocError>
     Ok(MemSource::new(bytes, row.piece, takes))
 }
 
-/// What comes of a row's words over an input.
+/// What comes of a row over its input.
 fn run_over(alloc: Global, row: &Row, input: MemSource) -> Result<Outcome, AllocError>
-    requires { begins_with_serve (texts row.now.words.items) ≡ false }
-    ensures { IfOk result (λ outcome. IsOutcome (texts row.now.words.items) input.left
-        outcome.status outcome.output.items) }
+    requires words { begins_with_serve (texts row.now.words.items) ≡ false }
+    requires input { input ≡ (streams_of (row_told row.now)).input }
+    ensures { IfOk result (λ outcome. IsOutcome (row_told row.now)
+        outcome.status outcome.line.items outcome.output.items) }
 {
     let mut out = sink_of(alloc, row.room, &row.puts)?;
     let mut diag = sink_of(alloc, LINE_ROOM, &[])?;
-    let status = status_of(alloc, &row.words, input, &mut out, &mut diag);
+    let status = status_of(alloc, row, input, &mut out, &mut diag);
     outcome_with(alloc, status, &diag, &out)
 }
 
 /// An empty sink of so much room, whose puts of these numbers fail.
 fn sink_of(alloc: Global, room: usize, puts: &[u64]) -> Result<MemSink, AllocError>
-    ensures { IfOk result (λ sink. sink.held ≡ []) }
+    ensures { IfOk result (λ sink. sink ≡ sink_told room puts.now) }
 {
     let puts = Vec::from_slice(alloc, puts)?;
     Ok(MemSink::new(Vec::with_capacity(alloc, room)?, puts))
@@ -76,18 +79,21 @@ fn sink_of(alloc: Global, room: usize, puts: &[u64]) -> Result<MemSink, AllocErr
 /// The program's status, over a host that has no files and no links.
 fn status_of(
     alloc: Global,
-    words: &[String],
+    row: &Row,
     mut input: MemSource,
     out: &mut MemSink,
     diag: &mut MemSink,
 ) -> u8
-    requires words { begins_with_serve (texts words.now) ≡ false }
-    requires empty { out.old.held ≡ [] }
-    ensures { IsOutcome (texts words.now) input.left result out.new.held }
+    requires words { begins_with_serve (texts row.now.words.items) ≡ false }
+    requires input { input ≡ (streams_of (row_told row.now)).input }
+    requires out { out.old ≡ (streams_of (row_told row.now)).out }
+    requires diag { diag.old ≡ (streams_of (row_told row.now)).diag }
+    ensures { (now : Streams) × IsRun (row_told row.now) now result
+        × (out.new ≡ now.out) × (diag.new ≡ now.diag) }
 {
     let links = MemListen::new(Vec::new(alloc), Vec::new(alloc));
     let mut host = MemHost::new(Vec::new(alloc), links, Vec::new(alloc), Vec::new(alloc));
-    dsd_once(alloc, words, &mut input, out, diag, &mut host)
+    dsd_once(alloc, &row.words, &mut input, out, diag, &mut host)
 }
 
 /// A status, and what two sinks hold.
@@ -98,6 +104,7 @@ fn outcome_with(
     out: &MemSink,
 ) -> Result<Outcome, AllocError>
     ensures status { IfOk result (λ outcome. outcome.status ≡ status) }
+    ensures line { IfOk result (λ outcome. outcome.line.items ≡ diag.now.held) }
     ensures output { IfOk result (λ outcome. outcome.output.items ≡ out.now.held) }
 {
     let line = Vec::from_slice(alloc, diag.held())?;
