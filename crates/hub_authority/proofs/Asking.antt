@@ -33,7 +33,7 @@ use Rattle.hub_valid.specs.Lemmas.Filtered.{all_kept}
 use Rattle.hub_authority.specs.Asked.{takes_back, cap_under, let_in, row_of, row_asked, rows_asked, next_after}
 use Rattle.hub_authority.specs.Asked.{stands_for, takes_row, rows_left}
 use Rattle.hub_valid.specs.Lemmas.Values.{all_weaker, all_append}
-use Rattle.hub_authority.proofs.Lists.{any_same, filter_same, filter_filter, filter_all, all_from}
+use Rattle.hub_valid.specs.Lemmas.Lists.{any_same, filter_same, filter_filter, filter_all, all_from}
 use Rattle.hub_authority.proofs.Rows.{AreOnce, once_push, once_filter, stays, rows_dropped, next_dropped}
 
 -- rows that handles stand for have been made

@@ -1,20 +1,18 @@
 -- What is left of a connection's names, where others or it itself end: the same exports, or nothing.
-use Rattle.std.proofs.Common.{◌≡◌, ℕ, List, [], ◌∷◌, ◌==◌, Bool, true, false, cond, Option, Some, None}
-use Rattle.std.proofs.Common.{refl, ap, sym, ◌∙◌, arith, ◌-◌, ◌&&◌}
-use Rattle.std.specs.Prelude.{nat_le}
+use Rattle.std.proofs.Common.{◌≡◌, ℕ, List, ◌==◌, Bool, true, false, cond, Option, Some, None}
+use Rattle.std.proofs.Common.{refl, ap, sym, ◌∙◌, arith}
 use Rattle.std.proofs.lemmas.Bool.Decides.{nat_tests}
-use Rattle.std.specs.Map.{keys_of}
 use Rattle.ac_table.specs.Tables.{is_live}
 use Rattle.ac_world.specs.declared.spreads.Spread.{Spread as SpreadOf}
-use Rattle.ac_world.specs.Worlds.{WorldState, actor_of, entry_of, without_entry, ended_of, gone}
+use Rattle.ac_world.specs.Worlds.{actor_of, entry_of, without_entry, ended_of}
 use Rattle.ac_world.specs.Lemmas.Entries.{out_other}
 use Rattle.rl_ports.specs.Ports.{PortsState}
 use Rattle.hub_machine.specs.declared.faults.Fault.{Fault}
 use Rattle.hub_machine.specs.declared.faults.Fault.TheVariants.{Spread}
-use Rattle.hub_machine.specs.State.{State, ports_of, is_there}
-use Rattle.hub_machine.specs.Endings.{closed, failed, failed_where, spread_out}
-use Rattle.hub_machine.specs.Endings.{all_spread_out, overrun_of, all_overrun, finished}
-use Rattle.hub_authority.proofs.Actors.{live_ended}
+use Rattle.hub_machine.specs.State.{State, ports_of}
+use Rattle.hub_machine.specs.Endings.{closed, failed, finished}
+use Rattle.hub_valid.specs.Lemmas.Lives.{live_ended, opened_ended}
+use Rattle.hub_valid.specs.Lemmas.StepEnds.{finished_keeps}
 
 -- what connection k had before, with the same exports
 pub record HadThem (k : ℕ) (s : State) (p : PortsState) : Type 0 where
@@ -46,13 +44,6 @@ keeps_then k s t u first later = record {
 }
 
 -- ---- one connection ends
-
-opened_ended : (a : ℕ) (w : WorldState) → (ended_of a w).opened ≡ w.opened
-opened_ended a w = by (is_live a w.table)
-  where
-    by : (c : Bool) → (cond c (gone a w) w).opened ≡ w.opened
-    by true = refl
-    by false = refl
 
 still_dead : (b : Bool) (old new : Bool) → new ≡ cond b false old → old ≡ false → new ≡ false
 still_dead true old new is dead = is
@@ -100,33 +91,7 @@ keeps_closed k j s =
 
 -- ---- the end of a step
 
--- what stays true where a connection fails is true at the end of a step
-module _ (P : State → Type 0) (fails : (k : ℕ) (f : Fault) (s : State) → P s → P (failed k f s)) where
-  spread_keeps : (x : SpreadOf) (s : State) → P s → P (spread_out x s)
-  spread_keeps x s p = by (nat_le 17 x.actor && is_there (x.actor - 16) s)
-    where
-      by : (b : Bool) → P (cond b (failed (x.actor - 16) (Spread x.weight) s) s)
-      by true = fails (x.actor - 16) (Spread x.weight) s p
-      by false = p
-
-  all_spread_keeps : (xs : List SpreadOf) (s : State) → P s → P (all_spread_out xs s)
-  all_spread_keeps [] s p = p
-  all_spread_keeps (x ∷ xs) s p = all_spread_keeps xs (spread_out x s) (spread_keeps x s p)
-
-  where_keeps : (k : ℕ) (o : Option Fault) (s : State) → P s → P (failed_where k o s)
-  where_keeps k None s p = p
-  where_keeps k (Some f) s p = fails k f s p
-
-  overrun_keeps : (ks : List ℕ) (s : State) → P s → P (all_overrun ks s)
-  overrun_keeps [] s p = p
-  overrun_keeps (k ∷ ks) s p =
-      overrun_keeps ks (failed_where k (overrun_of k s) s) (where_keeps k (overrun_of k s) s p)
-
-  pub finished_keeps : (xs : List SpreadOf) (s : State) → P s → P (finished xs s)
-  finished_keeps xs s p =
-      overrun_keeps (keys_of (all_spread_out xs s).connections) (all_spread_out xs s) (all_spread_keeps xs s p)
-
 pub keeps_finished : (k : ℕ) (xs : List SpreadOf) (s : State) → Keeps k s (finished xs s)
 keeps_finished k xs s =
-    finished_keeps (Keeps k s) (λ j f t kept. keeps_then k s t (failed j f t) kept (keeps_failed k j f t)) xs s
+    finished_keeps (Keeps k s) (λ j f t there kept. keeps_then k s t (failed j f t) kept (keeps_failed k j f t)) xs s
     (keeps_all k s)

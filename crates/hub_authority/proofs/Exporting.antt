@@ -17,7 +17,7 @@ use Rattle.hub_machine.specs.Replays.{run_from, replay}
 use Rattle.hub_machine.specs.declared.steps.Step.{Step}
 use Rattle.hub_authority.specs.Named.{told_by, told_from, first_by, first_from, objects_told, AreItsOwn}
 use Rattle.hub_authority.proofs.Endings.{Keeps}
-use Rattle.hub_authority.proofs.Lists.{flat_map_append}
+use Rattle.hub_valid.specs.Lemmas.Lists.{flat_map_append}
 
 -- ---- one step
 

@@ -1,10 +1,7 @@
-pub mod Actors
 pub mod Asking
 pub mod Endings
 pub mod Exporting
-pub mod Lists
 pub mod Orderly
-pub mod Plans
 pub mod Rows
 pub mod Runs
 pub mod Saying

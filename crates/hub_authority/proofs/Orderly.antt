@@ -40,9 +40,9 @@ use Rattle.hub_laws.proofs.Posting.{posted_table, table-popped}
 use Rattle.hub_laws.proofs.Saying.{plain_answers}
 use Rattle.hub_laws.proofs.Steps.{named_of, step_hub}
 use Rattle.hub_laws.proofs.Turns.{without_first, turning_of, space_runs}
+use Rattle.hub_valid.specs.Lemmas.StepEnds.{finished_keeps}
 use Rattle.hub_authority.specs.Laws.{TakenPackets}
 use Rattle.hub_authority.proofs.Asking.{StandBelow, HaveLed, plan_of, all_led}
-use Rattle.hub_authority.proofs.Endings.{finished_keeps}
 use Rattle.hub_authority.proofs.Taking.{IsOrderly, walked_from, taken_does}
 
 -- what a connection names, where next is the next handle
@@ -81,7 +81,7 @@ failed_in_order : (k : ℕ) (f : Fault) (s : State) → AreInOrder s → AreInOr
 failed_in_order k f s all = closed_in_order k s all
 
 finished_in_order : (xs : List SpreadOf) (s : State) → AreInOrder s → AreInOrder (finished xs s)
-finished_in_order xs s all = finished_keeps AreInOrder failed_in_order xs s all
+finished_in_order xs s all = finished_keeps AreInOrder (λ k f t there ordered. failed_in_order k f t ordered) xs s all
 
 -- ---- arrivals
 

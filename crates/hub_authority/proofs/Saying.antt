@@ -35,7 +35,7 @@ use Rattle.hub_machine.specs.Admission.{cap_at}
 use Rattle.hub_authority.specs.Asked.{cap_under, let_in, message_to, message_asked, messages_asked, message_in}
 use Rattle.hub_authority.specs.Asked.{messages_in, events_of}
 use Rattle.hub_authority.proofs.Asking.{plan_of, all_acted_more}
-use Rattle.hub_authority.proofs.Lists.{flat_map_append}
+use Rattle.hub_valid.specs.Lemmas.Lists.{flat_map_append}
 use Rattle.hub_authority.proofs.Telling.{exports_after}
 
 -- ---- what is said in an outbox

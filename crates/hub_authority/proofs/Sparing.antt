@@ -13,8 +13,8 @@ use Rattle.hub_machine.specs.declared.faults.Fault.{Fault}
 use Rattle.hub_machine.specs.State.{State}
 use Rattle.hub_machine.specs.Endings.{failed_where, overrun_of, all_overrun, finished}
 use Rattle.hub_authority.specs.Asked.{messages_in, events_of}
-use Rattle.hub_authority.proofs.Actors.{live_posted, live_gone, rows_posted}
-use Rattle.hub_authority.proofs.Lists.{filter_same, filter_filter, flat_map_append, all_from}
+use Rattle.hub_valid.specs.Lemmas.Lives.{live_posted, live_gone, rows_posted}
+use Rattle.hub_valid.specs.Lemmas.Lists.{filter_same, filter_filter, flat_map_append, all_from}
 use Rattle.hub_authority.proofs.Saying.{said_retractions, ascend_retractions, posted_events}
 
 -- each row's owner is live

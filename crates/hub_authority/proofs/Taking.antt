@@ -27,10 +27,10 @@ use Rattle.hub_authority.specs.Asked.{takes_back, cap_under, let_in, row_of, row
 use Rattle.hub_authority.specs.Asked.{rows_left, messages_asked}
 use Rattle.hub_authority.specs.Asked.{messages_in, events_of}
 use Rattle.hub_authority.specs.Laws.{DoesWhatIsAsked}
-use Rattle.hub_authority.proofs.Actors.{live_committed, rows_posted}
+use Rattle.hub_valid.specs.Lemmas.Lives.{live_committed, rows_posted}
 use Rattle.hub_authority.proofs.Asking.{StandBelow, plan_of, IsWalked, all_led}
-use Rattle.hub_authority.proofs.Lists.{filter_all, flat_map_append}
-use Rattle.hub_authority.proofs.Plans.{actors_all_acted}
+use Rattle.hub_valid.specs.Lemmas.Lists.{filter_all, flat_map_append}
+use Rattle.hub_valid.specs.Lemmas.Plans.{goes_on_all_acted}
 use Rattle.hub_authority.proofs.Rows.{once_sorted}
 use Rattle.hub_authority.proofs.Saying.{events_say, ascend_all_acted, posted_events}
 use Rattle.hub_authority.proofs.Sparing.{AreLive, spares_finished}
@@ -119,7 +119,7 @@ made k ports es s x orderly is = record {
     plan = plan_of k s.world x
 
     actors : plan.table.actors ≡ s.world.table.actors
-    actors = actors_all_acted (actor_of k) x.acts (plan_over s.world.table)
+    actors = (goes_on_all_acted (actor_of k) x.acts (plan_over s.world.table)).actors
 
 -- each row that is made has a live owner
 made_live : (k : ℕ) (ports : PortsState) (es : List TurnEvent) (s t : State) → IsTable s.world.table

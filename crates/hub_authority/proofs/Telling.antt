@@ -40,11 +40,11 @@ use Rattle.hub_machine.specs.declared.steps.Reply.{Reply}
 use Rattle.hub_machine.specs.declared.steps.Reply.TheVariants.{Worn, Barred, Halted, Full, Gone, Refused, Idle, Sent}
 use Rattle.hub_machine.specs.declared.steps.Reply.TheVariants.{Ran, Taken}
 use Rattle.hub_authority.specs.Named.{batch_sent, told_by, first_by, opened_as}
-use Rattle.hub_authority.proofs.Actors.{live_placed, live_committed, live_with_inbox}
+use Rattle.hub_valid.specs.Lemmas.Lives.{live_placed, live_committed, live_with_inbox}
 use Rattle.hub_authority.proofs.Endings.{HadThem, Keeps, keeps_all, keeps_then, keeps_failed, keeps_closed}
 use Rattle.hub_authority.proofs.Endings.{keeps_finished}
 use Rattle.hub_authority.proofs.Exporting.{Tells, WasTold, CameWith, tells_nothing, tells_then}
-use Rattle.hub_authority.proofs.Plans.{actors_all_acted, actors_all_turned, actors_all_answered}
+use Rattle.hub_valid.specs.Lemmas.Plans.{goes_on_all_acted, goes_on_all_turned, goes_on_all_answered}
 
 -- ---- the world changes
 
@@ -213,7 +213,7 @@ keeps_accepted k j x ports s there same = record {
     live =
         live_committed (actor_of k) (actor_of j) (all_acted (actor_of j) x.acts (plan_over s.world.table))
         ∙ live_from_actors (actor_of k) (all_acted (actor_of j) x.acts (plan_over s.world.table)).table s.world.table
-        (actors_all_acted (actor_of j) x.acts (plan_over s.world.table))
+        (goes_on_all_acted (actor_of j) x.acts (plan_over s.world.table)).actors
 
     by : (b : Bool) → (k == j) ≡ b → (p : PortsState) → ports_of k (accepted j x (nameless j s)) ≡ Some p
         → HadThem k s p
@@ -314,7 +314,7 @@ quiet_system k a b s system = by (is_space a) (is_system a) system
           (keeps_world k s (space_turn a b w).world refl
           (live_committed (actor_of k) a (all_turned a b.from b.events (begin_turn a w)).plan
           ∙ live_from_actors (actor_of k) (all_turned a b.from b.events (begin_turn a w)).plan.table w.table
-          (actors_all_turned a b.from b.events (begin_turn a w))
+          (goes_on_all_turned a b.from b.events (begin_turn a w)).actors
           ∙ live_popped (actor_of k) a s.world.table))
           (keeps_finished k (all_turned a b.from b.events (begin_turn a w)).spreads
           (record s { world = (space_turn a b w).world }));
@@ -324,7 +324,7 @@ quiet_system k a b s system = by (is_space a) (is_system a) system
         (keeps_world k s (plain_turn a b w).world refl
         (live_committed (actor_of k) a (all_answered b.events (plan_over w.table))
         ∙ live_from_actors (actor_of k) (all_answered b.events (plan_over w.table)).table w.table
-        (actors_all_answered b.events (plan_over w.table))
+        (goes_on_all_answered b.events (plan_over w.table)).actors
         ∙ live_popped (actor_of k) a s.world.table)) none_ran
     by false false is = absurd cc
 

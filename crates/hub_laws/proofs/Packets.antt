@@ -37,8 +37,8 @@ acted_plan : (n a : ℕ) (t : TableState) (p : Plan) (x : Act) → 9 ≤ a → i
     → IsValidAct n x → IsPlanOf n a t p → IsPlanOf n a t (acted a x p)
 acted_plan n a t p (act.Assert target entity v) far live valid k = record {
   moves = put_moves a t p k.moves live target entity v;
-  good = put_good n a t p k.moves k.good target entity v (λ l. absurd (omega (arith, l, far))) valid.0
-      (λ l. known_objects n v valid.2);
+  good = put_good n a t p k.moves k.good target entity v (λ l. absurd (omega (arith, l, far))) valid.0.0
+      (λ l. known_objects n v valid.1);
 }
 acted_plan n a t p (act.Retract h) far live valid k =
     record { moves = dropped_moves a t p k.moves h; good = dropped_good n a t p k.moves k.good h }

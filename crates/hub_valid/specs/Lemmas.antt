@@ -1,11 +1,18 @@
 -- Lemmas on the definitions, which proofs above cite. A reader of the contracts needs none of them.
 pub mod Admitted
 pub mod Aims
+pub mod AnyStep
 pub mod Captured
 pub mod Crossed
 pub mod Filtered
 pub mod Hubs
+pub mod Lasting
+pub mod Lists
+pub mod Lives
 pub mod Passed
+pub mod Plans
+pub mod Sparing
+pub mod StepEnds
 pub mod Turns
 pub mod Values
 pub mod WorldPlans

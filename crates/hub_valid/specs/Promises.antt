@@ -26,7 +26,7 @@ PassedIsValid =
 -- a connection comes, whose first object is a system actor's
 abbrev pub OpenedIsValid : Type 0
 OpenedIsValid =
-    (space : ℕ) (s : State) → space ≤ 16 → s.world.opened < 2 ^ 31 → IsValid s → IsValid (opened space s)
+    (space : ℕ) (s : State) → space ≤ 8 → s.world.opened < 2 ^ 31 → IsValid s → IsValid (opened space s)
 
 -- what the events of a packet do names objects
 abbrev pub ActsAreValid : Type 0

@@ -1,5 +1,5 @@
 -- Valid states: what events and values in them name. n is the number of the last actor that was ever live.
-use Rattle.std.specs.Prelude.{ℕ, ◌+◌, ◌^◌, ◌<◌, ◌≤◌, List, IsSomeAnd}
+use Rattle.std.specs.Prelude.{◌≡◌, ℕ, ◌+◌, ◌^◌, ◌<◌, ◌≤◌, List, IsSomeAnd}
 use Rattle.std.specs.List.{AllByRecursion}
 use Rattle.std.specs.Map.{values_of}
 use Rattle.pv_value.specs.Plain.{Plain}
@@ -12,7 +12,8 @@ use Rattle.ac_table.specs.declared.batches.Batch.{Batch}
 use Rattle.ac_table.specs.Tables.{Actor}
 use Rattle.ac_world.specs.declared.acts.Act.{Act}
 use Rattle.ac_world.specs.declared.acts.Act.TheVariants as act
-use Rattle.ac_world.specs.Worlds.{WorldState, Seat}
+use Rattle.ac_world.specs.Worlds.{WorldState, Seat, Deliveries}
+use Rattle.ac_world.specs.declared.held.Held.{Held}
 use Rattle.rl_ports.specs.Ports.{PortsState}
 use Rattle.rl_wire.specs.Crossing.{held_in}
 use Rattle.hub_machine.specs.State.{State, opening}
@@ -21,9 +22,14 @@ use Rattle.hub_machine.specs.declared.steps.Step.{Step}
 
 -- ---- objects and values
 
--- a reference to an object of an actor that is or was live
+-- An object of an actor that is or was live. Of the system's actors those are the gatekeeper and the dataspaces, and each
+-- has object 0 alone.
+abbrev pub IsObjectAt : ℕ → ℕ → ℕ → Type 0
+IsObjectAt n actor entity = (actor ≤ n) × (entity < 2 ^ 63) × (actor < 17 → (actor < 9) × (entity ≡ 0))
+
+-- a reference to such an object
 abbrev pub IsObject : ℕ → Cap → Type 0
-IsObject n c = (c.actor ≤ n) × (c.entity < 2 ^ 63)
+IsObject n c = IsObjectAt n c.actor c.entity
 
 -- the value of such a reference
 abbrev pub IsObjectValue : ℕ → Plain → Type 0
@@ -36,7 +42,7 @@ HoldsObjects n v = AllByRecursion (IsObjectValue n) (held_in v)
 -- ---- the world; next is the next handle
 
 abbrev pub IsValidRow : ℕ → ℕ → Row → Type 0
-IsValidRow n next r = (r.handle < next) × (r.target ≤ n) × (r.entity < 2 ^ 63) × HoldsObjects n r.value
+IsValidRow n next r = (r.handle < next) × IsObjectAt n r.target r.entity × HoldsObjects n r.value
 
 abbrev pub IsValidEvent : ℕ → ℕ → Event → Type 0
 IsValidEvent n next (Assert h entity v) = (h < next) × (entity < 2 ^ 63) × HoldsObjects n v
@@ -54,22 +60,34 @@ IsValidActor n next x = AllByRecursion (IsValidBatch n next) x.inbox
 abbrev pub IsValidSeat : ℕ → ℕ × Seat → Type 0
 IsValidSeat n e = AllByRecursion (HoldsObjects n) (values_of e.1.got)
 
+-- what another actor has got
+abbrev pub IsValidDelivery : ℕ → ℕ × Held → Type 0
+IsValidDelivery n e = (e.1.entity < 2 ^ 63) × HoldsObjects n e.1.value
+
+abbrev pub AreValidDeliveries : ℕ → ℕ × Deliveries → Type 0
+AreValidDeliveries n e = AllByRecursion (IsValidDelivery n) e.1
+
 abbrev pub IsValidAct : ℕ → Act → Type 0
-IsValidAct n (act.Assert target entity v) = (target ≤ n) × (entity < 2 ^ 63) × HoldsObjects n v
+IsValidAct n (act.Assert target entity v) = IsObjectAt n target entity × HoldsObjects n v
 IsValidAct n (act.Retract h) = Unit {0}
-IsValidAct n (act.Message target entity v) = (target ≤ n) × (entity < 2 ^ 63) × HoldsObjects n v
-IsValidAct n (act.Sync target entity peer) = (target ≤ n) × (entity < 2 ^ 63) × IsObjectValue n peer
+IsValidAct n (act.Message target entity v) = IsObjectAt n target entity × HoldsObjects n v
+IsValidAct n (act.Sync target entity peer) = IsObjectAt n target entity × IsObjectValue n peer
 
 pub record IsValidWorld (w : WorldState) : Type 0 where
   pub rows : AllByRecursion (IsValidRow (16 + w.opened) w.table.next) w.table.rows
   pub inboxes : AllByRecursion (IsValidActor (16 + w.opened) w.table.next) w.table.actors
   pub got : AllByRecursion (IsValidSeat (16 + w.opened)) w.spaces
+  pub held : AllByRecursion (AreValidDeliveries (16 + w.opened)) w.held
 
 -- ---- the hub
 
+-- connections count from 1
+abbrev pub HasCome : ℕ → ℕ → Type 0
+HasCome opened k = (1 ≤ k) × (k ≤ opened)
+
 -- the connection has come, and its exports are references to such objects
 abbrev pub IsValidEntry : ℕ → ℕ × PortsState → Type 0
-IsValidEntry opened e = (e.0 ≤ opened) × AllByRecursion (IsObjectValue (16 + opened)) e.1.exports
+IsValidEntry opened e = HasCome opened e.0 × AllByRecursion (IsObjectValue (16 + opened)) e.1.exports
 
 -- What a world and the names of its connections are in a valid state. Few enough connections have come that the number
 -- of each one's actor can stand in a reference.

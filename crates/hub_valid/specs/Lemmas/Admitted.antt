@@ -114,7 +114,8 @@ more_caveats n ws r h = by (cap_of r) refl h
 -- ---- values that come in; n is the number of the last actor
 
 module _ (n : ℕ) (few : n < 2 ^ 32) where
-  module _ (k : ℕ) (own : actor_at k ≤ n) (exports : List Plain) (named : AllByRecursion (IsObjectValue n) exports)
+  module _ (k : ℕ) (own : actor_at k ≤ n) (far : 17 ≤ actor_at k) (exports : List Plain)
+      (named : AllByRecursion (IsObjectValue n) exports)
     where
       -- an object of the connection's own
       own_known : (x : Plain) (o : Option ℕ) → ((e : ℕ) → o ≡ Some e → e < 2 ^ 63) → is_some o ≡ true
@@ -122,7 +123,8 @@ module _ (n : ℕ) (few : n < 2 ^ 32) where
       own_known x None low is = absurd cc
       own_known x (Some e) low is =
           cap_is_object n (record { actor = actor_at k; entity = e; caveats = [] })
-          (omega (arith, own, few), low e refl, tt) (own, low e refl)
+          (omega (arith, own, few), low e refl, tt)
+          (own, low e refl, λ near. absurd (omega (arith, near, far)))
 
       export_known : (x : Plain) (o : Option ℕ) → is_some o ≡ true
           → wire_fault exports x (wire_where ExportedAs o) ≡ None
@@ -161,7 +163,7 @@ module _ (n : ℕ) (few : n < 2 ^ 32) where
   abbrev IsSound : Admitting → Type 0
   IsSound x = AllByRecursion (IsObjectValue n) x.ports.exports × AllByRecursion (IsValidAct n) x.acts
 
-  module _ (k : ℕ) (own : actor_at k ≤ n) (w : WorldState) where
+  module _ (k : ℕ) (own : actor_at k ≤ n) (far : 17 ≤ actor_at k) (w : WorldState) where
     retracted : (h : ℕ) (o : Option Inbound) (x : Admitting) → IsSound x → IsSound (after_retraction h o w x)
     retracted h None x s = s
     retracted h (Some Refused) x s = s
@@ -171,13 +173,13 @@ module _ (n : ℕ) (few : n < 2 ^ 32) where
         → IsSound (after_assertion w to o h x)
     asserted to None h x object value s = s
     asserted to (Some v) h x object value s =
-        (s.0, all_append (IsValidAct n) x.acts _ s.1 ((object.0, object.1, value), tt))
+        (s.0, all_append (IsValidAct n) x.acts _ s.1 ((object, value), tt))
 
     messaged : (to : Cap) (o : Option Plain) (x : Admitting) → IsObject n to → If o (HoldsObjects n) → IsSound x
         → IsSound (after_message w to o x)
     messaged to None x object value s = s
     messaged to (Some v) x object value s =
-        (s.0, all_append (IsValidAct n) x.acts _ s.1 ((object.0, object.1, value), tt))
+        (s.0, all_append (IsValidAct n) x.acts _ s.1 ((object, value), tt))
 
     -- at the object that reference r names
     event_sound : (r : Plain) (to : Cap) (e : Event) (x : Admitting) → cap_of r ≡ Some to → IsObject n to → IsSound x
@@ -186,17 +188,17 @@ module _ (n : ℕ) (few : n < 2 ^ 32) where
         let a = parts_none _ _ is in
         let b = parts_none _ _ a.0 in
         let c = parts_none _ _ b.0 in
-        let value = value_comes_in k own x.ports.exports s.0 v wired.0 (none_unknown k v x c.0) in
+        let value = value_comes_in k own far x.ports.exports s.0 v wired.0 (none_unknown k v x c.0) in
         asserted to (let_through to (kept k v x)) h x o (through_holds n r (kept k v x) to cap value) s
     event_sound r to (Retract h) x cap o s wired is = retracted h (inbound_of h x.ports) x s
     event_sound r to (Message v) x cap o s wired is =
         let a = parts_none _ _ is in
-        let value = value_comes_in k own x.ports.exports s.0 v wired (none_unknown k v x a.0) in
+        let value = value_comes_in k own far x.ports.exports s.0 v wired (none_unknown k v x a.0) in
         messaged to (let_through to (kept k v x)) x o (through_holds n r (kept k v x) to cap value) s
     event_sound r to (Sync peer) x cap o s wired is =
         let a = parts_none _ _ is in
-        let value = peer_comes_in k own x.ports.exports s.0 peer wired (none_unknown k peer x a.0) in
-        (s.0, all_append (IsValidAct n) x.acts _ s.1 ((o.0, o.1, value), tt))
+        let value = peer_comes_in k own far x.ports.exports s.0 peer wired (none_unknown k peer x a.0) in
+        (s.0, all_append (IsValidAct n) x.acts _ s.1 ((o, value), tt))
 
     -- where r is the export
     through_sound : (r : Plain) (o : Option Cap) (e : TurnEvent) (x : Admitting) → cap_of r ≡ o
@@ -235,11 +237,14 @@ pub acts_are_valid_below :
 acts_are_valid_below k ports es x w few entry wired is = by (over 1024 3 (length es)) is
   where
     own : actor_at k ≤ 16 + w.opened
-    own = omega (arith, entry.0)
+    own = omega (arith, entry.0.1)
+
+    far : 17 ≤ actor_at k
+    far = omega (arith, entry.0.0)
 
     by : (o : Option Fault) → unless o (all_admitted k w es (before_all k ports w)) ≡ admitted x
         → AllByRecursion (IsValidAct (16 + w.opened)) x.acts
-    by None is = (all_sound (16 + w.opened) few k own w es (before_all k ports w) x (entry.1, tt) wired is).1
+    by None is = (all_sound (16 + w.opened) few k own far w es (before_all k ports w) x (entry.1, tt) wired is).1
     by (Some f) is = absurd cc
 
 -- ---- what the connection names

@@ -1,5 +1,5 @@
 -- What is sent through a reference is aimed at an object, and holds objects.
-use Rattle.std.proofs.Common.{◌≡◌, ℕ, ◌^◌, ◌<◌, ◌≤◌, ◌++◌, [], Option, Some, None, refl, option_map}
+use Rattle.std.proofs.Common.{◌≡◌, ℕ, ◌++◌, [], Option, Some, None, refl, option_map}
 use Rattle.std.specs.Prelude.{IsSomeAnd, option_and_then}
 use Rattle.pv_value.specs.Plain.{Plain, sequence, no_more, then_more}
 use Rattle.sr_caveat.specs.declared.caps.Cap.{Cap}
@@ -10,13 +10,12 @@ use Rattle.ac_world.specs.declared.aims.Aim.{Aim}
 use Rattle.ac_world.specs.Turns.{aim_by, aim_at, observer_in, aim_for, aim_of}
 use Rattle.rl_wire.specs.Crossing.{held_in}
 use Rattle.rl_wire.specs.Lemmas.Later.{all_of_front, all_of_rest}
-use Rattle.hub_valid.specs.Validity.{IsObject, IsObjectValue, HoldsObjects}
+use Rattle.hub_valid.specs.Validity.{IsObjectAt, IsObject, IsObjectValue, HoldsObjects}
 use Rattle.hub_valid.specs.Lemmas.Passed.{through_holds}
 use Rattle.hub_valid.specs.Lemmas.Values.{observer_is_object}
 
 pub record IsAimed (n : ℕ) (aim : Aim) : Type 0 where
-  pub at : aim.at.at ≤ n
-  pub entity : aim.at.entity < 2 ^ 63
+  pub at : IsObjectAt n aim.at.at aim.at.entity
   pub value : HoldsObjects n aim.value
 
 pub sent_aims : (n : ℕ) (v x : Plain) → HoldsObjects n v → IsObjectValue n x → If (aim_at v x) (IsAimed n)
@@ -25,7 +24,7 @@ sent_aims n v x holds object = by (cap_of x) refl object
     passing : (c : Cap) (o : Option Plain) → IsObject n c → If o (HoldsObjects n)
         → If (option_map (λ w. record { at = record { at = c.actor; entity = c.entity }; value = w }) o) (IsAimed n)
     passing c None object value = tt
-    passing c (Some w) object value = record { at = object.0; entity = object.1; value = value }
+    passing c (Some w) object value = record { at = object; value = value }
 
     by : (o : Option Cap) → cap_of x ≡ o → IsSomeAnd o (IsObject n) → If (option_and_then (aim_by v) o) (IsAimed n)
     by None is object = absurd object

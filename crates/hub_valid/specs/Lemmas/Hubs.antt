@@ -1,8 +1,7 @@
 -- A valid state stays so: the first is valid, and each step of the hub keeps it so.
-use Rattle.std.proofs.Common.{◌≡◌, ℕ, ◌+◌, ◌-◌, ◌^◌, ◌<◌, ◌≤◌, ◌&&◌, nat_lt, nat_le, List, [], ◌∷◌, ◌++◌, Bool}
+use Rattle.std.proofs.Common.{◌≡◌, ℕ, ◌+◌, ◌-◌, ◌^◌, ◌<◌, ◌≤◌, nat_lt, nat_le, List, [], ◌∷◌, ◌++◌, Bool}
 use Rattle.std.proofs.Common.{true, false, cond, Option, Some, None, refl, sym, subst, arith, length, is_some}
 use Rattle.std.specs.List.{AllByRecursion, flat_map}
-use Rattle.std.specs.Map.{keys_of}
 use Rattle.std.proofs.lemmas.Bool.Decides.{nat_tests}
 use Rattle.pv_value.specs.Plain.{Plain}
 use Rattle.ds_space.specs.declared.references.Reference.{Reference}
@@ -22,11 +21,9 @@ use Rattle.rl_packet.specs.Wired.{IsTurnEvent}
 use Rattle.rl_ports.specs.Ports.{PortsState, ports_to, with_exports, place_of, exported}
 use Rattle.rl_wire.specs.Crossing.{held_in, is_own, foreign_of, actor_at, all_exported}
 use Rattle.hub_machine.specs.declared.faults.Fault.{Fault}
-use Rattle.hub_machine.specs.State.{State, ports_of, is_there}
+use Rattle.hub_machine.specs.State.{State, ports_of}
 use Rattle.hub_machine.specs.Admission.{Admitted, refused, admitted, admission}
-use Rattle.hub_machine.specs.declared.faults.Fault.TheVariants as fault
-use Rattle.hub_machine.specs.Endings.{nameless, departed_for, closed, failed, failed_where, spread_out, all_spread_out}
-use Rattle.hub_machine.specs.Endings.{overrun_of, all_overrun, finished}
+use Rattle.hub_machine.specs.Endings.{nameless, departed_for, closed, failed, finished}
 use Rattle.hub_machine.specs.Machine.{unchanged, actor_reference, opened, refusal, arrive_unless, accepted, judged}
 use Rattle.hub_machine.specs.Machine.{packet_at, bad_at}
 use Rattle.hub_machine.specs.Machine.{close_at, told_value, foreign_told, foreign_to, telling_fault, exports_after}
@@ -42,6 +39,7 @@ use Rattle.hub_valid.specs.Promises.{OpenedIsValid, AcceptedIsValid, NamelessIsV
 use Rattle.hub_valid.specs.Promises.{TakenIsValid, ExportingIsValid}
 use Rattle.hub_valid.specs.Lemmas.Admitted.{acts_are_valid, exports_stay}
 use Rattle.hub_valid.specs.Lemmas.Values.{all_flat, all_weaker, all_append, cap_is_object, later_inside}
+use Rattle.hub_valid.specs.Lemmas.StepEnds.{finished_keeps}
 use Rattle.hub_valid.specs.Lemmas.Worlds.{beginning_valid, arrived_valid, sent_valid, gone_valid}
 use Rattle.hub_valid.specs.Lemmas.Turns.{turn_valid, turn_opens_none, taken_valid, taken_valid_after}
 
@@ -49,13 +47,13 @@ use Rattle.hub_valid.specs.Lemmas.Turns.{turn_valid, turn_opens_none, taken_vali
 
 later_entry : (m n : ℕ) (e : ℕ × PortsState) → m ≤ n → IsValidEntry m e → IsValidEntry n e
 later_entry m n e l v = (
-  omega (arith, v.0),
+  (v.0.0, omega (arith, v.0.1)),
   all_weaker (IsObjectValue (16 + m)) (IsObjectValue (16 + n)) (λ x. later_inside (16 + m) (16 + n) x (omega arith))
       e.1.exports v.1,
 )
 
 -- the names that a live connection has
-ports_valid : (k : ℕ) (ports : PortsState) (s : State) → IsValid s → ports_of k s ≡ Some ports
+pub ports_valid : (k : ℕ) (ports : PortsState) (s : State) → IsValid s → ports_of k s ≡ Some ports
     → IsValidEntry s.world.opened (k, ports)
 ports_valid k ports s v is = by (is_live (actor_of k) s.world.table) is
   where
@@ -70,7 +68,7 @@ opened_is_valid space s low few v = record {
   few = omega (arith, few);
   world = arrived_valid s.world v.world;
   named = each_with (IsValidEntry (s.world.opened + 1)) (s.world.opened + 1)
-      (ports_to (actor_reference space)) s.connections (omega arith, (first, tt))
+      (ports_to (actor_reference space)) s.connections ((omega arith, omega arith), (first, tt))
       (all_weaker (IsValidEntry s.world.opened) (IsValidEntry (s.world.opened + 1))
       (λ e. later_entry s.world.opened (s.world.opened + 1) e (omega arith)) s.connections v.named);
 }
@@ -78,7 +76,7 @@ opened_is_valid space s low few v = record {
     first : IsObjectValue (16 + (s.world.opened + 1)) (actor_reference space)
     first =
         cap_is_object (16 + (s.world.opened + 1)) (record { actor = space; entity = 0; caveats = [] })
-        (omega arith, omega arith, tt) (omega arith, omega arith)
+        (omega arith, omega arith, tt) (omega arith, omega arith, λ system. (omega (arith, low), refl))
 
 pub nameless_is_valid : NamelessIsValid
 nameless_is_valid k s v =
@@ -172,44 +170,23 @@ exporting_is_valid k b ports s v entry fits = record {
 failed_valid : (k : ℕ) (f : Fault) (s : State) → IsValid s → IsValid (failed k f s)
 failed_valid k f s v = departed_is_valid k (nameless k s) (nameless_is_valid k s v)
 
-spread_out_valid : (x : Spread) (s : State) → IsValid s → IsValid (spread_out x s)
-spread_out_valid x s v = by (nat_le 17 x.actor && is_there (x.actor - 16) s)
-  where
-    by : (b : Bool) → IsValid (cond b (failed (x.actor - 16) (fault.Spread x.weight) s) s)
-    by true = failed_valid (x.actor - 16) (fault.Spread x.weight) s v
-    by false = v
-
-all_spread_out_valid : (xs : List Spread) (s : State) → IsValid s → IsValid (all_spread_out xs s)
-all_spread_out_valid [] s v = v
-all_spread_out_valid (x ∷ xs) s v = all_spread_out_valid xs (spread_out x s) (spread_out_valid x s v)
-
-failed_where_valid : (k : ℕ) (o : Option Fault) (s : State) → IsValid s → IsValid (failed_where k o s)
-failed_where_valid k None s v = v
-failed_where_valid k (Some f) s v = failed_valid k f s v
-
-all_overrun_valid : (ks : List ℕ) (s : State) → IsValid s → IsValid (all_overrun ks s)
-all_overrun_valid [] s v = v
-all_overrun_valid (k ∷ ks) s v =
-    all_overrun_valid ks (failed_where k (overrun_of k s) s) (failed_where_valid k (overrun_of k s) s v)
-
 -- the end of a step
 pub finished_is_valid : (xs : List Spread) (s : State) → IsValid s → IsValid (finished xs s)
-finished_is_valid xs s v =
-    all_overrun_valid (keys_of (all_spread_out xs s).connections) (all_spread_out xs s) (all_spread_out_valid xs s v)
+finished_is_valid xs s v = finished_keeps IsValid (λ k f t there valid. failed_valid k f t valid) xs s v
 
 -- ---- arrivals
 
-may_come : (space : ℕ) (s : State) → refusal space s ≡ None → space ≤ 16
+may_come : (space : ℕ) (s : State) → refusal space s ≡ None → space ≤ 8
 may_come space s is = by (nat_lt 8 space) refl is
   where
     by : (b : Bool) → nat_lt 8 space ≡ b
         → cond b (Some Barred) (cond s.stopped (Some Halted) (cond (nat_le 32 (length s.connections)) (Some Full) None))
         ≡ None
-        → space ≤ 16
+        → space ≤ 8
     by true high is = absurd cc
     by false low is = grind (arith, nat_tests, low)
 
-arrive_valid : (o : Option Reply) (space : ℕ) (s : State) → (o ≡ None → space ≤ 16) → s.world.opened < 2 ^ 31
+arrive_valid : (o : Option Reply) (space : ℕ) (s : State) → (o ≡ None → space ≤ 8) → s.world.opened < 2 ^ 31
     → IsValid s → IsValid (arrive_unless o space s).state
 arrive_valid None space s low few v = finished_is_valid [] (opened space s) (opened_is_valid space s (low refl) few v)
 arrive_valid (Some r) space s low few v = v

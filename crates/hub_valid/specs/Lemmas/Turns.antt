@@ -20,16 +20,18 @@ use Rattle.ac_table.specs.Tables.{is_live, first_batch, popped}
 use Rattle.ac_world.specs.declared.spreads.Spread.{Spread}
 use Rattle.ac_world.specs.declared.turns.Turned.TheVariants as turned
 use Rattle.ac_world.specs.Outboxes.{Plan, plan_over}
-use Rattle.ac_world.specs.Worlds.{WorldState, Seat, entry_of, no_seat, seat_of, is_space, is_system}
+use Rattle.ac_world.specs.Worlds.{WorldState, Seat, Deliveries, entry_of, no_seat, seat_of, held_by, is_space}
+use Rattle.ac_world.specs.Worlds.{is_system, delivered, all_delivered}
 use Rattle.ac_world.specs.declared.aims.Aim.{Aim}
 use Rattle.ac_world.specs.Turns.{Turning, aim_at, aim_for, aim_of, handle_for, drop_met, left, came_at, came}
 use Rattle.ac_world.specs.Turns.{changed_by, all_changed, changes, with_rows, regot, spreading, by_assertion}
 use Rattle.ac_world.specs.Turns.{by_message, applied, taken_in, say_at, say_all, passed_on, answer_to, turned_by}
-use Rattle.ac_world.specs.Turns.{all_turned, answered, all_answered, begin_turn, space_turn, plain_turn}
+use Rattle.ac_world.specs.Turns.{all_turned, answered, all_answered, begin_turn, space_turn, deliver, plain_turn}
 use Rattle.ac_world.specs.Turns.{connection_turn, After, turn_first, turn}
 use Rattle.ac_world.specs.Lemmas.Entries.{values_pass, values_all, each_with, each_without, each_found}
 use Rattle.hub_valid.specs.Lemmas.Filtered.{all_kept}
 use Rattle.hub_valid.specs.Validity.{IsObjectValue, HoldsObjects, IsValidEvent, IsValidBatch, IsValidSeat, IsValidWorld}
+use Rattle.hub_valid.specs.Validity.{IsValidDelivery, AreValidDeliveries}
 use Rattle.hub_valid.specs.Lemmas.Captured.{wants_hold, fan_holds}
 use Rattle.hub_valid.specs.Lemmas.Aims.{IsAimed, sent_aims, told_aims, key_aims}
 use Rattle.hub_valid.specs.Lemmas.Values.{all_append, sequence_holds}
@@ -61,7 +63,7 @@ came_valid n a k t holds v = by (aim_of k) (key_aims n k holds)
     by None is = v
     by (Some aim) is = record {
       got = v.got;
-      plan = put_valid n a aim.at.at aim.at.entity aim.value t.plan is.at is.entity is.value v.plan;
+      plan = put_valid n a aim.at.at aim.at.entity aim.value t.plan is.at is.value v.plan;
     }
 
 -- a key that comes holds objects
@@ -147,7 +149,7 @@ taken_in_valid n a from h x t holds v = by (has_row h t.seat.got)
 say_at_valid : (n : ℕ) (o : Option Aim) (p : Plan) → If o (IsAimed n) → IsValidPlan n p → IsValidPlan n (say_at o p)
 say_at_valid n None p is v = v
 say_at_valid n (Some aim) p is v =
-    said_valid n aim.at.at (Message aim.at.entity aim.value) p (is.entity, is.value) v
+    said_valid n aim.at.at (Message aim.at.entity aim.value) p (is.at.1, is.value) v
 
 -- an observation and what it captures hold objects
 abbrev IsValidFanned : ℕ → Fanned → Type 0
@@ -210,6 +212,38 @@ all_answered_valid n next [] p all v = v
 all_answered_valid n next (e ∷ es) p all v =
     all_answered_valid n next es (answered e p) all.1 (answered_valid n next e p all.0 v)
 
+-- ---- what is delivered to another actor
+
+delivered_valid : (n next : ℕ) (e : Event) (got : Deliveries) → IsValidEvent n next e
+    → AllByRecursion (IsValidDelivery n) got → AllByRecursion (IsValidDelivery n) (delivered e got)
+delivered_valid n next (Assert h entity x) got fits v =
+    each_with (IsValidDelivery n) h (record { entity = entity; value = x }) got (fits.1, fits.2) v
+delivered_valid n next (Retract h entity) got fits v = each_without (IsValidDelivery n) h got v
+delivered_valid n next (Message entity x) got fits v = v
+delivered_valid n next (Sync entity peer) got fits v = v
+
+all_delivered_valid : (n next : ℕ) (es : List Event) (got : Deliveries) → AllByRecursion (IsValidEvent n next) es
+    → AllByRecursion (IsValidDelivery n) got → AllByRecursion (IsValidDelivery n) (all_delivered es got)
+all_delivered_valid n next [] got all v = v
+all_delivered_valid n next (e ∷ es) got all v =
+    all_delivered_valid n next es (delivered e got) all.1 (delivered_valid n next e got all.0 v)
+
+held_valid : (n a : ℕ) (w : WorldState) → AllByRecursion (AreValidDeliveries n) w.held
+    → AllByRecursion (IsValidDelivery n) (held_by a w)
+held_valid n a w all = by (entry_of a w.held) refl
+  where
+    by : (o : Option Deliveries) → entry_of a w.held ≡ o → AllByRecursion (IsValidDelivery n) (unwrap_or o [])
+    by None found = tt
+    by (Some got) found = each_found (AreValidDeliveries n) a got w.held all found
+
+deliver_valid : (a : ℕ) (b : Batch) (w : WorldState) → IsValidBatch (16 + w.opened) w.table.next b
+    → IsValidWorld w → AllByRecursion (AreValidDeliveries (16 + w.opened)) (deliver a b.events w).held
+deliver_valid a b w fits v =
+    each_with (AreValidDeliveries (16 + w.opened)) a (all_delivered b.events (held_by a w)) w.held
+    (all_delivered_valid (16 + w.opened) w.table.next b.events (held_by a w) fits
+    (held_valid (16 + w.opened) a w v.held))
+    v.held
+
 -- ---- turns
 
 seat_valid : (n a : ℕ) (w : WorldState) → AllByRecursion (IsValidSeat n) w.spaces
@@ -234,6 +268,7 @@ space_turn_valid a b w fits v =
     (committed_valid (16 + w.opened) a (all_turned a b.from b.events (begin_turn a w)).plan t.plan)
     (each_with (IsValidSeat (16 + w.opened)) a (all_turned a b.from b.events (begin_turn a w)).seat w.spaces t.got
     v.got)
+    v.held
 
 plain_turn_valid : (a : ℕ) (b : Batch) (w : WorldState) → IsValidBatch (16 + w.opened) w.table.next b
     → IsValidWorld w → IsValidWorld (plain_turn a b w).world
@@ -241,19 +276,20 @@ plain_turn_valid a b w fits v = world_with (plain_turn a b w).world
     (committed_valid (16 + w.opened) a (all_answered b.events (plan_over w.table))
     (all_answered_valid (16 + w.opened) w.table.next b.events (plan_over w.table) fits
     (begin_valid (16 + w.opened) w.table (table_of w v))))
-    v.got
+    v.got (deliver_valid a b w fits v)
 
-connection_turn_valid : (a : ℕ) (b : Batch) (w : WorldState) → IsValidWorld w
-    → IsValidWorld (connection_turn a b w).world
-connection_turn_valid a b w v = world_with (connection_turn a b w).world (table_of w v) v.got
+connection_turn_valid : (a : ℕ) (b : Batch) (w : WorldState) → IsValidBatch (16 + w.opened) w.table.next b
+    → IsValidWorld w → IsValidWorld (connection_turn a b w).world
+connection_turn_valid a b w fits v =
+    world_with (connection_turn a b w).world (table_of w v) v.got (deliver_valid a b w fits v)
 
 -- the world without an actor's first batch
-abbrev without_first : ℕ → WorldState → WorldState
+abbrev pub without_first : ℕ → WorldState → WorldState
 without_first a w = record w { table = popped a w.table }
 
 without_first_valid : (a : ℕ) (w : WorldState) → IsValidWorld w → IsValidWorld (without_first a w)
 without_first_valid a w v = world_with (without_first a w)
-    (popped_valid (16 + w.opened) a w.table (table_of w v)) v.got
+    (popped_valid (16 + w.opened) a w.table (table_of w v)) v.got v.held
 
 -- a turn by what was found out: whether the actor is a dataspace, a system actor, or live
 abbrev turn_by : Bool → Bool → ℕ → Batch → WorldState → After
@@ -267,7 +303,7 @@ turn_by_valid : (space system : Bool) (a : ℕ) (b : Batch) (w : WorldState)
     → IsValidBatch (16 + w.opened) w.table.next b → IsValidWorld w → IsValidWorld (turn_by space system a b w).world
 turn_by_valid true system a b w fits v = space_turn_valid a b w fits v
 turn_by_valid false true a b w fits v = plain_turn_valid a b w fits v
-turn_by_valid false false a b w fits v = connection_turn_valid a b w v
+turn_by_valid false false a b w fits v = connection_turn_valid a b w fits v
 
 pub turn_valid : (a : ℕ) (w : WorldState) → IsValidWorld w → IsValidWorld (turn a w).world
 turn_valid a w v = by (is_live a w.table)
@@ -303,11 +339,11 @@ turn_opens_none a w = by (is_live a w.table)
 -- ---- the batch that a connection takes
 
 -- it is the first that waited for it, and nothing else is done
-record IsTaken (a : ℕ) (b : Batch) (w : WorldState) (first : Option Batch) (t : After) : Type 0 where
-  is : first ≡ Some b
-  same : t.world ≡ (connection_turn a b (without_first a w)).world
+pub record IsTaken (a : ℕ) (b : Batch) (w : WorldState) (first : Option Batch) (t : After) : Type 0 where
+  pub is : first ≡ Some b
+  pub same : t.world ≡ (connection_turn a b (without_first a w)).world
 
-taken_is : (a : ℕ) (b : Batch) (w : WorldState) → (turn a w).turned ≡ turned.Taken b
+pub taken_is : (a : ℕ) (b : Batch) (w : WorldState) → (turn a w).turned ≡ turned.Taken b
     → IsTaken a b w (first_batch a w.table) (turn a w)
 taken_is a b w is = by (is_live a w.table) is
   where

@@ -17,7 +17,7 @@ use Rattle.pv_words.specs.Lemmas.Found.{If, if_cond}
 use Rattle.ac_world.specs.Turns.{observer_in}
 use Rattle.rl_wire.specs.Crossing.{held_in, all_held_in, all_pairs_held_in}
 use Rattle.rl_wire.specs.Lemmas.Later.{all_of_front, all_of_rest}
-use Rattle.hub_valid.specs.Validity.{IsObject, IsObjectValue, HoldsObjects}
+use Rattle.hub_valid.specs.Validity.{IsObjectAt, IsObject, IsObjectValue, HoldsObjects}
 
 -- ---- lists
 
@@ -71,8 +71,11 @@ object_found n x c h is = subst (λ o. IsSomeAnd o (IsObject n)) is h
 
 -- ---- an object stays one as actors come
 
+pub later_at : (m n actor entity : ℕ) → m ≤ n → IsObjectAt m actor entity → IsObjectAt n actor entity
+later_at m n actor entity l h = (omega arith, h.1, h.2)
+
 later_object : (m n : ℕ) (c : Cap) → m ≤ n → IsObject m c → IsObject n c
-later_object m n c l h = (omega arith, h.1)
+later_object m n c l h = later_at m n c.actor c.entity l h
 
 pub later_inside : (m n : ℕ) (x : Plain) → m ≤ n → IsObjectValue m x → IsObjectValue n x
 later_inside m n x l h = by (cap_of x) h

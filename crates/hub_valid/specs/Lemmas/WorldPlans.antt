@@ -1,5 +1,5 @@
 -- What a turn does, in the making: a valid plan stays so with each act, and what it tells is posted to valid inboxes.
-use Rattle.std.proofs.Common.{◌≡◌, ℕ, ◌+◌, ◌^◌, ◌<◌, ◌≤◌, ◌==◌, List, [], ◌∷◌, ◌++◌, Bool, true, false, cond, Option}
+use Rattle.std.proofs.Common.{◌≡◌, ℕ, ◌+◌, ◌==◌, List, [], ◌∷◌, ◌++◌, Bool, true, false, cond, Option}
 use Rattle.std.proofs.Common.{Some, None, refl, arith, unwrap_or}
 use Rattle.std.specs.List.{AllByRecursion}
 use Rattle.pv_value.specs.Plain.{Plain}
@@ -14,7 +14,7 @@ use Rattle.ac_world.specs.Outboxes.{said, committed, acted, all_acted, retractio
 use Rattle.ac_world.specs.Worlds.{entry_of}
 use Rattle.ac_world.specs.Lemmas.Entries.{each_with, each_found}
 use Rattle.hub_valid.specs.Lemmas.Filtered.{all_kept}
-use Rattle.hub_valid.specs.Validity.{HoldsObjects, IsValidRow, IsValidEvent, IsValidAct}
+use Rattle.hub_valid.specs.Validity.{IsObjectAt, HoldsObjects, IsValidRow, IsValidEvent, IsValidAct}
 use Rattle.hub_valid.specs.Lemmas.Values.{all_weaker, all_append}
 use Rattle.hub_valid.specs.Lemmas.WorldTables.{later_event, rows_later, inboxes_later, IsValidTable, row_found}
 use Rattle.hub_valid.specs.Lemmas.WorldTables.{pushed_valid}
@@ -58,7 +58,7 @@ pub retractions_valid : (n next : ℕ) (rows : List Row) (out : Outbox) → AllB
 retractions_valid n next [] out v all = all
 retractions_valid n next (r ∷ rs) out v all =
     retractions_valid n next rs (told r.target (Retract r.handle r.entity) out) v.1
-    (told_pass (IsValidEvent n next) r.target (Retract r.handle r.entity) out (v.0.0, v.0.2) all)
+    (told_pass (IsValidEvent n next) r.target (Retract r.handle r.entity) out (v.0.0, v.0.1.1) all)
 
 -- ---- plans
 
@@ -69,21 +69,21 @@ pub record IsValidPlan (n : ℕ) (p : Plan) : Type 0 where
 pub begin_valid : (n : ℕ) (t : TableState) → IsValidTable n t → IsValidPlan n (plan_over t)
 begin_valid n t v = record { table = v; told = tt }
 
-asserted_valid : (n owner target entity : ℕ) (x : Plain) (t : TableState) → target ≤ n → entity < 2 ^ 63
+asserted_valid : (n owner target entity : ℕ) (x : Plain) (t : TableState) → IsObjectAt n target entity
     → HoldsObjects n x → IsValidTable n t → IsValidTable n (asserted owner 0 target entity x t)
-asserted_valid n owner target entity x t low small holds v = record {
+asserted_valid n owner target entity x t at holds v = record {
   rows = all_append (IsValidRow n (t.next + 1)) t.rows _
       (rows_later n n t.next (t.next + 1) t.rows (omega arith) (omega arith) v.rows)
-      ((omega arith, low, small, holds), tt);
+      ((omega arith, at, holds), tt);
   inboxes = inboxes_later n n t.next (t.next + 1) t.actors (omega arith) (omega arith) v.inboxes;
 }
 
-pub put_valid : (n owner target entity : ℕ) (x : Plain) (p : Plan) → target ≤ n → entity < 2 ^ 63 → HoldsObjects n x
+pub put_valid : (n owner target entity : ℕ) (x : Plain) (p : Plan) → IsObjectAt n target entity → HoldsObjects n x
     → IsValidPlan n p → IsValidPlan n (put owner target entity x p)
-put_valid n owner target entity x p low small holds v = record {
-  table = asserted_valid n owner target entity x p.table low small holds v.table;
+put_valid n owner target entity x p at holds v = record {
+  table = asserted_valid n owner target entity x p.table at holds v.table;
   told = told_pass (IsValidEvent n (p.table.next + 1)) target (Assert p.table.next entity x) p.out
-      (omega arith, small, holds)
+      (omega arith, at.1, holds)
       (told_weaker (IsValidEvent n p.table.next) (IsValidEvent n (p.table.next + 1)) p.out
       (λ e. later_event n n p.table.next (p.table.next + 1) e (omega arith) (omega arith)) v.told);
 }
@@ -98,7 +98,7 @@ drop_row_valid : (n : ℕ) (r : Row) (p : Plan) → IsValidRow n p.table.next r 
     → IsValidPlan n (drop_row r p)
 drop_row_valid n r p row v = record {
   table = retracted_valid n r.handle p.table v.table;
-  told = told_pass (IsValidEvent n p.table.next) r.target (Retract r.handle r.entity) p.out (row.0, row.2) v.told;
+  told = told_pass (IsValidEvent n p.table.next) r.target (Retract r.handle r.entity) p.out (row.0, row.1.1) v.told;
 }
 
 pub dropped_valid : (n owner h : ℕ) (p : Plan) → IsValidPlan n p → IsValidPlan n (dropped owner h p)
@@ -124,10 +124,10 @@ committed_valid n from p v = posted_valid n from p.out p.table v.table v.told
 -- ---- acts
 
 acted_valid : (n a : ℕ) (x : Act) (p : Plan) → IsValidAct n x → IsValidPlan n p → IsValidPlan n (acted a x p)
-acted_valid n a (act.Assert target entity y) p is v = put_valid n a target entity y p is.0 is.1 is.2 v
+acted_valid n a (act.Assert target entity y) p is v = put_valid n a target entity y p is.0 is.1 v
 acted_valid n a (act.Retract h) p is v = dropped_valid n a h p v
-acted_valid n a (act.Message target entity y) p is v = said_valid n target (Message entity y) p (is.1, is.2) v
-acted_valid n a (act.Sync target entity peer) p is v = said_valid n target (Sync entity peer) p (is.1, is.2) v
+acted_valid n a (act.Message target entity y) p is v = said_valid n target (Message entity y) p (is.0.1, is.1) v
+acted_valid n a (act.Sync target entity peer) p is v = said_valid n target (Sync entity peer) p (is.0.1, is.1) v
 
 pub all_acted_valid : (n a : ℕ) (xs : List Act) (p : Plan) → AllByRecursion (IsValidAct n) xs → IsValidPlan n p
     → IsValidPlan n (all_acted a xs p)

@@ -9,15 +9,17 @@ use Rattle.ac_table.specs.declared.batches.Event.TheVariants.{Assert, Retract, M
 use Rattle.ac_table.specs.declared.batches.Batch.{Batch}
 use Rattle.ac_table.specs.Tables.{TableState, Actor, find_actor, find_row, placed, joined, ended, with_inbox, pushed}
 use Rattle.ac_table.specs.Tables.{popped, first_batch, first_in}
-use Rattle.ac_world.specs.Worlds.{Seat}
+use Rattle.ac_world.specs.Worlds.{Seat, Deliveries}
 use Rattle.hub_valid.specs.Lemmas.Filtered.{all_kept}
 use Rattle.hub_valid.specs.Validity.{HoldsObjects, IsValidRow, IsValidEvent, IsValidBatch, IsValidActor, IsValidSeat}
-use Rattle.hub_valid.specs.Lemmas.Values.{all_weaker, all_append, later_value, later_inside}
+use Rattle.hub_valid.specs.Validity.{IsValidDelivery, AreValidDeliveries}
+use Rattle.hub_valid.specs.Lemmas.Values.{all_weaker, all_append, later_at, later_value, later_inside}
 
 -- ---- what is valid stays so with more actors and later handles
 
 pub later_row : (m n next after : ℕ) (r : Row) → m ≤ n → next ≤ after → IsValidRow m next r → IsValidRow n after r
-later_row m n next after r l s v = (omega (arith, v.0), omega (arith, v.1), v.2, later_value m n r.value l v.3)
+later_row m n next after r l s v =
+    (omega (arith, v.0), later_at m n r.target r.entity l v.1, later_value m n r.value l v.2)
 
 pub later_event : (m n next after : ℕ) (e : Event) → m ≤ n → next ≤ after → IsValidEvent m next e
     → IsValidEvent n after e
@@ -39,6 +41,10 @@ later_actor m n next after x l s v =
 pub later_seat : (m n : ℕ) (e : ℕ × Seat) → m ≤ n → IsValidSeat m e → IsValidSeat n e
 later_seat m n e l v =
     all_weaker (HoldsObjects m) (HoldsObjects n) (λ x. later_value m n x l) (values_of e.1.got) v
+
+pub later_deliveries : (m n : ℕ) (e : ℕ × Deliveries) → m ≤ n → AreValidDeliveries m e → AreValidDeliveries n e
+later_deliveries m n e l v =
+    all_weaker (IsValidDelivery m) (IsValidDelivery n) (λ d valid. (valid.0, later_value m n d.1.value l valid.1)) e.1 v
 
 -- ---- tables
 

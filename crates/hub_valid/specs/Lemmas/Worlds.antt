@@ -5,11 +5,12 @@ use Rattle.ac_table.specs.Tables.{TableState, rows_of, ended}
 use Rattle.ac_world.specs.declared.acts.Act.{Act}
 use Rattle.ac_world.specs.Outboxes.{plan_over, all_acted, retractions}
 use Rattle.ac_world.specs.Worlds.{WorldState, first_actors, beginning, arrived, sent, gone}
+use Rattle.ac_world.specs.Lemmas.Entries.{each_without}
 use Rattle.hub_valid.specs.Lemmas.Filtered.{all_kept}
-use Rattle.hub_valid.specs.Validity.{IsValidRow, IsValidSeat, IsValidAct, IsValidWorld}
+use Rattle.hub_valid.specs.Validity.{IsValidRow, IsValidSeat, AreValidDeliveries, IsValidAct, IsValidWorld}
 use Rattle.hub_valid.specs.Lemmas.Values.{all_weaker}
-use Rattle.hub_valid.specs.Lemmas.WorldTables.{IsValidTable, later_seat, rows_later, inboxes_later, joined_valid}
-use Rattle.hub_valid.specs.Lemmas.WorldTables.{ended_valid}
+use Rattle.hub_valid.specs.Lemmas.WorldTables.{IsValidTable, later_seat, later_deliveries, rows_later, inboxes_later}
+use Rattle.hub_valid.specs.Lemmas.WorldTables.{joined_valid, ended_valid}
 use Rattle.hub_valid.specs.Lemmas.WorldPlans.{retractions_valid, posted_valid, begin_valid, all_acted_valid}
 use Rattle.hub_valid.specs.Lemmas.WorldPlans.{committed_valid}
 
@@ -18,10 +19,11 @@ use Rattle.hub_valid.specs.Lemmas.WorldPlans.{committed_valid}
 pub table_of : (w : WorldState) → IsValidWorld w → IsValidTable (16 + w.opened) w.table
 table_of w v = record { rows = v.rows; inboxes = v.inboxes }
 
--- a world with a valid table, whose dataspaces have got objects
+-- a world with a valid table, whose actors have got objects
 pub world_with : (w : WorldState) → IsValidTable (16 + w.opened) w.table
-    → AllByRecursion (IsValidSeat (16 + w.opened)) w.spaces → IsValidWorld w
-world_with w t got = record { rows = t.rows; inboxes = t.inboxes; got = got }
+    → AllByRecursion (IsValidSeat (16 + w.opened)) w.spaces
+    → AllByRecursion (AreValidDeliveries (16 + w.opened)) w.held → IsValidWorld w
+world_with w t got held = record { rows = t.rows; inboxes = t.inboxes; got = got; held = held }
 
 -- ---- the first world
 
@@ -30,7 +32,7 @@ first_actors_valid n zero = record { rows = tt; inboxes = tt }
 first_actors_valid n (suc k) = joined_valid n k (first_actors k) (first_actors_valid n k)
 
 pub beginning_valid : IsValidWorld beginning
-beginning_valid = world_with beginning (first_actors_valid 16 9) tt
+beginning_valid = world_with beginning (first_actors_valid 16 9) tt tt
 
 -- ---- its changes
 
@@ -46,6 +48,8 @@ arrived_valid w v = world_with (arrived w)
     (later_table (16 + w.opened) (16 + (w.opened + 1)) w.table (table_of w v) (omega arith)))
     (all_weaker (IsValidSeat (16 + w.opened)) (IsValidSeat (16 + (w.opened + 1)))
     (λ e. later_seat (16 + w.opened) (16 + (w.opened + 1)) e (omega arith)) w.spaces v.got)
+    (all_weaker (AreValidDeliveries (16 + w.opened)) (AreValidDeliveries (16 + (w.opened + 1)))
+    (λ e. later_deliveries (16 + w.opened) (16 + (w.opened + 1)) e (omega arith)) w.held v.held)
 
 pub sent_valid : (a : ℕ) (acts : List Act) (w : WorldState) → AllByRecursion (IsValidAct (16 + w.opened)) acts
     → IsValidWorld w → IsValidWorld (sent a acts w)
@@ -53,7 +57,7 @@ sent_valid a acts w fit v = world_with (sent a acts w)
     (committed_valid (16 + w.opened) a (all_acted a acts (plan_over w.table))
     (all_acted_valid (16 + w.opened) a acts (plan_over w.table) fit
     (begin_valid (16 + w.opened) w.table (table_of w v))))
-    v.got
+    v.got v.held
 
 pub gone_valid : (a : ℕ) (w : WorldState) → IsValidWorld w → IsValidWorld (gone a w)
 gone_valid a w v = world_with (gone a w)
@@ -61,4 +65,4 @@ gone_valid a w v = world_with (gone a w)
     (ended_valid (16 + w.opened) a w.table (table_of w v))
     (retractions_valid (16 + w.opened) w.table.next (rows_of a w.table.rows) []
     (all_kept (IsValidRow (16 + w.opened) w.table.next) _ w.table.rows v.rows) tt))
-    v.got
+    v.got (each_without (AreValidDeliveries (16 + w.opened)) a w.held v.held)

@@ -1,4 +1,4 @@
--- Who is live after inboxes change, after actors come and after they go.
+-- Who is live after inboxes change, after actors come and after they go; rows and the next handle stay.
 use Rattle.std.proofs.Common.{◌≡◌, ◌≢◌, ℕ, List, [], ◌∷◌, ◌==◌, Bool, true, false, cond, not, ◌++◌}
 use Rattle.std.proofs.Common.{refl, ◌∙◌, arith, is_some, filter}
 use Rattle.std.proofs.lemmas.Bool.Decides.{nat_tests}
@@ -28,12 +28,22 @@ pub rows_posted : (from : ℕ) (out : Outbox) (t : TableState) → (posted from 
 rows_posted from [] t = refl
 rows_posted from (o ∷ os) t = rows_posted from os (pushed o.0 (record { from = from; events = o.1 }) t)
 
+pub next_posted : (from : ℕ) (out : Outbox) (t : TableState) → (posted from out t).next ≡ t.next
+next_posted from [] t = refl
+next_posted from (o ∷ os) t = next_posted from os (pushed o.0 (record { from = from; events = o.1 }) t)
+
 -- ---- those who come and those who go
 
 pub live_placed : (b : ℕ) (new : Actor) (xs : List Actor) → b ≢ new.number
     → is_some (find_actor b (placed new xs)) ≡ is_some (find_actor b xs)
 live_placed b new [] ne = grind (arith, nat_tests, ne)
 live_placed b new (x ∷ xs) ne = grind (arith, nat_tests, ne, live_placed b new xs ne)
+
+-- who is live stays so as another comes
+pub stays_placed : (b : ℕ) (new : Actor) (xs : List Actor) → is_some (find_actor b xs) ≡ true
+    → is_some (find_actor b (placed new xs)) ≡ true
+stays_placed b new [] live = absurd cc
+stays_placed b new (x ∷ xs) live = grind (arith, nat_tests, live, stays_placed b new xs)
 
 live_others : (b a : ℕ) (xs : List Actor)
     → is_some (find_actor b (filter (λ x. not (x.number == a)) xs)) ≡ cond (b == a) false (is_some (find_actor b xs))
@@ -56,3 +66,19 @@ live_ended b a w = by (is_live a w.table) refl
         → is_live b (cond c (gone a w) w).table ≡ cond (b == a) false (is_live b w.table)
     by true is = live_gone b a w
     by false is = dead (b == a) refl is
+
+-- ---- what an ending leaves
+
+pub next_ended : (a : ℕ) (w : WorldState) → (ended_of a w).table.next ≡ w.table.next
+next_ended a w = by (is_live a w.table)
+  where
+    by : (c : Bool) → (cond c (gone a w) w).table.next ≡ w.table.next
+    by true = next_posted a (retractions (rows_of a w.table.rows) []) (ended a w.table)
+    by false = refl
+
+pub opened_ended : (a : ℕ) (w : WorldState) → (ended_of a w).opened ≡ w.opened
+opened_ended a w = by (is_live a w.table)
+  where
+    by : (c : Bool) → (cond c (gone a w) w).opened ≡ w.opened
+    by true = refl
+    by false = refl
