@@ -28,7 +28,9 @@ pub mod Owned
 pub mod Packets
 pub mod Passing
 pub mod Posting
+pub mod Presence
 pub mod Promised
+pub mod Refusing
 pub mod Saying
 pub mod Sending
 pub mod Serving
@@ -38,3 +40,4 @@ pub mod Told
 pub mod Turning
 pub mod Turns
 pub mod Wanted
+pub mod WhoLeaves

@@ -1,12 +1,18 @@
 -- What holds after every list of steps whose callers saw to their conditions.
-use Rattle.std.specs.Prelude.{ℕ, List, [], ◌∷◌}
+use Rattle.std.specs.Prelude.{◌≡◌, ℕ, ◌≤◌, ◌⊎◌, List, [], ◌∷◌, true, false}
+use Rattle.ac_table.specs.Tables.{is_live}
+use Rattle.ac_world.specs.Worlds.{actor_of}
+use Rattle.hub_machine.specs.declared.faults.Fault.{Fault}
 use Rattle.hub_machine.specs.State.{State, opening}
 use Rattle.hub_machine.specs.Machine.{step, IsAllowed}
-use Rattle.hub_machine.specs.Replays.{replay, IsSettled}
+use Rattle.hub_machine.specs.Replays.{run_from, replay, IsSettled}
 use Rattle.hub_machine.specs.declared.steps.Step.{Step}
+use Rattle.hub_machine.specs.declared.steps.Reply.TheVariants.{Refused}
 use Rattle.hub_laws.specs.Delivery.{IsDelivered, IsGot}
 use Rattle.hub_laws.specs.Wanting.{AreMet}
 use Rattle.hub_laws.specs.Endings.{HaveEnded}
+use Rattle.hub_laws.specs.Presence.{ArePresent}
+use Rattle.hub_laws.specs.Refusals.{whose, IsLeft, IsDismissed, spreads_of, HasFailed}
 use Rattle.hub_laws.specs.Settled.{HoldsWhatItGot, HoldsFromScratch}
 
 -- each step meets its condition in the state that the steps before it leave
@@ -37,3 +43,22 @@ Holdings = (k : ℕ) (steps : List Step) → AreAllowed opening steps → HoldsW
 -- where nothing is pending, it holds exactly what is captured from scratch
 abbrev pub SettledHoldings : Type 0
 SettledHoldings = (k : ℕ) (steps : List Step) → AreAllowed opening steps → HoldsFromScratch k steps
+
+abbrev pub Presence : Type 0
+Presence = AfterAll ArePresent
+
+-- the next handle never goes back
+abbrev pub Handles : Type 0
+Handles = (s : State) (steps : List Step) → s.world.table.next ≤ (run_from s steps).world.table.next
+
+-- of what is refused nothing is left but the fault
+abbrev pub Refusals : Type 0
+Refusals = AfterAll (λ s. (e : Step) (f : Fault) → (step s e).reply ≡ Refused f
+    → IsLeft (whose e) f s (step s e).state)
+
+-- nobody ends in a step but the connection that it closes or refuses, those that its turn names, and those for which too
+-- much is held and waits
+abbrev pub WhoEnds : Type 0
+WhoEnds = (s : State) (e : Step) (k : ℕ) → is_live (actor_of k) s.world.table ≡ true
+    → is_live (actor_of k) (step s e).state.world.table ≡ false
+    → IsDismissed k e (step s e).reply ⊎ HasFailed (spreads_of e s) k (step s e).state

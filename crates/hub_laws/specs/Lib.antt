@@ -1,6 +1,8 @@
 pub mod Delivery
 pub mod Endings
 pub mod Laws
+pub mod Presence
+pub mod Refusals
 pub mod Scratch
 pub mod Settled
 pub mod Standing

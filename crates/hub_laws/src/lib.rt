@@ -4,7 +4,8 @@
 #![tactic(auto)]
 
 ghost use Rattle.hub_laws.specs.Laws.{Delivery, SettledDelivery, Wants, Endings};
-ghost use Rattle.hub_laws.specs.Laws.{Holdings, SettledHoldings};
+ghost use Rattle.hub_laws.specs.Laws.{Holdings, SettledHoldings, Presence, Handles, Refusals};
+ghost use Rattle.hub_laws.specs.Laws.{WhoEnds};
 
 /// Delivery: what a live actor has got, followed by the events of its inbox, is what stands at it.
 pub fn what_stands_is_delivered()
@@ -36,4 +37,27 @@ pub fn holdings_are_what_was_got()
 /// from scratch, each pair of an object and a value as often.
 pub fn settled_holdings_are_from_scratch()
     ensures { SettledHoldings }
+{}
+
+/// Presence: the gatekeeper and the dataspaces are always live, a live connection has names, the
+/// gatekeeper owns no row, and faults are kept of ended connections alone.
+pub fn the_live_have_names()
+    ensures { Presence }
+{}
+
+/// The next handle never goes back.
+pub fn handles_never_go_back()
+    ensures { Handles }
+{}
+
+/// Refusals: a connection that is refused isn't live, its fault waits for it, no handle was drawn,
+/// and all rows stand but its own and those of others that the step's end ended.
+pub fn refusals_leave_their_fault()
+    ensures { Refusals }
+{}
+
+/// Who ends: the connection that a step closes or refuses, those that its turn names, and those for
+/// which too much is held and waits.
+pub fn nobody_else_ends()
+    ensures { WhoEnds }
 {}
