@@ -27,10 +27,12 @@ pub mod OwnRows
 pub mod Owned
 pub mod Packets
 pub mod Passing
+pub mod Posted
 pub mod Posting
 pub mod Presence
 pub mod Promised
 pub mod Refusing
+pub mod Said
 pub mod Saying
 pub mod Sending
 pub mod Serving

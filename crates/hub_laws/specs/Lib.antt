@@ -1,8 +1,10 @@
 pub mod Delivery
 pub mod Endings
 pub mod Laws
+pub mod Posting
 pub mod Presence
 pub mod Refusals
+pub mod Saying
 pub mod Scratch
 pub mod Settled
 pub mod Standing

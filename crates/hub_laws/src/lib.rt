@@ -6,6 +6,8 @@
 ghost use Rattle.hub_laws.specs.Laws.{Delivery, SettledDelivery, Wants, Endings};
 ghost use Rattle.hub_laws.specs.Laws.{Holdings, SettledHoldings, Presence, Handles, Refusals};
 ghost use Rattle.hub_laws.specs.Laws.{WhoEnds};
+ghost use Rattle.hub_laws.specs.Posting.{PostedOnce, AreOutboxes};
+ghost use Rattle.hub_laws.specs.Saying.{SaysMessages, AnswersSyncs, MessagesArrive};
 
 /// Delivery: what a live actor has got, followed by the events of its inbox, is what stands at it.
 pub fn what_stands_is_delivered()
@@ -60,4 +62,20 @@ pub fn refusals_leave_their_fault()
 /// which too much is held and waits.
 pub fn nobody_else_ends()
     ensures { WhoEnds }
+{}
+
+/// What is posted: each live actor that is told something gets it as one batch, in its order,
+/// behind those that wait for it; and the events of each turn are posted so.
+pub fn posted_as_one_batch()
+    ensures once { PostedOnce }
+    ensures outboxes { AreOutboxes }
+{}
+
+/// Messages: of one that comes to a dataspace each distinct observation is told what it captures,
+/// as the caveats of its reference let it pass, and nobody else is told anything; a sync is
+/// answered.
+pub fn messages_go_to_observers()
+    ensures messages { SaysMessages }
+    ensures syncs { AnswersSyncs }
+    ensures arrive { MessagesArrive }
 {}

@@ -1,0 +1,199 @@
+-- To whom messages go.
+use Rattle.std.proofs.Common.{◌≡◌, ℕ, ◌≤◌, List, [], ◌∷◌, ◌++◌, Bool, true, false, cond, Option, Some, None}
+use Rattle.std.proofs.Common.{refl, sym, ap, ◌∙◌, subst, arith}
+use Rattle.std.specs.Prelude.{nat_lt, option_and_then}
+use Rattle.std.specs.List.{flat_map}
+use Rattle.std.specs.Map.{values_of}
+use Rattle.std.proofs.lemmas.Bool.Decides.{nat_tests}
+use Rattle.std.proofs.lemmas.List.{append-nil, append_assoc}
+use Rattle.pv_value.specs.Plain.{Plain, boolean, sequence, plains}
+use Rattle.pv_value.specs.Order.{order}
+use Rattle.pv_value.specs.Sets.{ascending_by}
+use Rattle.dp_pattern.specs.Patterns.{Pattern}
+use Rattle.dp_pattern.specs.Matching.{matched}
+use Rattle.ds_space.specs.Wants.{observer_of, captured}
+use Rattle.ds_space.specs.declared.space.Fanned.{Fanned}
+use Rattle.ds_space.specs.Fans.{fan_for, fan_of, fan_weight}
+use Rattle.ac_table.specs.declared.batches.Batch.{Batch}
+use Rattle.ac_table.specs.declared.batches.Event.{Event}
+use Rattle.ac_table.specs.declared.batches.Event.TheVariants.{Message}
+use Rattle.ac_table.specs.Tables.{find_actor, is_live, first_batch, popped}
+use Rattle.ac_world.specs.declared.aims.Aim.{Aim}
+use Rattle.ac_world.specs.declared.turns.Turned.TheVariants as turned
+use Rattle.ac_world.specs.Outboxes.{Plan, plan_over, told_to}
+use Rattle.ac_world.specs.Turns.{After, Turning, aim_at, observer_in, aim_for, spreading, by_message, say_at, say_all}
+use Rattle.ac_world.specs.Turns.{passed_on, answer_to, begin_turn, space_turn, plain_turn, connection_turn, turn_first}
+use Rattle.ac_world.specs.Worlds.{WorldState, seat_of, is_space, is_system}
+use Rattle.hub_valid.specs.Lemmas.Lists.{flat_map_append}
+use Rattle.hub_laws.specs.Posting.{IsOutbox, grown}
+use Rattle.hub_laws.specs.Saying.{message_aimed, message_by, messages_over, OnlySays, SaysMessages, AnswersSyncs}
+use Rattle.hub_laws.specs.Saying.{MessagesArrive}
+use Rattle.hub_laws.proofs.Moving.{told_to-told}
+use Rattle.hub_laws.proofs.Posted.{posted_grown, told_outbox, are_outboxes}
+
+-- ---- what is said adds to what is told
+
+say_at_tells : (b : ℕ) (o : Option Aim) (p : Plan) → told_to b (say_at o p).out ≡ told_to b p.out ++ message_aimed b o
+say_at_tells b None p = sym (append-nil (told_to b p.out))
+say_at_tells b (Some aim) p = told_to-told b aim.at.at (Message aim.at.entity aim.value) p.out
+
+-- what one observation is told
+abbrev pub fanned_to : ℕ → Fanned → List Event
+fanned_to b f = message_aimed b (aim_for (sequence (plains f.captures)) f.observe)
+
+say_all_tells : (b : ℕ) (fs : List Fanned) (p : Plan)
+    → told_to b (say_all fs p).out ≡ told_to b p.out ++ flat_map (fanned_to b) fs
+say_all_tells b [] p = sym (append-nil (told_to b p.out))
+say_all_tells b (f ∷ fs) p =
+    let aim : Option Aim = aim_for (sequence (plains f.captures)) f.observe in
+    say_all_tells b fs (say_at aim p)
+    ∙ ap (λ es. es ++ flat_map (fanned_to b) fs) (say_at_tells b aim p)
+    ∙ append_assoc (told_to b p.out) (message_aimed b aim) (flat_map (fanned_to b) fs)
+
+say_all_table : (fs : List Fanned) (p : Plan) → (say_all fs p).table ≡ p.table
+say_all_table [] p = refl
+say_all_table (f ∷ fs) p =
+    let aim : Option Aim = aim_for (sequence (plains f.captures)) f.observe in
+    say_all_table fs (say_at aim p) ∙ one aim
+  where
+    one : (o : Option Aim) → (say_at o p).table ≡ p.table
+    one None = refl
+    one (Some aim) = refl
+
+-- ---- by observation
+
+observation_told : (b : ℕ) (m o : Plain)
+    → flat_map (fanned_to b) (fan_for o (captured o m)) ≡ message_by b m (observer_in o) (observer_of o)
+observation_told b m o = by (observer_in o) (observer_of o) refl
+  where
+    aimed : Option Plain → Option (List Plain) → List Event
+    aimed q None = []
+    aimed q (Some cs) = message_aimed b (option_and_then (aim_at (sequence (plains cs))) q) ++ []
+
+    fanned : (c : Option (List Plain)) → flat_map (fanned_to b) (fan_for o c) ≡ aimed (observer_in o) c
+    fanned None = refl
+    fanned (Some cs) = refl
+
+    told : (r : Plain) (p : Pattern) (c : Option (List Plain)) → matched p m ≡ c
+        → aimed (Some r) c ≡ message_by b m (Some r) (Some p)
+    told r p None is = rw is refl
+    told r p (Some cs) is = rw is refl
+
+    none : (c : Option (List Plain)) → aimed None c ≡ []
+    none None = refl
+    none (Some cs) = refl
+
+    by : (q : Option Plain) (p : Option Pattern) → observer_in o ≡ q
+        → flat_map (fanned_to b) (fan_for o (option_and_then (λ d. matched d m) p)) ≡ message_by b m q p
+    by None p is =
+        fanned (option_and_then (λ d. matched d m) p)
+        ∙ ap (λ r. aimed r (option_and_then (λ d. matched d m) p)) is
+        ∙ none (option_and_then (λ d. matched d m) p)
+    by (Some r) None is = refl
+    by (Some r) (Some p) is =
+        fanned (matched p m) ∙ ap (λ q. aimed q (matched p m)) is ∙ told r p (matched p m) refl
+
+fan_told : (b : ℕ) (m : Plain) (os : List Plain) → flat_map (fanned_to b) (flat_map (λ o. fan_for o (captured o m)) os)
+    ≡ flat_map (λ o. message_by b m (observer_in o) (observer_of o)) os
+fan_told b m [] = refl
+fan_told b m (o ∷ os) =
+    flat_map_append (fanned_to b) (fan_for o (captured o m)) (flat_map (λ x. fan_for x (captured x m)) os)
+    ∙ (λ i. observation_told b m o i ++ fan_told b m os i)
+
+-- ---- a message
+
+passed_says : (from : ℕ) (m : Plain) (t : Turning) → fan_weight (values_of t.seat.got) m ≤ 33554432
+    → OnlySays (λ b. messages_over b (values_of t.seat.got) m) t.plan (passed_on from m t).plan
+passed_says from m t light = by (nat_lt 33554432 (fan_weight vs m)) refl
+  where
+    vs : List Plain
+    vs = values_of t.seat.got
+
+    by : (c : Bool) → nat_lt 33554432 (fan_weight vs m) ≡ c
+        → OnlySays (λ b. messages_over b vs m) t.plan
+        (cond c (spreading (by_message t.plan.table from (fan_weight vs m)) t)
+        (record t { plan = say_all (fan_of vs m) t.plan })).plan
+    by true heavy = absurd (grind (arith, nat_tests, heavy, light))
+    by false is = record {
+      table = say_all_table (fan_of vs m) t.plan;
+      told = λ b. say_all_tells b (fan_of vs m) t.plan
+          ∙ ap (λ es. told_to b t.plan.out ++ es) (fan_told b m (ascending_by order vs));
+    }
+
+pub says_messages : SaysMessages
+says_messages a from entity m t light = passed_says from m t light
+
+answer_says : (peer : Plain) (p : Plan)
+    → OnlySays (λ b. message_aimed b (aim_at (boolean true) peer)) p (answer_to peer p)
+answer_says peer p = record {
+  table = one (aim_at (boolean true) peer);
+  told = λ b. say_at_tells b (aim_at (boolean true) peer) p;
+}
+  where
+    one : (o : Option Aim) → (say_at o p).table ≡ p.table
+    one None = refl
+    one (Some aim) = refl
+
+pub answers_syncs : AnswersSyncs
+answers_syncs = (λ a from entity peer t. answer_says peer t.plan, λ entity peer p. answer_says peer p)
+
+-- ---- a turn over a message
+
+say_at_outbox : (o : Option Aim) (p : Plan) → IsOutbox p.out → IsOutbox (say_at o p).out
+say_at_outbox None p is = is
+say_at_outbox (Some aim) p is = told_outbox aim.at.at (Message aim.at.entity aim.value) p.out is
+
+say_all_outbox : (fs : List Fanned) (p : Plan) → IsOutbox p.out → IsOutbox (say_all fs p).out
+say_all_outbox [] p is = is
+say_all_outbox (f ∷ fs) p is =
+    let aim : Option Aim = aim_for (sequence (plains f.captures)) f.observe in
+    say_all_outbox fs (say_at aim p) (say_at_outbox aim p is)
+
+passed_outbox : (from : ℕ) (m : Plain) (t : Turning) → IsOutbox t.plan.out → IsOutbox (passed_on from m t).plan.out
+passed_outbox from m t is = by (nat_lt 33554432 (fan_weight (values_of t.seat.got) m))
+  where
+    by : (c : Bool) → IsOutbox
+        (cond c (spreading (by_message t.plan.table from (fan_weight (values_of t.seat.got) m)) t)
+        (record t { plan = say_all (fan_of (values_of t.seat.got) m) t.plan })).plan.out
+    by true = is
+    by false = say_all_outbox (fan_of (values_of t.seat.got) m) t.plan is
+
+pub messages_arrive : MessagesArrive
+messages_arrive a from entity m w space live first light b = by (is_live a w.table) (first_batch a w.table) live first
+  where
+    u : WorldState
+    u = record w { table = popped a w.table }
+
+    batch : Batch
+    batch = record { from = from; events = Message entity m ∷ [] }
+
+    t : Turning
+    t = passed_on from m (begin_turn a u)
+
+    says : OnlySays (λ c. messages_over c (values_of (seat_of a w).got) m) (plan_over u.table) t.plan
+    says = passed_says from m (begin_turn a u) light
+
+    Arrives : After → Type 0
+    Arrives x = find_actor b x.world.table.actors
+        ≡ grown a (messages_over b (values_of (seat_of a w).got) m) (find_actor b (popped a w.table).actors)
+
+    run : Arrives (space_turn a batch u)
+    run =
+        posted_grown a b t.plan.out t.plan.table outbox.0 outbox.1
+        ∙ (λ i. grown a (says.told b i) (find_actor b (says.table i).actors))
+      where
+        outbox : IsOutbox t.plan.out
+        outbox = passed_outbox from m (begin_turn a u) are_outboxes.0
+
+    kinds : (c : Bool) → c ≡ true
+        → Arrives (cond c (space_turn a batch u) (cond (is_system a) (plain_turn a batch u) (connection_turn a batch u)))
+    kinds true is = run
+    kinds false is = absurd cc
+
+    by : (c : Bool) (o : Option Batch) → c ≡ true → o ≡ Some batch
+        → Arrives (cond c (turn_first a o w) (record { world = w; turned = turned.Gone }))
+    by false o live first = absurd cc
+    by true None live first = absurd cc
+    by true (Some d) live first =
+        let same : batch ≡ d = cc in
+        subst (λ e. Arrives (turn_first a (Some e) w)) same (kinds (is_space a) space)

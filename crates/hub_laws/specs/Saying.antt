@@ -1,0 +1,63 @@
+-- What is said: to whom messages go that come to a dataspace, and the answers to syncs.
+use Rattle.std.specs.Prelude.{◌≡◌, ℕ, ◌==◌, ◌≤◌, true, List, [], ◌∷◌, ◌++◌, Option, Some, None, if◌then◌else◌}
+use Rattle.std.specs.List.{flat_map}
+use Rattle.std.specs.Map.{values_of}
+use Rattle.pv_value.specs.Plain.{Plain, boolean}
+use Rattle.pv_value.specs.Order.{order}
+use Rattle.pv_value.specs.Sets.{ascending_by}
+use Rattle.dp_pattern.specs.Patterns.{Pattern}
+use Rattle.dp_pattern.specs.Matching.{matched}
+use Rattle.ds_space.specs.Wants.{observer_of}
+use Rattle.ds_space.specs.Fans.{fan_weight}
+use Rattle.ac_table.specs.declared.batches.Event.{Event}
+use Rattle.ac_table.specs.declared.batches.Event.TheVariants.{Message, Sync}
+use Rattle.ac_table.specs.Tables.{find_actor, is_live, first_batch, popped}
+use Rattle.ac_world.specs.declared.aims.Aim.{Aim}
+use Rattle.ac_world.specs.Outboxes.{Plan, told_to}
+use Rattle.ac_world.specs.Turns.{Turning, aim_at, observer_in, turned_by, answered, turn}
+use Rattle.ac_world.specs.Worlds.{WorldState, seat_of, is_space}
+use Rattle.hub_laws.specs.Posting.{grown}
+use Rattle.hub_laws.specs.Scratch.{as_sequence}
+
+-- what gets through to an object, where it is actor b's
+abbrev pub message_aimed : ℕ → Option Aim → List Event
+message_aimed b None = []
+message_aimed b (Some aim) = if aim.at.at == b then Message aim.at.entity aim.value ∷ [] else []
+
+-- an observer is told what its pattern captures of the message, as its reference's caveats let it pass
+abbrev pub message_by : ℕ → Plain → Option Plain → Option Pattern → List Event
+message_by b m (Some r) (Some p) = flat_map (λ c. message_aimed b (aim_at c r)) (as_sequence (matched p m))
+message_by b m (Some r) None = []
+message_by b m None o = []
+
+-- for each distinct observation among the values at a dataspace, ascending
+abbrev pub messages_over : ℕ → List Plain → Plain → List Event
+messages_over b vs m = flat_map (λ o. message_by b m (observer_in o) (observer_of o)) (ascending_by order vs)
+
+-- from t to u nothing is done but that each actor b is told these events, too
+pub record OnlySays (said : ℕ → List Event) (t u : Plan) : Type 0 where
+  pub table : u.table ≡ t.table
+  pub told : (b : ℕ) → told_to b u.out ≡ told_to b t.out ++ said b
+
+-- a message that comes to a dataspace in its turn, where the captures don't weigh too much
+abbrev pub SaysMessages : Type 0
+SaysMessages =
+    (a from entity : ℕ) (m : Plain) (t : Turning) → fan_weight (values_of t.seat.got) m ≤ 33554432
+    → OnlySays (λ b. messages_over b (values_of t.seat.got) m) t.plan (turned_by a from (Message entity m) t).plan
+
+-- a sync that comes to a dataspace, or to the gatekeeper, is answered by the message `#t` through its peer
+abbrev pub AnswersSyncs : Type 0
+AnswersSyncs =
+    ((a from entity : ℕ) (peer : Plain) (t : Turning)
+    → OnlySays (λ b. message_aimed b (aim_at (boolean true) peer)) t.plan (turned_by a from (Sync entity peer) t).plan)
+    × ((entity : ℕ) (peer : Plain) (p : Plan)
+    → OnlySays (λ b. message_aimed b (aim_at (boolean true) peer)) p (answered (Sync entity peer) p))
+
+-- so after a dataspace's turn over a message each inbox has grown by one batch of just these
+abbrev pub MessagesArrive : Type 0
+MessagesArrive =
+    (a from entity : ℕ) (m : Plain) (w : WorldState) → is_space a ≡ true → is_live a w.table ≡ true
+    → first_batch a w.table ≡ Some (record { from = from; events = Message entity m ∷ [] })
+    → fan_weight (values_of (seat_of a w).got) m ≤ 33554432 → (b : ℕ)
+    → find_actor b (turn a w).world.table.actors
+    ≡ grown a (messages_over b (values_of (seat_of a w).got) m) (find_actor b (popped a w.table).actors)
