@@ -1,10 +1,34 @@
-//! Calls that take memory, where it is ample, and texts at the bound of those that stand in place.
-use pv_value::{Blob, Entry, Items, Node, SetFault, Text, Value, compare, weight};
+//! Copies, the first repeat of a set, and texts at the bound of those that stand in place.
+use pv_value::{Blob, Entry, Items, NoMemory, SetFault, Text, Value, weight};
 use std::alloc::Global;
-use std::cmp::Ordering;
 use std::test::Fail;
 
-fn integers(alloc: Global, numbers: &[i128]) -> Result<Vec<Value>, Fail> {
+/// A text is kept as it is, and so is its copy.
+fn is_kept(alloc: Global, text: &str) -> Result<bool, NoMemory> {
+    let kept = Text::from_str(alloc, text)?;
+    let copy = kept.copy()?;
+    Ok(kept.as_str() == text && copy.as_str() == text)
+}
+
+#[test]
+fn texts_stand_in_place_or_are_shared(rt: HostRuntime) -> Result<(), Fail> {
+    assert!(rt; is_kept(rt.alloc(), "abcdefghijklmnopqrstuv")?);
+    assert!(rt; is_kept(rt.alloc(), "abcdefghijklmnopqrstuvw")?);
+    Ok(())
+}
+
+fn bytes_are_copied(alloc: Global) -> Result<bool, NoMemory> {
+    let copy = Blob::from_slice(alloc, &[1, 2, 3])?.copy()?;
+    Ok(copy.as_slice() == [1u8, 2, 3].as_slice())
+}
+
+#[test]
+fn bytes_are_shared(rt: HostRuntime) -> Result<(), Fail> {
+    assert!(rt; bytes_are_copied(rt.alloc())?);
+    Ok(())
+}
+
+fn integers(alloc: Global, numbers: &[i128]) -> Result<Vec<Value>, NoMemory> {
     let mut values = Vec::new(alloc);
     for n in numbers {
         values.push(Value::integer(*n))?;
@@ -12,79 +36,68 @@ fn integers(alloc: Global, numbers: &[i128]) -> Result<Vec<Value>, Fail> {
     Ok(values)
 }
 
-fn entries(alloc: Global, pairs: &[(i128, i128)]) -> Result<Vec<Entry>, Fail> {
-    let mut entries = Vec::new(alloc);
-    for (key, value) in pairs {
-        let key = Value::integer(*key);
-        let value = Value::integer(*value);
-        entries.push(Entry { key, value })?;
-    }
-    Ok(entries)
-}
-
-#[test]
-fn texts_stand_in_place_or_are_shared(rt: HostRuntime) -> Result<(), Fail> {
-    let alloc = rt.alloc();
-    for text in ["", "é", "abcdefghijklmnopqrstuv", "abcdefghijklmnopqrstuvw"] {
-        let kept = Text::from_str(alloc, text)?;
-        assert_eq!(rt; kept.as_str(), text);
-        assert_eq!(rt; kept.copy()?.as_str(), text);
-        let string = String::from_str(alloc, text)?;
-        assert_eq!(rt; Text::from_string(string)?.as_bytes(), text.as_bytes());
-    }
-    Ok(())
-}
-
-#[test]
-fn bytes_and_lists_are_shared(rt: HostRuntime) -> Result<(), Fail> {
-    let alloc = rt.alloc();
-    let blob = Blob::from_slice(alloc, &[1, 2, 3])?;
-    assert_eq!(rt; blob.copy()?.as_slice(), [1, 2, 3].as_slice());
+fn items_are_copied(alloc: Global) -> Result<bool, NoMemory> {
     let items = Items::from_vec(alloc, integers(alloc, &[1, 2])?)?;
-    assert!(rt; items.copy()?.as_slice() == integers(alloc, &[1, 2])?.as_slice());
+    let copy = items.copy()?;
+    Ok(copy.as_slice() == items.as_slice())
+}
+
+#[test]
+fn lists_are_shared(rt: HostRuntime) -> Result<(), Fail> {
+    assert!(rt; items_are_copied(rt.alloc())?);
     Ok(())
+}
+
+/// `<0 1 2>`
+fn record(alloc: Global) -> Result<Value, NoMemory> {
+    Value::record(alloc, Value::integer(0), integers(alloc, &[1, 2])?)
+}
+
+fn record_is_copied(alloc: Global) -> Result<bool, NoMemory> {
+    let record = record(alloc)?;
+    let copy = record.copy()?;
+    Ok(record == copy && weight(&copy) == weight(&record))
 }
 
 #[test]
 fn a_record_is_copied(rt: HostRuntime) -> Result<(), Fail> {
-    let alloc = rt.alloc();
-    let inside = Value::embedded(alloc, Value::boolean(true))?;
-    let mut fields = integers(alloc, &[1])?;
-    fields.push(inside)?;
-    let label = Value::symbol(Text::from_str(alloc, "a")?);
-    let record = Value::record(alloc, label, fields)?;
-    assert!(rt; compare(&record, &record.copy()?) == Ordering::Equal);
-    assert_eq!(rt; weight(&record), 10 + 48 * 5);
+    assert!(rt; record_is_copied(rt.alloc())?);
     Ok(())
 }
 
-#[test]
-fn sets_ascend(rt: HostRuntime) -> Result<(), Fail> {
-    let alloc = rt.alloc();
-    let set = Value::set(alloc, integers(alloc, &[256, -1, 1])?)?;
-    match &set.node {
-        Node::Set(elements) => {
-            assert!(rt; elements.as_slice() == integers(alloc, &[-1, 1, 256])?.as_slice());
-        }
-        _ => assert!(rt; false, "a set"),
+/// The place that is told as the first repeat.
+fn place_of(made: Result<Value, SetFault>) -> Option<usize> {
+    match made {
+        Err(SetFault::Duplicate(place)) => Some(place),
+        _ => None,
     }
-    let set = Value::set(alloc, integers(alloc, &[3, 1, 2, 1, 3])?);
-    assert!(rt; matches!(&set, Err(SetFault::Duplicate(3))));
-    Ok(())
+}
+
+/// The place of the first repeat among these as elements of a set.
+fn repeat_in(alloc: Global, numbers: &[i128]) -> Result<Option<usize>, NoMemory> {
+    Ok(place_of(Value::set(alloc, integers(alloc, numbers)?)))
+}
+
+fn entries(alloc: Global, numbers: &[i128]) -> Result<Vec<Entry>, NoMemory> {
+    let mut entries = Vec::new(alloc);
+    for n in numbers {
+        let key = Value::integer(*n);
+        entries.push(Entry {
+            key,
+            value: Value::boolean(true),
+        })?;
+    }
+    Ok(entries)
+}
+
+/// The place of the first repeat among these as keys of a dictionary.
+fn repeated_key_in(alloc: Global, numbers: &[i128]) -> Result<Option<usize>, NoMemory> {
+    Ok(place_of(Value::dict(alloc, entries(alloc, numbers)?)))
 }
 
 #[test]
-fn dictionaries_ascend(rt: HostRuntime) -> Result<(), Fail> {
-    let alloc = rt.alloc();
-    let dictionary = Value::dict(alloc, entries(alloc, &[(256, 7), (-1, 7), (1, 8)])?)?;
-    match &dictionary.node {
-        Node::Dict(held) => {
-            let want = entries(alloc, &[(-1, 7), (1, 8), (256, 7)])?;
-            assert!(rt; held.as_slice() == want.as_slice());
-        }
-        _ => assert!(rt; false, "a dictionary"),
-    }
-    let dictionary = Value::dict(alloc, entries(alloc, &[(1, 5), (2, 5), (1, 6), (2, 5)])?);
-    assert!(rt; matches!(&dictionary, Err(SetFault::Duplicate(2))));
+fn the_first_repeat_is_told(rt: HostRuntime) -> Result<(), Fail> {
+    assert!(rt; repeat_in(rt.alloc(), &[3, 1, 2, 1, 3])? == Some(3));
+    assert!(rt; repeated_key_in(rt.alloc(), &[1, 2, 1, 2])? == Some(2));
     Ok(())
 }
