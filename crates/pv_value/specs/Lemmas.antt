@@ -1,4 +1,5 @@
 -- Lemmas on the definitions, which proofs here and above cite. A reader of the contracts needs none of them.
+pub mod Appending
 pub mod Ascending
 pub mod Coded
 pub mod DictionaryFrom

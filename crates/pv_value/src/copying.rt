@@ -1,6 +1,5 @@
 //! Copies of values, which share what is inside with the original: a copy costs one count and takes
-//! no
-//! memory, but fails where there are as many copies as can be counted.
+//! no memory, but fails where there are as many copies as can be counted.
 ghost use Rattle.std.specs.Prelude.{◌≡◌, IfOk};
 ghost use Rattle.pv_value.specs.View.{view_node};
 

@@ -1,15 +1,14 @@
 //! Values of the Preserves data model: plain data of eleven kinds, their total order, how deep they
-//! nest and how
-//! much they weigh.
+//! nest and how much they weigh.
 //!
 //! Contracts see a [`Value`] as the data `Plain` of `specs/Plain.antt`, and the small lists as
 //! lists of it.
 //!
 //! A value never changes once it is made, and what is inside is shared: a copy costs one count,
-//! whatever
-//! the value's size.
+//! whatever the value's size.
 #![tactic(auto)]
 
+mod appending;
 mod copying;
 mod lists;
 mod making;
@@ -20,6 +19,7 @@ mod sorting;
 mod texts;
 mod weighing;
 
+pub use appending::{push_byte, push_bytes};
 pub use nesting::depth;
 pub use order::{compare, order_is_total};
 pub use sets::SetFault;
@@ -47,8 +47,7 @@ impl<T: Drop> From<AllocFailed<T>> for NoMemory {
 }
 
 /// A value, which keeps at every level that sets and dictionaries ascend strictly, that text is
-/// UTF-8
-/// and that lengths and numbers are such as every spelling needs.
+/// UTF-8 and that lengths and numbers are such as every spelling needs.
 ///
 /// Match on `&value.node` to look inside.
 #[cycle(value)]

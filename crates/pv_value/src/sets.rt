@@ -1,8 +1,6 @@
 //! Sets and dictionaries, made of lists in any order. What ascends is taken as it is; else it is
-//! sorted
-//! and neighbours are compared, and the place that repeats an earlier one is looked for only where
-//! two
-//! are equal.
+//! sorted and neighbours are compared, and the place that repeats an earlier one is looked for only
+//! where two are equal.
 ghost use Rattle.std.specs.Prelude.{◌≡◌, true, None, map, IfOk, IfErr, IfSome, MatchOption};
 ghost use Rattle.std.specs.List.Sorted.{IsPermutation};
 ghost use Rattle.pv_value.specs.Plain.{plains, pairs};

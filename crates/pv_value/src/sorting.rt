@@ -1,10 +1,11 @@
-//! Lists of copies put in order by what stands first of each value, as a number. The order of these
-//! numbers is mostly that of the values, and they are compared at once; who calls looks whether the
-//! list
-//! ascends, and sorts by the values themselves what doesn't.
+//! Lists of copies put in order by what stands first of each value: the place of its kind, and a
+//! number. These are compared at once, and their order is that of the values, but where many values
+//! begin alike; who calls looks whether the list ascends, and sorts by the values themselves what
+//! doesn't.
 ghost use Rattle.std.specs.Prelude.{◌≡◌, map, IfOk};
 ghost use Rattle.std.specs.List.Sorted.{IsPermutation};
 
+use crate::order::{place_of_double, rank_of};
 use crate::{Entry, NoMemory, Node, Value};
 use std::alloc::Global;
 
@@ -41,7 +42,7 @@ impl ByValue for Entry {
 /// One of a list, and what stands first of its value.
 #[derive(Clone, Copy)]
 struct Fronted<'a, T> {
-    front: u128,
+    front: (u8, u128),
     item: &'a T,
 }
 
@@ -76,35 +77,71 @@ fn copies<T: ByValue>(alloc: Global, fronts: &[Fronted<T>]) -> Result<Vec<T>, No
     Ok(list)
 }
 
-/// What stands first of a value: its first bytes, and of a record those of its label and of its
-/// first
-/// field.
-fn front(value: &Value) -> u128 {
+/// The place of a value's kind among the kinds, and what stands first in it.
+fn front(value: &Value) -> (u8, u128) {
+    (rank_of(&value.node), first_inside(value))
+}
+
+/// What stands first in a value: an atom's number or its first bytes, and of a compound what begins
+/// the first two values in it.
+fn first_inside(value: &Value) -> u128 {
     match &value.node {
         Node::Bool(b) => u128::from(*b),
-        Node::Double(bits) => u128::from(*bits),
+        Node::Double(bits) => u128::from(place_of_double(*bits)),
         Node::Int(n) => n.cast_unsigned() ^ (1 << 127),
         Node::Str(text) | Node::Sym(text) => first_bytes(text.as_bytes()),
         Node::Bytes(bytes) => first_bytes(bytes.as_slice()),
-        Node::Rec(rec) => {
-            let label = first_bytes(atom_bytes(&rec.label));
-            let field = match rec.fields.first() {
-                Some(field) => first_bytes(atom_bytes(field)),
-                None => 0,
-            };
-            (label >> 64 << 64) | (field >> 64)
-        }
+        Node::Rec(rec) => both(beginning(&rec.label), beginning_of(rec.fields.first())),
+        Node::Seq(items) => first_two(items.as_slice()),
+        Node::Set(items) => first_two(items.as_slice()),
+        Node::Dict(entries) => match entries.as_slice().first() {
+            Some(entry) => both(beginning(&entry.key), beginning(&entry.value)),
+            None => 0,
+        },
+        Node::Emb(inside) => both(beginning(inside), 0),
+    }
+}
+
+/// What begins the first two of these.
+fn first_two(items: &[Value]) -> u128 {
+    both(beginning_of(items.first()), beginning_of(items.get(1)))
+}
+
+/// Two numbers as one, the first of which counts for more.
+fn both(first: u64, second: u64) -> u128 {
+    (u128::from(first) << 64) | u128::from(second)
+}
+
+/// What begins a value; 0 where there is none.
+fn beginning_of(value: Option<&Value>) -> u64 {
+    match value {
+        Some(value) => beginning(value),
+        None => 0,
+    }
+}
+
+/// What begins a value that stands in another: the same as its front, in half as many bits; 0 of a
+/// compound.
+fn beginning(value: &Value) -> u64 {
+    match &value.node {
+        Node::Bool(b) => u64::from(*b),
+        Node::Double(bits) => place_of_double(*bits),
+        Node::Int(n) => place_of_integer(*n),
+        Node::Str(text) | Node::Sym(text) => (first_bytes(text.as_bytes()) >> 64) as u64,
+        Node::Bytes(bytes) => (first_bytes(bytes.as_slice()) >> 64) as u64,
         _ => 0,
     }
 }
 
-/// The bytes of a text or of a byte string; none of another value.
-fn atom_bytes(value: &Value) -> &[u8] {
-    match &value.node {
-        Node::Str(text) | Node::Sym(text) => text.as_bytes(),
-        Node::Bytes(bytes) => bytes.as_slice(),
-        _ => &[],
+/// Where an integer stands among those of 64 bits: the others are all at the two ends.
+fn place_of_integer(n: i128) -> u64 {
+    if n < -(1 << 63) {
+        return 0;
     }
+    if n >= 1 << 63 {
+        return u64::MAX;
+    }
+    (n + (1 << 63)) as u64
 }
 
 /// The first sixteen bytes as a number, big-endian, with zeros behind fewer.

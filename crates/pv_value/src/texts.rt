@@ -65,8 +65,7 @@ impl Text {
     }
 
     /// An equal text, which shares its bytes or holds them in place. It takes no memory, but fails
-    /// where
-    /// there are as many copies as can be counted.
+    /// where there are as many copies as can be counted.
     pub fn copy(&self) -> Result<Text, NoMemory>
         ensures { IfOk result (λ t. t ≡ self.now) }
     {

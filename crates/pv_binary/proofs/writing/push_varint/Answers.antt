@@ -1,6 +1,6 @@
 use Rattle.std.proofs.Common.{refl, arith}
 use Rattle.pv_binary.specs.Numbers.{varint}
-use Rattle.pv_binary.specs.Lemmas.Appending.{starts_same, starts_trans}
+use Rattle.pv_value.specs.Lemmas.Appending.{starts_same, starts_trans}
 use Rattle.pv_binary.proofs.Numbers.{varint_more}
 use Rattle.pv_binary.proofs.writing.push_varint.Goals as goal
 

@@ -1,6 +1,6 @@
 use Rattle.std.proofs.Common.{List, ℕ, ◌++◌, [], map, ap, ◌∙◌, append_assoc, arith}
 use Rattle.pv_value.specs.Lemmas.Smaller.{measure_at, entry_measure_at}
-use Rattle.pv_binary.specs.Lemmas.Appending.{starts_trans}
+use Rattle.pv_value.specs.Lemmas.Appending.{starts_trans}
 use Rattle.pv_canon.specs.Canonical.{canonical, joined}
 use Rattle.pv_canon.proofs.Cutting.{forms_next, forms_over, entries_next, entries_over}
 use Rattle.pv_canon.proofs.Cutting.{append_step}

@@ -1,6 +1,6 @@
 use Rattle.std.proofs.Common.{List, ℕ, ◌≡◌, ◌++◌, ◌+◌, map, ap, sym, ◌∙◌, append_assoc, arith}
 use Rattle.std.specs.List.{concat}
-use Rattle.pv_binary.specs.Lemmas.Appending.{starts_from}
+use Rattle.pv_value.specs.Lemmas.Appending.{starts_from}
 use Rattle.pv_canon.specs.Canonical.{canonical, joined}
 use Rattle.pv_canon.proofs.Cutting.{entries_from, entries_next, behind_is, cut_step}
 use Rattle.pv_canon.proofs.forms.cut_entries.Goals as goal
