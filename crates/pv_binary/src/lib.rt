@@ -13,6 +13,3 @@ pub use faults::{BinFault, BinKind};
 pub use laws::{one_of_three, spellings_are_unique};
 pub use reading::read;
 pub use writing::{write, write_into};
-
-/// How deep a value that is read may nest.
-pub const READ_DEPTH: u32 = 64;

@@ -11,12 +11,11 @@ ghost use Rattle.pv_binary.specs.Reading.{compound_at, value_at};
 ghost use Rattle.pv_binary.specs.Reads.{BeginsWith, Stops};
 ghost use Rattle.pv_binary.specs.declared.faults.BinKind.{BinKind};
 
-use crate::READ_DEPTH;
 use crate::atoms::{read_counted, read_double, read_int, read_text};
 use crate::faults::{BinFault, BinKind};
 use crate::tag::Tag;
 use crate::tags::END;
-use pv_read::at;
+use pv_read::{READ_DEPTH, at};
 use pv_value::{Blob, Entry, Items, SetFault, Text, Value};
 use std::alloc::Global;
 

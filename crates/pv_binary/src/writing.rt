@@ -9,7 +9,7 @@ ghost use Rattle.pv_binary.specs.Written.{written, written_all, written_pairs};
 ghost use Rattle.pv_binary.specs.Spells.{Spells};
 
 use crate::tags;
-use pv_value::{Blob, Entry, NoMemory, Node, Value};
+use pv_value::{Blob, Entry, NoMemory, Node, Value, push_byte, push_bytes};
 use std::alloc::Global;
 
 /// How many bytes spell a double.
@@ -159,20 +159,4 @@ fn push_varint(out: &mut Vec<u8>, n: u64) -> Result<(), NoMemory>
         rest /= 128;
     }
     push_byte(out, rest as u8)
-}
-
-fn push_bytes(out: &mut Vec<u8>, bytes: &[u8]) -> Result<(), NoMemory>
-    ensures all { OnOk result (out.new.items ≡ out.old.items ++ bytes.now) }
-    ensures front { StartsWith out.new.items out.old.items }
-{
-    out.extend_from_slice(bytes)?;
-    Ok(())
-}
-
-fn push_byte(out: &mut Vec<u8>, byte: u8) -> Result<(), NoMemory>
-    ensures all { OnOk result (out.new.items ≡ out.old.items ++ byte ∷ []) }
-    ensures front { StartsWith out.new.items out.old.items }
-{
-    out.push(byte)?;
-    Ok(())
 }

@@ -1,8 +1,7 @@
 //! What a reader answers: a value, or the fault that stops it and where that stands.
 //!
 //! The definitions that the readers of the binary form and of the text form share stand in
-//! `specs/`: results
-//! in a chain, faults at their places, values one behind another.
+//! `specs/`: results in a chain, faults at their places, values one behind another.
 #![tactic(auto)]
 
 ghost use Rattle.std.specs.Prelude.{◌≡◌};
@@ -12,6 +11,9 @@ use pv_value::NoMemory;
 use std::alloc::{AllocError, AllocFailed};
 use std::fmt::Debug;
 use thiserror::Error;
+
+/// How many levels deep a value that is read may nest; in a text, its annotations too.
+pub const READ_DEPTH: u32 = 64;
 
 /// Why bytes give no value.
 #[derive(Debug, Drop, Error)]
