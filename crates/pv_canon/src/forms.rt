@@ -10,7 +10,7 @@ ghost use Rattle.pv_canon.specs.Canonical.{canonical, forms, entry_forms, sorted
 ghost use Rattle.pv_canon.specs.Canonical.{form_order, joined};
 
 use pv_binary::{tags, write_into};
-use pv_value::{Blob, Entry, NoMemory, Node, Value, canonical_size};
+use pv_value::{Blob, Entry, NoMemory, Node, Value, canonical_size, push_byte, push_bytes};
 use std::alloc::Global;
 
 /// The canonical form of a value.
@@ -270,20 +270,4 @@ fn sort_entries(forms: &mut Vec<(Vec<u8>, Vec<u8>)>)
         sorted_by form_order (map (λ e. (e.0.items, e.1.items)) forms.old.items) }
 {
     forms.sort_unstable();
-}
-
-fn push_bytes(out: &mut Vec<u8>, bytes: &[u8]) -> Result<(), NoMemory>
-    ensures all { OnOk result (out.new.items ≡ out.old.items ++ bytes.now) }
-    ensures front { StartsWith out.new.items out.old.items }
-{
-    out.extend_from_slice(bytes)?;
-    Ok(())
-}
-
-fn push_byte(out: &mut Vec<u8>, byte: u8) -> Result<(), NoMemory>
-    ensures all { OnOk result (out.new.items ≡ out.old.items ++ byte ∷ []) }
-    ensures front { StartsWith out.new.items out.old.items }
-{
-    out.push(byte)?;
-    Ok(())
 }
