@@ -4,7 +4,7 @@ use Rattle.std.specs.Str.{IsUtf8}
 use Rattle.pv_value.specs.Plain.{Plain}
 use Rattle.pv_lex.specs.Gaps.{after_blank}
 use Rattle.pv_lex.specs.Marks.{mark_text}
-use Rattle.pv_lex.specs.Atoms.{IsAtom}
+use Rattle.pv_lex.specs.Atoms.{IsAtomOf}
 use Rattle.pv_lex.specs.TokenFaults.{TokenFault}
 use Rattle.pv_lex.specs.Lexing.{lexeme_at}
 use Rattle.pv_lex.specs.declared.kinds.Mark.{Mark}
@@ -13,15 +13,17 @@ use Rattle.pv_lex.specs.declared.kinds.Lexeme.TheVariants as lexeme
 use Rattle.pv_lex.specs.declared.faults.TextKind.{TextKind}
 use Rattle.pv_lex.specs.declared.faults.TextKind.TheVariants.{BadUtf8}
 
+-- as an atom of the form that it has
 abbrev pub AtomsAreRead : Type 0
 AtomsAreRead =
-    (t : List ℕ) (v : Plain) (r : List ℕ) → IsAtom t v r → (f : AtomForm)
-    × (lexeme_at (t ++ r) ≡ Ok (lexeme.Atom f v, r))
+    (f : AtomForm) (t : List ℕ) (v : Plain) (r : List ℕ) → IsAtomOf f t v r
+    → lexeme_at (t ++ r) ≡ Ok (lexeme.Atom f v, r)
 
+-- and what is read as an atom of a form is one
 abbrev pub AtomsAreFound : Type 0
 AtomsAreFound =
     (bytes : List ℕ) (f : AtomForm) (v : Plain) (r : List ℕ) → lexeme_at bytes ≡ Ok (lexeme.Atom f v, r)
-    → (t : List ℕ) × (bytes ≡ t ++ r) × IsAtom t v r
+    → (t : List ℕ) × (bytes ≡ t ++ r) × IsAtomOf f t v r
 
 abbrev pub MarksAreRead : Type 0
 MarksAreRead = (m : Mark) (r : List ℕ) → lexeme_at (mark_text m ++ r) ≡ Ok (lexeme.Mark m, r)

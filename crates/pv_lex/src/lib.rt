@@ -1,5 +1,8 @@
 //! The lexical layer of the text form of values, by the Preserves text syntax: characters, escapes,
 //! numbers, byte strings, doubles and tokens.
+//!
+//! A reader of values takes one token at a time, by [`lexeme_at`]. All tokens of a text at once, by
+//! [`tokens`], are for tools, such as one that colours a text: no reader of values calls it.
 #![tactic(auto)]
 
 mod characters;

@@ -265,9 +265,13 @@ lexeme_found [] x r e = cc
 lexeme_found (b ∷ bs) x r e =
     told_ok (Found (b ∷ bs)) (Faulty (b ∷ bs)) (lexeme_at (b ∷ bs)) (x, r) (lexeme_told b bs) e
 
+pub atom_of_found : (bytes : List ℕ) (f : AtomForm) (v : Plain) (r : List ℕ)
+    → lexeme_at bytes ≡ Ok (lexeme.Atom f v, r) → (t : List ℕ) × (bytes ≡ t ++ r) × IsAtomOf f t v r
+atom_of_found bytes f v r e = let h = lexeme_found bytes (lexeme.Atom f v) r e in (h.0, h.1, h.2)
+
 pub atom_found : (bytes : List ℕ) (f : AtomForm) (v : Plain) (r : List ℕ) → lexeme_at bytes ≡ Ok (lexeme.Atom f v, r)
     → (t : List ℕ) × (bytes ≡ t ++ r) × IsAtom t v r
-atom_found bytes f v r e = let h = lexeme_found bytes (lexeme.Atom f v) r e in (h.0, h.1, (f, h.2))
+atom_found bytes f v r e = let h = atom_of_found bytes f v r e in (h.0, h.1, (f, h.2))
 
 pub mark_found : (bytes : List ℕ) (m : Mark) (r : List ℕ) → lexeme_at bytes ≡ Ok (lexeme.Mark m, r) → bytes
     ≡ mark_text m ++ r
