@@ -32,7 +32,270 @@ pub fn parse_caveat(alloc: Global, value: &Value, own: bool) -> Result<Caveat, N
     if has_embedded(value) {
         return reject_all(alloc);
     }
-    parse_standing(alloc, value, own)
+    let reader = Reader {
+        alloc,
+        own,
+        names: 0,
+    };
+    reader.parse_standing(value)
+}
+
+/// How caveats are read, and the templates in them.
+#[derive(Clone, Copy, Drop)]
+struct Reader {
+    alloc: Global,
+    /// Whether a guard is known.
+    own: bool,
+    /// How many values the pattern before a template binds, each of which the template may name.
+    names: u64,
+}
+
+impl Reader {
+    /// The caveat that a value writes, or the one that refuses every value.
+    #[cycle(parse_caveat)]
+    fn parse_standing(self, value: &Value) -> Result<Caveat, NoMemory>
+        ensures { IfOk result (λ c. c ≡ standing (caveat_in self.own value.now)) }
+    {
+        standing(self.alloc, self.parse_rule(value)?)
+    }
+
+    /// What a caveat's value writes, where it is of the grammar.
+    #[cycle(parse_caveat)]
+    fn parse_rule(self, value: &Value) -> Result<Option<Rule>, NoMemory>
+        ensures { IfOk result (λ r. option_map view_rule r ≡ caveat_in self.own value.now) }
+    {
+        let Some((word, parts)) = worded(value) else {
+            return Ok(None);
+        };
+        self.parse_worded_rule(word, parts)
+    }
+
+    #[cycle(parse_caveat)]
+    fn parse_worded_rule(self, word: &Text, parts: &[Value]) -> Result<Option<Rule>, NoMemory>
+        ensures { IfOk result (λ r. option_map view_rule r
+            ≡ caveat_in self.own (labelled word.now parts.now)) }
+    {
+        match parts {
+            [] => Ok(None),
+            [x] => self.parse_short_rule(word, x),
+            [pattern, template] => self.parse_rewrite(word, pattern, template),
+            _ => Ok(None),
+        }
+    }
+
+    /// `<or [rewrite ..]>`, `<reject p>`, `<guard Name>`.
+    #[cycle(parse_caveat)]
+    fn parse_short_rule(self, word: &Text, x: &Value) -> Result<Option<Rule>, NoMemory>
+        ensures { IfOk result (λ r. option_map view_rule r
+            ≡ short_caveat self.own word.now x.now (pattern_of x.now)
+            (rewrites_of self.own x.now)) }
+    {
+        if is_word(word, b"or") {
+            return self.parse_or(x);
+        }
+        if is_word(word, b"reject") {
+            return Ok(new_reject(parse_pattern(self.alloc, x)?));
+        }
+        if is_word(word, b"guard") {
+            return new_guard(x, self.own);
+        }
+        Ok(None)
+    }
+
+    /// `[rewrite ..]`.
+    #[cycle(parse_caveat)]
+    fn parse_or(self, x: &Value) -> Result<Option<Rule>, NoMemory>
+        ensures { IfOk result (λ r. option_map view_rule r
+            ≡ option_map one_of (rewrites_of self.own x.now)) }
+    {
+        match &x.node {
+            Node::Seq(items) => Ok(new_or(self.parse_rewrites(items.as_slice())?)),
+            _ => Ok(None),
+        }
+    }
+
+    #[cycle(parse_caveat)]
+    fn parse_rewrites(self, items: &[Value]) -> Result<Option<Vec<Rewrite>>, NoMemory>
+        ensures { IfOk result (λ rs. option_map (λ v. listed_rewrites v.items) rs
+            ≡ rewrites_in self.own (plains items.now)) }
+    {
+        let mut rewrites = Vec::new(self.alloc);
+        for x in items {
+            let Some(rewrite) = as_rewrite(self.parse_rule(x)?) else {
+                return Ok(None);
+            };
+            rewrites.push(rewrite)?;
+        }
+        Ok(Some(rewrites))
+    }
+
+    /// `<rewrite p t>`.
+    #[cycle(parse_caveat)]
+    fn parse_rewrite(
+        self,
+        word: &Text,
+        pattern: &Value,
+        template: &Value,
+    ) -> Result<Option<Rule>, NoMemory>
+        ensures { IfOk result (λ r. option_map view_rule r ≡ long_caveat word.now
+            (pattern_of pattern.now)
+            (template_of self.own (names_of (pattern_of pattern.now)) template.now)) }
+    {
+        if !is_word(word, b"rewrite") {
+            return Ok(None);
+        }
+        let Some(pattern) = parse_pattern(self.alloc, pattern)? else {
+            return Ok(None);
+        };
+        let behind = Reader {
+            names: binds(&pattern),
+            ..self
+        };
+        Ok(new_rewrite(pattern, behind.parse_template(template)?))
+    }
+
+    /// The template that a value writes, where it is of the grammar and names no value that the
+    /// pattern before it doesn't bind.
+    #[cycle(parse_caveat)]
+    fn parse_template(self, value: &Value) -> Result<Option<Tmpl>, NoMemory>
+        ensures { IfOk result (λ t. t ≡ template_of self.own self.names value.now) }
+    {
+        let Some((word, parts)) = worded(value) else {
+            return Ok(None);
+        };
+        self.parse_worded(word, parts)
+    }
+
+    #[cycle(parse_caveat)]
+    fn parse_worded(self, word: &Text, parts: &[Value]) -> Result<Option<Tmpl>, NoMemory>
+        ensures { IfOk result (λ t. t
+            ≡ template_of self.own self.names (labelled word.now parts.now)) }
+    {
+        match parts {
+            [] => Ok(None),
+            [x] => self.parse_short(word, x),
+            [x, y] => self.parse_long(word, x, y),
+            _ => Ok(None),
+        }
+    }
+
+    /// `<ref n>`, `<lit v>`, `<arr [t ..]>`, `<dict {k: t ..}>`.
+    #[cycle(parse_caveat)]
+    fn parse_short(self, word: &Text, x: &Value) -> Result<Option<Tmpl>, NoMemory>
+        ensures { IfOk result (λ t. t ≡ short_template self.names word.now x.now
+            (templates_of self.own self.names x.now)
+            (templates_under_keys self.own self.names x.now)) }
+    {
+        if is_word(word, b"ref") {
+            return Ok(bound_place(self.names, number_in(x)));
+        }
+        if is_word(word, b"lit") {
+            return Ok(Some(form(TemplateForm::Lit(x.copy()?))));
+        }
+        if is_word(word, b"arr") {
+            return Ok(new_sequence(self.parse_list(x)?));
+        }
+        if is_word(word, b"dict") {
+            return self.parse_dictionary(x);
+        }
+        Ok(None)
+    }
+
+    /// `<attenuate t [caveat ..]>`, `<rec label [t ..]>`.
+    #[cycle(parse_caveat)]
+    fn parse_long(self, word: &Text, x: &Value, y: &Value) -> Result<Option<Tmpl>, NoMemory>
+        ensures { IfOk result (λ t. t ≡ long_template word.now x.now
+            (template_of self.own self.names x.now) (caveats_of self.own y.now)
+            (templates_of self.own self.names y.now)) }
+    {
+        if is_word(word, b"attenuate") {
+            return self.parse_attenuate(x, y);
+        }
+        if is_word(word, b"rec") {
+            return new_record(x, self.parse_list(y)?);
+        }
+        Ok(None)
+    }
+
+    #[cycle(parse_caveat)]
+    fn parse_attenuate(self, x: &Value, y: &Value) -> Result<Option<Tmpl>, NoMemory>
+        ensures { IfOk result (λ t. t
+            ≡ attenuated_by (template_of self.own self.names x.now) (caveats_of self.own y.now)) }
+    {
+        let Node::Seq(items) = &y.node else {
+            return Ok(None);
+        };
+        let Some(template) = self.parse_template(x)? else {
+            return Ok(None);
+        };
+        new_attenuate(self.alloc, template, self.parse_caveats(items.as_slice())?)
+    }
+
+    /// The caveats that values write, each read by itself.
+    #[cycle(parse_caveat)]
+    fn parse_caveats(self, items: &[Value]) -> Result<Vec<Caveat>, NoMemory>
+        ensures { IfOk result (λ cs. caveats cs.items ≡ caveats_in self.own (plains items.now)) }
+    {
+        let mut read = Vec::new(self.alloc);
+        for x in items {
+            read.push(self.parse_standing(x)?)?;
+        }
+        Ok(read)
+    }
+
+    /// `[t ..]`.
+    #[cycle(parse_caveat)]
+    fn parse_list(self, x: &Value) -> Result<Option<Vec<Tmpl>>, NoMemory>
+        ensures { IfOk result (λ ts. option_map (λ v. listed_templates v.items) ts
+            ≡ templates_of self.own self.names x.now) }
+    {
+        match &x.node {
+            Node::Seq(items) => self.parse_each(items.as_slice()),
+            _ => Ok(None),
+        }
+    }
+
+    #[cycle(parse_caveat)]
+    fn parse_each(self, items: &[Value]) -> Result<Option<Vec<Tmpl>>, NoMemory>
+        ensures { IfOk result (λ ts. option_map (λ v. listed_templates v.items) ts
+            ≡ templates_in self.own self.names (plains items.now)) }
+    {
+        let mut templates = Vec::new(self.alloc);
+        for x in items {
+            let Some(template) = self.parse_template(x)? else {
+                return Ok(None);
+            };
+            templates.push(template)?;
+        }
+        Ok(Some(templates))
+    }
+
+    /// `<dict {k: t ..}>`.
+    #[cycle(parse_caveat)]
+    fn parse_dictionary(self, x: &Value) -> Result<Option<Tmpl>, NoMemory>
+        ensures { IfOk result (λ t. t ≡ option_map (dictionary_of (keys_of_value x.now))
+            (templates_under_keys self.own self.names x.now)) }
+    {
+        match &x.node {
+            Node::Dict(entries) => new_dictionary(entries, self.parse_values(entries.as_slice())?),
+            _ => Ok(None),
+        }
+    }
+
+    #[cycle(parse_caveat)]
+    fn parse_values(self, entries: &[Entry]) -> Result<Option<Vec<Tmpl>>, NoMemory>
+        ensures { IfOk result (λ ts. option_map (λ v. listed_templates v.items) ts
+            ≡ templates_in_pairs self.own self.names (pairs (map key_and_value entries.now))) }
+    {
+        let mut templates = Vec::new(self.alloc);
+        for e in entries {
+            let Some(template) = self.parse_template(&e.value)? else {
+                return Ok(None);
+            };
+            templates.push(template)?;
+        }
+        Ok(Some(templates))
+    }
 }
 
 /// `<reject <_>>`.
@@ -50,14 +313,6 @@ fn new_caveat(alloc: Global, rule: Rule) -> Result<Caveat, NoMemory>
     Ok(Caveat { rule })
 }
 
-/// The caveat that a value writes, or the one that refuses every value.
-#[cycle(parse_caveat)]
-fn parse_standing(alloc: Global, value: &Value, own: bool) -> Result<Caveat, NoMemory>
-    ensures { IfOk result (λ c. c ≡ standing (caveat_in own value.now)) }
-{
-    standing(alloc, parse_rule(alloc, value, own)?)
-}
-
 #[inline(never)]
 fn standing(alloc: Global, rule: Option<Rule>) -> Result<Caveat, NoMemory>
     ensures { IfOk result (λ c. c ≡ standing (option_map view_rule rule)) }
@@ -66,58 +321,6 @@ fn standing(alloc: Global, rule: Option<Rule>) -> Result<Caveat, NoMemory>
         Some(rule) => new_caveat(alloc, rule),
         None => reject_all(alloc),
     }
-}
-
-/// What a caveat's value writes, where it is of the grammar.
-#[cycle(parse_caveat)]
-fn parse_rule(alloc: Global, value: &Value, own: bool) -> Result<Option<Rule>, NoMemory>
-    ensures { IfOk result (λ r. option_map view_rule r ≡ caveat_in own value.now) }
-{
-    let Some((word, parts)) = worded(value) else {
-        return Ok(None);
-    };
-    parse_worded_rule(alloc, word, parts, own)
-}
-
-#[cycle(parse_caveat)]
-fn parse_worded_rule(
-    alloc: Global,
-    word: &Text,
-    parts: &[Value],
-    own: bool,
-) -> Result<Option<Rule>, NoMemory>
-    ensures { IfOk result (λ r. option_map view_rule r
-        ≡ caveat_in own (labelled word.now parts.now)) }
-{
-    match parts {
-        [] => Ok(None),
-        [x] => parse_short_rule(alloc, word, x, own),
-        [pattern, template] => parse_rewrite(alloc, word, pattern, template, own),
-        _ => Ok(None),
-    }
-}
-
-/// `<or [rewrite ..]>`, `<reject p>`, `<guard Name>`.
-#[cycle(parse_caveat)]
-fn parse_short_rule(
-    alloc: Global,
-    word: &Text,
-    x: &Value,
-    own: bool,
-) -> Result<Option<Rule>, NoMemory>
-    ensures { IfOk result (λ r. option_map view_rule r
-        ≡ short_caveat own word.now x.now (pattern_of x.now) (rewrites_of own x.now)) }
-{
-    if is_word(word, b"or") {
-        return parse_or(alloc, x, own);
-    }
-    if is_word(word, b"reject") {
-        return Ok(new_reject(parse_pattern(alloc, x)?));
-    }
-    if is_word(word, b"guard") {
-        return new_guard(x, own);
-    }
-    Ok(None)
 }
 
 fn new_reject(pattern: Option<CPat>) -> Option<Rule>
@@ -141,18 +344,6 @@ fn new_guard(name: &Value, own: bool) -> Result<Option<Rule>, NoMemory>
     }
 }
 
-/// `[rewrite ..]`.
-#[cycle(parse_caveat)]
-fn parse_or(alloc: Global, x: &Value, own: bool) -> Result<Option<Rule>, NoMemory>
-    ensures { IfOk result (λ r. option_map view_rule r
-        ≡ option_map one_of (rewrites_of own x.now)) }
-{
-    match &x.node {
-        Node::Seq(items) => Ok(new_or(parse_rewrites(alloc, items.as_slice(), own)?)),
-        _ => Ok(None),
-    }
-}
-
 fn new_or(rewrites: Option<Vec<Rewrite>>) -> Option<Rule>
     ensures { option_map view_rule result
         ≡ option_map (λ rs. one_of (listed_rewrites rs.items)) rewrites }
@@ -161,25 +352,6 @@ fn new_or(rewrites: Option<Vec<Rewrite>>) -> Option<Rule>
         Some(rewrites) => Some(Rule::Or(rewrites)),
         None => None,
     }
-}
-
-#[cycle(parse_caveat)]
-fn parse_rewrites(
-    alloc: Global,
-    items: &[Value],
-    own: bool,
-) -> Result<Option<Vec<Rewrite>>, NoMemory>
-    ensures { IfOk result (λ rs. option_map (λ v. listed_rewrites v.items) rs
-        ≡ rewrites_in own (plains items.now)) }
-{
-    let mut rewrites = Vec::new(alloc);
-    for x in items {
-        let Some(rewrite) = as_rewrite(parse_rule(alloc, x, own)?) else {
-            return Ok(None);
-        };
-        rewrites.push(rewrite)?;
-    }
-    Ok(Some(rewrites))
 }
 
 /// The rewrite that a caveat is, where it is one.
@@ -193,29 +365,6 @@ fn as_rewrite(rule: Option<Rule>) -> Option<Rewrite>
     }
 }
 
-/// `<rewrite p t>`.
-#[cycle(parse_caveat)]
-fn parse_rewrite(
-    alloc: Global,
-    word: &Text,
-    pattern: &Value,
-    template: &Value,
-    own: bool,
-) -> Result<Option<Rule>, NoMemory>
-    ensures { IfOk result (λ r. option_map view_rule r ≡ long_caveat word.now
-        (pattern_of pattern.now)
-        (template_of own (names_of (pattern_of pattern.now)) template.now)) }
-{
-    if !is_word(word, b"rewrite") {
-        return Ok(None);
-    }
-    let Some(pattern) = parse_pattern(alloc, pattern)? else {
-        return Ok(None);
-    };
-    let names = binds(&pattern);
-    Ok(new_rewrite(pattern, parse_template(alloc, template, own, names)?))
-}
-
 fn new_rewrite(pattern: CPat, template: Option<Tmpl>) -> Option<Rule>
     ensures { option_map view_rule result ≡ rewrite_by (Some pattern) template }
 {
@@ -225,72 +374,10 @@ fn new_rewrite(pattern: CPat, template: Option<Tmpl>) -> Option<Rule>
     }
 }
 
-/// The template that a value writes behind a pattern that binds so many values, where it is of the
-/// grammar and names none but those.
-#[cycle(parse_caveat)]
-fn parse_template(
-    alloc: Global,
-    value: &Value,
-    own: bool,
-    names: u64,
-) -> Result<Option<Tmpl>, NoMemory>
-    ensures { IfOk result (λ t. t ≡ template_of own names value.now) }
-{
-    let Some((word, parts)) = worded(value) else {
-        return Ok(None);
-    };
-    parse_worded(alloc, word, parts, own, names)
-}
-
-#[cycle(parse_caveat)]
-fn parse_worded(
-    alloc: Global,
-    word: &Text,
-    parts: &[Value],
-    own: bool,
-    names: u64,
-) -> Result<Option<Tmpl>, NoMemory>
-    ensures { IfOk result (λ t. t ≡ template_of own names (labelled word.now parts.now)) }
-{
-    match parts {
-        [] => Ok(None),
-        [x] => parse_short(alloc, word, x, own, names),
-        [x, y] => parse_long(alloc, word, x, y, own, names),
-        _ => Ok(None),
-    }
-}
-
 fn form(form: TemplateForm) -> Tmpl
     ensures { result ≡ view_template form }
 {
     Tmpl { form }
-}
-
-/// `<ref n>`, `<lit v>`, `<arr [t ..]>`, `<dict {k: t ..}>`.
-#[cycle(parse_caveat)]
-fn parse_short(
-    alloc: Global,
-    word: &Text,
-    x: &Value,
-    own: bool,
-    names: u64,
-) -> Result<Option<Tmpl>, NoMemory>
-    ensures { IfOk result (λ t. t ≡ short_template names word.now x.now
-        (templates_of own names x.now) (templates_under_keys own names x.now)) }
-{
-    if is_word(word, b"ref") {
-        return Ok(bound_place(names, number_in(x)));
-    }
-    if is_word(word, b"lit") {
-        return Ok(Some(form(TemplateForm::Lit(x.copy()?))));
-    }
-    if is_word(word, b"arr") {
-        return Ok(new_sequence(parse_list(alloc, x, own, names)?));
-    }
-    if is_word(word, b"dict") {
-        return parse_dictionary(alloc, x, own, names);
-    }
-    Ok(None)
 }
 
 fn bound_place(names: u64, place: Option<u64>) -> Option<Tmpl>
@@ -300,52 +387,6 @@ fn bound_place(names: u64, place: Option<u64>) -> Option<Tmpl>
         Some(n) if n < names => Some(form(TemplateForm::Ref(n))),
         _ => None,
     }
-}
-
-/// `<attenuate t [caveat ..]>`, `<rec label [t ..]>`.
-#[cycle(parse_caveat)]
-fn parse_long(
-    alloc: Global,
-    word: &Text,
-    x: &Value,
-    y: &Value,
-    own: bool,
-    names: u64,
-) -> Result<Option<Tmpl>, NoMemory>
-    ensures { IfOk result (λ t. t ≡ long_template word.now x.now (template_of own names x.now)
-        (caveats_of own y.now) (templates_of own names y.now)) }
-{
-    if is_word(word, b"attenuate") {
-        return parse_attenuate(alloc, x, y, own, names);
-    }
-    if is_word(word, b"rec") {
-        return new_record(x, parse_list(alloc, y, own, names)?);
-    }
-    Ok(None)
-}
-
-#[cycle(parse_caveat)]
-fn parse_attenuate(
-    alloc: Global,
-    x: &Value,
-    y: &Value,
-    own: bool,
-    names: u64,
-) -> Result<Option<Tmpl>, NoMemory>
-    ensures { IfOk result (λ t. t
-        ≡ attenuated_by (template_of own names x.now) (caveats_of own y.now)) }
-{
-    let Node::Seq(items) = &y.node else {
-        return Ok(None);
-    };
-    let Some(template) = parse_template(alloc, x, own, names)? else {
-        return Ok(None);
-    };
-    new_attenuate(
-        alloc,
-        template,
-        parse_caveats(alloc, items.as_slice(), own)?,
-    )
 }
 
 #[inline(never)]
@@ -358,97 +399,6 @@ fn new_attenuate(
 {
     let inside = Box::new(alloc, template)?;
     Ok(Some(form(TemplateForm::Attenuate(inside, behind))))
-}
-
-/// The caveats that values write, each read by itself.
-#[cycle(parse_caveat)]
-fn parse_caveats(alloc: Global, items: &[Value], own: bool) -> Result<Vec<Caveat>, NoMemory>
-    ensures { IfOk result (λ cs. caveats cs.items ≡ caveats_in own (plains items.now)) }
-{
-    let mut read = Vec::new(alloc);
-    for x in items {
-        read.push(parse_standing(alloc, x, own)?)?;
-    }
-    Ok(read)
-}
-
-/// `[t ..]`.
-#[cycle(parse_caveat)]
-fn parse_list(
-    alloc: Global,
-    x: &Value,
-    own: bool,
-    names: u64,
-) -> Result<Option<Vec<Tmpl>>, NoMemory>
-    ensures { IfOk result (λ ts. option_map (λ v. listed_templates v.items) ts
-        ≡ templates_of own names x.now) }
-{
-    match &x.node {
-        Node::Seq(items) => parse_each(alloc, items.as_slice(), own, names),
-        _ => Ok(None),
-    }
-}
-
-#[cycle(parse_caveat)]
-fn parse_each(
-    alloc: Global,
-    items: &[Value],
-    own: bool,
-    names: u64,
-) -> Result<Option<Vec<Tmpl>>, NoMemory>
-    ensures { IfOk result (λ ts. option_map (λ v. listed_templates v.items) ts
-        ≡ templates_in own names (plains items.now)) }
-{
-    let mut templates = Vec::new(alloc);
-    for x in items {
-        let Some(template) = parse_template(alloc, x, own, names)? else {
-            return Ok(None);
-        };
-        templates.push(template)?;
-    }
-    Ok(Some(templates))
-}
-
-/// `<dict {k: t ..}>`.
-#[cycle(parse_caveat)]
-fn parse_dictionary(
-    alloc: Global,
-    x: &Value,
-    own: bool,
-    names: u64,
-) -> Result<Option<Tmpl>, NoMemory>
-    ensures { IfOk result (λ t. t ≡ option_map (dictionary_of (keys_of_value x.now))
-        (templates_under_keys own names x.now)) }
-{
-    match &x.node {
-        Node::Dict(entries) => {
-            new_dictionary(
-                entries,
-                parse_values(alloc, entries.as_slice(), own, names)?,
-            )
-        }
-        _ => Ok(None),
-    }
-}
-
-#[cycle(parse_caveat)]
-fn parse_values(
-    alloc: Global,
-    entries: &[Entry],
-    own: bool,
-    names: u64,
-) -> Result<Option<Vec<Tmpl>>, NoMemory>
-    ensures { IfOk result (λ ts. option_map (λ v. listed_templates v.items) ts
-        ≡ templates_in_pairs own names (pairs (map key_and_value entries.now))) }
-{
-    let mut templates = Vec::new(alloc);
-    for e in entries {
-        let Some(template) = parse_template(alloc, &e.value, own, names)? else {
-            return Ok(None);
-        };
-        templates.push(template)?;
-    }
-    Ok(Some(templates))
 }
 
 fn new_sequence(templates: Option<Vec<Tmpl>>) -> Option<Tmpl>

@@ -6,7 +6,7 @@ use Rattle.pv_value.specs.Lemmas.Measures.{measure, measure_all, measure_pairs}
 use Rattle.sr_caveat.specs.Patterns.{then_caveat}
 use Rattle.sr_caveat.specs.Written.{templates_in, templates_in_pairs, caveats_in, rewrites_in}
 use Rattle.sr_caveat.specs.Lemmas.Folding.{folded, put_template, put_rewrite}
-use Rattle.sr_caveat.proofs.caveats.+parse_caveat.Given as goal
+use Rattle.sr_caveat.proofs.caveats.Reader.+parse_caveat.Given as goal
 
 abbrev pub decreases-parse_standing : goal.decreases-parse_standing
 decreases-parse_standing l = 3 * measure l.value.now + 1
@@ -62,21 +62,21 @@ decreases-parse_values l = 3 * measure_pairs (pairs (map key_and_value l.entries
 -- those that were read, before the rest
 abbrev pub invariant-parse_each-loop-x : goal.invariant-parse_each-loop-x
 invariant-parse_each-loop-x l =
-    folded put_template l.templates.items (templates_in l.own l.names (plains (drop l.x-index l.items)))
-    ≡ templates_in l.own l.names (plains l.items)
+    folded put_template l.templates.items (templates_in l.self.own l.self.names (plains (drop l.x-index l.items)))
+    ≡ templates_in l.self.own l.self.names (plains l.items)
 
 abbrev pub invariant-parse_values-loop-e : goal.invariant-parse_values-loop-e
 invariant-parse_values-loop-e l =
     folded put_template l.templates.items
-    (templates_in_pairs l.own l.names (pairs (map key_and_value (drop l.e-index l.entries))))
-    ≡ templates_in_pairs l.own l.names (pairs (map key_and_value l.entries))
+    (templates_in_pairs l.self.own l.self.names (pairs (map key_and_value (drop l.e-index l.entries))))
+    ≡ templates_in_pairs l.self.own l.self.names (pairs (map key_and_value l.entries))
 
 abbrev pub invariant-parse_caveats-loop-x : goal.invariant-parse_caveats-loop-x
 invariant-parse_caveats-loop-x l =
-    folded then_caveat l.read.items (caveats_in l.own (plains (drop l.x-index l.items)))
-    ≡ caveats_in l.own (plains l.items)
+    folded then_caveat l.read.items (caveats_in l.self.own (plains (drop l.x-index l.items)))
+    ≡ caveats_in l.self.own (plains l.items)
 
 abbrev pub invariant-parse_rewrites-loop-x : goal.invariant-parse_rewrites-loop-x
 invariant-parse_rewrites-loop-x l =
-    folded put_rewrite l.rewrites.items (rewrites_in l.own (plains (drop l.x-index l.items)))
-    ≡ rewrites_in l.own (plains l.items)
+    folded put_rewrite l.rewrites.items (rewrites_in l.self.own (plains (drop l.x-index l.items)))
+    ≡ rewrites_in l.self.own (plains l.items)
