@@ -13,7 +13,7 @@ use std::alloc::Global;
 
 /// What guards judge by: names, and which values conform to the definition of each.
 pub trait Judge {
-    ghost use Rattle.std.specs.Prelude.{◌≡◌, ℕ, List, Bool};
+    ghost use Rattle.std.specs.Prelude.{◌≡◌, ℕ, List, Bool, false};
     ghost use Rattle.pv_value.specs.Plain.{Plain};
 
     /// Whether a name has a definition.
@@ -26,7 +26,8 @@ pub trait Judge {
         ensures { result ≡ known self.now name.now };
 
     fn judge(&self, name: &[u8], value: &Value) -> bool
-        ensures { result ≡ judged self.now name.now value.now };
+        ensures judged { result ≡ judged self.now name.now value.now }
+        ensures unknown { known self.now name.now ≡ false → result ≡ false };
 }
 
 /// Knows no name, so that each guard refuses.
