@@ -9,7 +9,12 @@ use Rattle.pv_words.specs.Parts.{same}
 use Rattle.sr_caveat.specs.Patterns.{Caveat, caveats}
 use Rattle.sr_caveat.specs.Spelled.{caveat_value, caveat_values}
 use Rattle.sr_caveat.specs.Written.{caveat_of}
-pub use Rattle.sr_caveat.specs.declared.caps.Cap.{Cap}
+
+-- a reference: an object of an actor, and the caveats before it, the oldest first
+pub record Cap : Type 0 where
+  pub actor : ℕ
+  pub entity : ℕ
+  pub caveats : List Caveat
 
 -- `[actor entity caveat ..]`
 abbrev pub cap_value : Cap → Plain
@@ -46,6 +51,7 @@ attenuated cs c = record c { caveats = c.caveats ++ cs }
 abbrev pub IsReadBack : Caveat → Type 0
 IsReadBack c = caveat_of true (caveat_value c) ≡ c
 
--- an object's number is in its bounds, and so is the actor's; each caveat is one that was read
+-- an object's number is in its bounds, and so is the actor's; each caveat is one that was read. Every reference that is
+-- handled is so, by its type
 abbrev pub IsSound : Cap → Type 0
 IsSound c = (c.actor < 2 ^ 32) × (c.entity < 2 ^ 63) × AllByRecursion IsReadBack c.caveats

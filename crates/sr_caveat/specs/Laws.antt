@@ -6,7 +6,7 @@ use Rattle.sr_caveat.specs.Patterns.{Template, Templates, no_templates, then_tem
 use Rattle.sr_caveat.specs.Patterns.{Caveat, rewrite, one_of, reject, guard}
 use Rattle.sr_caveat.specs.Patterns.{Caveats, no_caveats, then_caveat, Rewrites, no_rewrites, then_rewrite}
 use Rattle.sr_caveat.specs.Written.{caveat_of}
-use Rattle.sr_caveat.specs.Caps.{Cap, cap_of, cap_value, IsSound, IsReadBack}
+use Rattle.sr_caveat.specs.Caps.{Cap, cap_of, cap_value, IsReadBack}
 
 -- ---- guards
 
@@ -48,7 +48,7 @@ NoGuardFromTheWire = (v : Plain) → guards_in (caveat_of false v) ≡ []
 abbrev pub CaveatsAreReadBack : Type 0
 CaveatsAreReadBack = (own : Bool) (v : Plain) → IsReadBack (caveat_of own v)
 
--- a reference is read from its value, and a value that is read as one is the value of it
+-- a value that is read as a reference is the value of it. That a reference is read from its value is what `to_value` of
+-- a reference says
 abbrev pub CapsAreTheirValues : Type 0
-CapsAreTheirValues = ((c : Cap) → IsSound c → cap_of (cap_value c) ≡ Some c)
-    × ((v : Plain) (c : Cap) → cap_of v ≡ Some c → v ≡ cap_value c)
+CapsAreTheirValues = (v : Plain) (c : Cap) → cap_of v ≡ Some c → v ≡ cap_value c

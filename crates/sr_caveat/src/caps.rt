@@ -1,5 +1,5 @@
 //! References with caveats.
-ghost use Rattle.std.specs.Prelude.{◌≡◌, IfOk, OnOk, ◌++◌};
+ghost use Rattle.std.specs.Prelude.{◌≡◌, IfOk, OnOk, ◌++◌, Some};
 ghost use Rattle.pv_value.specs.Plain.{plains};
 ghost use Rattle.sr_caveat.specs.Caps.{cap_of, cap_value, cap_read, attenuated, caveats_from};
 ghost use Rattle.sr_caveat.specs.Caps.{if_spelled};
@@ -58,11 +58,29 @@ impl Caveats {
 }
 
 /// A reference: an object of an actor, and the caveats that stand before it, the oldest first.
+///
+/// Each one is read back from the value that it writes: `IsSound` of `specs/Caps.antt` holds of
+/// every `Cap`, and is to be proved where one is made or a field is changed.
 #[derive(Drop)]
 pub struct Cap {
     pub actor: u32,
     pub entity: u64,
     pub caveats: Caveats,
+}
+
+impl Model for Cap {
+    ghost use Rattle.std.specs.Coded.{codes};
+    ghost use Rattle.sr_caveat.specs.Lemmas.Coded.{caveat_code};
+    ghost use Rattle.sr_caveat.specs.Caps.{Cap as CapOf, IsSound};
+
+    ghost Value = { CapOf };
+
+    ghost coded = { Prim.hlevel (codes, caveat_code) };
+
+    ghost view = { λ c. record { actor = c.actor; entity = c.entity; caveats = c.caveats } };
+
+    ghost invariant = { λ c.
+        IsSound (record { actor = c.actor; entity = c.entity; caveats = c.caveats }) };
 }
 
 impl Cap {
@@ -77,28 +95,20 @@ impl Cap {
         })
     }
 
-    /// The same reference, with these caveats behind its own.
-    pub fn attenuated(&self, alloc: Global, caveats: &[Caveat]) -> Result<Cap, NoMemory>
-        ensures { IfOk result (λ c. c ≡ attenuated caveats.now self.now) }
+    /// The value of the same reference with these caveats behind its own.
+    pub fn attenuated_value(&self, alloc: Global, caveats: &[Caveat]) -> Result<Value, NoMemory>
+        ensures { IfOk result (λ v. v ≡ cap_value (attenuated caveats.now self.now)) }
     {
         let caveats = joined(alloc, self.caveats.as_slice(), caveats)?;
-        Ok(Cap {
-            actor: self.actor,
-            entity: self.entity,
-            caveats: Caveats::from_vec(alloc, caveats)?,
-        })
+        written(alloc, self.actor, self.entity, &caveats)
     }
 
     /// The value `[actor entity caveat ..]` that writes the reference.
     pub fn to_value(&self, alloc: Global) -> Result<Value, NoMemory>
-        ensures { IfOk result (λ v. v ≡ cap_value self.now) }
+        ensures written { IfOk result (λ v. v ≡ cap_value self.now) }
+        ensures read_back { IfOk result (λ v. cap_of v ≡ Some self.now) }
     {
-        let mut items = Vec::new(alloc);
-        items.push(number(u64::from(self.actor)))?;
-        items.push(number(self.entity))?;
-        let caveats = caveat_values(alloc, self.caveats.as_slice())?;
-        add_values(&mut items, &caveats)?;
-        Ok(Value::sequence(Items::from_vec(alloc, items)?))
+        written(alloc, self.actor, self.entity, self.caveats.as_slice())
     }
 
     /// The reference that a value writes, where it is the value of one.
@@ -120,6 +130,19 @@ impl Caveat {
         let rule = Arc::try_clone(&self.rule)?;
         Ok(Caveat { rule })
     }
+}
+
+/// The value `[actor entity caveat ..]`.
+fn written(alloc: Global, actor: u32, entity: u64, caveats: &[Caveat]) -> Result<Value, NoMemory>
+    ensures { IfOk result (λ v. v
+        ≡ cap_value (record { actor = actor; entity = entity; caveats = caveats.now })) }
+{
+    let mut items = Vec::new(alloc);
+    items.push(number(u64::from(actor)))?;
+    items.push(number(entity))?;
+    let caveats = caveat_values(alloc, caveats)?;
+    add_values(&mut items, &caveats)?;
+    Ok(Value::sequence(Items::from_vec(alloc, items)?))
 }
 
 /// Equal caveats, one list behind the other.

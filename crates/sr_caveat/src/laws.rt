@@ -11,7 +11,8 @@ pub fn caveats_are_read_back()
     ensures { CaveatsAreReadBack }
 {}
 
-/// A reference is read from its value, and a value that is read as one is the value of it.
+/// A value that is read as a reference is the value of it. That each reference is read from its
+/// value is a clause of `Cap::to_value`.
 pub fn caps_are_their_values()
     ensures { CapsAreTheirValues }
 {}

@@ -3,11 +3,12 @@
 //! How much the value weighs that a template gives, and how deep it nests, is reckoned first, from
 //! the sizes of what was bound: only what is within the bounds of a value is made.
 ghost use Rattle.std.specs.Prelude.{◌≡◌, ◌-◌, ◌+◌, ◌^◌, min, max, IfOk, map, option_map, vec_items};
-ghost use Rattle.std.specs.Prelude.{slice_get, option_and_then, nat_le, ◌&&◌, ℕ};
+ghost use Rattle.std.specs.Prelude.{slice_get, option_and_then, nat_le, ◌&&◌, ℕ, length, ◌++◌};
 ghost use Rattle.pv_value.specs.View.{key_and_value};
 ghost use Rattle.pv_value.specs.Plain.{plains, sequence, record_of};
 ghost use Rattle.pv_value.specs.Weight.{weight, sizes_with};
 ghost use Rattle.pv_value.specs.Depth.{depth, deepest};
+ghost use Rattle.sr_caveat.specs.Caps.{attenuated};
 ghost use Rattle.sr_caveat.specs.Patterns.{caveats};
 ghost use Rattle.sr_caveat.specs.Spelled.{caveat_values};
 ghost use Rattle.sr_caveat.specs.View.{listed_templates, keys_of};
@@ -327,17 +328,25 @@ fn reference_with(
     let Some(cap) = Cap::of_value(alloc, inside)? else {
         return Ok(None);
     };
-    if_reference(alloc, cap.attenuated(alloc, caveats)?)
+    if_reference(alloc, &cap, caveats)
 }
 
-/// The value that embeds a reference, where it is within the bounds of references.
-fn if_reference(alloc: Global, cap: Cap) -> Result<Option<Value>, NoMemory>
-    ensures { IfOk result (λ v. v ≡ if_reference cap) }
+/// How many caveats a reference has with these behind its own.
+fn caveats_with(cap: &Cap, caveats: &[Caveat]) -> usize
+    ensures { result ≡ length (cap.now.caveats ++ caveats.now) }
 {
-    if cap.caveats.as_slice().len() > REFERENCE_CAVEATS {
+    cap.caveats.as_slice().len() + caveats.len()
+}
+
+/// The value that embeds a reference with these caveats behind its own, where it is within the
+/// bounds of references.
+fn if_reference(alloc: Global, cap: &Cap, caveats: &[Caveat]) -> Result<Option<Value>, NoMemory>
+    ensures { IfOk result (λ v. v ≡ if_reference (attenuated caveats.now cap.now)) }
+{
+    if caveats_with(cap, caveats) > REFERENCE_CAVEATS {
         return Ok(None);
     }
-    let value = cap.to_value(alloc)?;
+    let value = cap.attenuated_value(alloc, caveats)?;
     if weight(&value) > REFERENCE_WEIGHT {
         return Ok(None);
     }

@@ -1,6 +1,6 @@
 -- References are read from their values, and hold what was read.
 use Rattle.std.proofs.Common.{◌≡◌, ℕ, ◌<◌, ◌^◌, cond, Bool, true, false, nat_lt, List, [], ◌∷◌, Option, Some, None}
-use Rattle.std.proofs.Common.{refl, ap, sym, ◌∙◌, option_and_then, pos, arith}
+use Rattle.std.proofs.Common.{refl, ap, sym, subst, ◌∙◌, option_and_then, pos, arith, Result, Ok, Err, IfOk}
 use Rattle.std.proofs.lemmas.Bool.{lt-ltb}
 use Rattle.std.proofs.lemmas.Bool.Decides.{nat_tests}
 use Rattle.std.specs.List.{AllByRecursion}
@@ -41,13 +41,14 @@ cap_is v c e = by (cap_read v) e
     by None f = absurd cc
     by (Some d) f = spelled d (same (cap_value d) v) refl f
 
-pub caps_are_their_values : CapsAreTheirValues
-caps_are_their_values = (
-  λ c h.
-      ap (option_and_then (if_spelled (cap_value c))) (read_back c h)
-      ∙ ap (λ b. cond {A = Option Cap} b (Some c) None) (same_self (cap_value c)),
-  λ v c e. cap_is v c e,
-)
+-- a reference that is sound is read from its value
+pub cap_back : (c : Cap) → IsSound c → cap_of (cap_value c) ≡ Some c
+cap_back c h =
+    ap (option_and_then (if_spelled (cap_value c))) (read_back c h)
+    ∙ ap (λ b. cond {A = Option Cap} b (Some c) None) (same_self (cap_value c))
+
+pub caps_are_their_values : ((c : Cap) → IsSound c → cap_of (cap_value c) ≡ Some c) × CapsAreTheirValues
+caps_are_their_values = (cap_back, cap_is)
 
 -- ---- what is read is sound
 
@@ -75,6 +76,21 @@ at_sound (Some a) (Some e) cs c low back is = by (nat_lt a (2 ^ 32)) refl is
     by false large is = absurd cc
 at_sound (Some a) None cs c low back is = absurd cc
 at_sound None e cs c low back is = absurd cc
+
+-- the parts of one that is read
+pub made_sound : (e : Plain) (xs : Plains) (m n : ℕ) (cs : List Caveat) → m < 2 ^ 32 → Some n ≡ number_in e
+    → cs ≡ caveats_from xs → IsSound (record { actor = m; entity = n; caveats = cs })
+made_sound e xs m n cs small is read =
+    (small, entity_low e n (sym is), subst (AllByRecursion IsReadBack) (sym read) (all_read_back xs))
+
+-- the value of one that is sound is read as it
+pub value_back : (v : Plain) (c : Cap) → IsSound c → v ≡ cap_value c → cap_of v ≡ Some c
+value_back v c h is = ap cap_of is ∙ cap_back c h
+
+pub if_ok_back : {E : Type 0} (r : Result Plain E) (c : Cap) → IsSound c → IfOk r (λ v. v ≡ cap_value c)
+    → IfOk r (λ v. cap_of v ≡ Some c)
+if_ok_back (Ok v) c h is = value_back v c h is
+if_ok_back (Err e) c h is = tt
 
 read_sound : (v : Plain) (c : Cap) → cap_read v ≡ Some c → IsSound c
 read_sound (sequence (then_more a (then_more e xs))) c is =
