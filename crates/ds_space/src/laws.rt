@@ -9,8 +9,7 @@ pub fn wants_are_in_order()
 {}
 
 /// What is wanted is what the rule says: for each observation among the values, and for each list
-/// of captures
-/// of its pattern in one of them, the key of the two.
+/// of captures of its pattern in one of them, the key of the two.
 pub fn wants_are_the_rule()
     ensures { WantsAreTheRule }
 {}

@@ -1,10 +1,8 @@
 //! Dataspaces as lists of numbered values: what is wanted over them, exact changes of it, and what
-//! a message
-//! fans out to.
+//! a message fans out to.
 //!
 //! Contracts see a [`Space`] as its list of rows, a number and a value each, ascending by number.
-//! What is
-//! wanted over the values is `wants` of `specs/Wants.antt`.
+//! What is wanted over the values is `wants` of `specs/Wants.antt`.
 #![tactic(auto)]
 
 mod collecting;
