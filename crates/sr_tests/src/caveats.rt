@@ -1,8 +1,8 @@
-//! Caveats as texts write them, and what they make of values.
+//! Caveats and references: what no row of `dsd_rows` shows.
 
 use pv_text::read_text;
-use pv_value::{Blob, Value};
-use sr_caveat::{Cap, Caveat, Caveats, parse_caveat};
+use pv_value::Value;
+use sr_caveat::{Cap, Caveat, parse_caveat};
 use sr_pass::{NoNames, pass};
 use std::alloc::Global;
 use std::test::Fail;
@@ -13,69 +13,56 @@ fn value(alloc: Global, text: &str) -> Result<Value, Fail> {
     Ok(value)
 }
 
-/// The caveats that texts write, as they come from the wire.
-fn caveats(alloc: Global, texts: &[&str]) -> Result<Vec<Caveat>, Fail> {
-    let mut caveats = Vec::new(alloc);
-    for text in texts {
-        let written = value(alloc, text)?;
-        caveats.push(parse_caveat(alloc, &written, false)?)?;
+/// The caveat that a text writes, as one of the server's own.
+fn caveat(alloc: Global, text: &str) -> Result<Caveat, Fail> {
+    let written = value(alloc, text)?;
+    Ok(parse_caveat(alloc, &written, true)?)
+}
+
+/// Whether the caveat writes the text's value.
+fn writes(alloc: Global, caveat: &Caveat, text: &str) -> Result<bool, Fail> {
+    let written = caveat.to_value(alloc)?;
+    Ok(written == value(alloc, text)?)
+}
+
+/// Whether a copy of a text's caveat writes the same value.
+fn is_copied(alloc: Global, text: &str) -> Result<bool, Fail> {
+    let copied = caveat(alloc, text)?.copy()?;
+    writes(alloc, &copied, text)
+}
+
+/// Whether something passes the caveat of a text, where no name is known.
+fn passes(alloc: Global, text: &str, sent: &Value) -> Result<bool, Fail> {
+    let caveat = caveat(alloc, text)?;
+    Ok(pass(alloc, &[caveat], sent, &NoNames)?.is_some())
+}
+
+/// The reference that a text writes, copied.
+fn cap(alloc: Global, text: &str) -> Result<Option<Cap>, Fail> {
+    let written = value(alloc, text)?;
+    match Cap::of_value(alloc, &written)? {
+        Some(cap) => Ok(Some(cap.copy()?)),
+        None => Ok(None),
     }
-    Ok(caveats)
 }
 
-/// What passes caveats, the oldest of which stands first.
-fn passed(alloc: Global, texts: &[&str], sent: &Value) -> Result<Option<Value>, Fail> {
-    let caveats = caveats(alloc, texts)?;
-    Ok(pass(alloc, &caveats, sent, &NoNames)?)
-}
-
-#[test]
-fn the_newest_caveat_comes_first(rt: HostRuntime) -> Result<(), Fail> {
-    let alloc = rt.alloc();
-    let inner = "<rewrite <bind <_>> <rec Inner [<ref 0>]>>";
-    let outer = "<rewrite <bind <_>> <rec Outer [<ref 0>]>>";
-    let made = passed(alloc, &[inner, outer], &Value::integer(7))?;
-    assert!(rt; made == Some(value(alloc, "<Inner <Outer 7>>")?));
-    Ok(())
-}
-
-#[test]
-fn malformed_caveats_refuse(rt: HostRuntime) -> Result<(), Fail> {
-    let alloc = rt.alloc();
-    let seven = Value::integer(7);
-    assert!(rt; passed(alloc, &["<rewrite <bind <_>> <ref 5>>"], &seven)?.is_none());
-    assert!(rt; passed(alloc, &["<frob>"], &seven)?.is_none());
-    assert!(rt; passed(alloc, &["<guard Greeting>"], &seven)?.is_none());
-    assert!(rt; passed(alloc, &[], &seven)? == Some(seven));
-    Ok(())
-}
-
-#[test]
-fn what_is_too_heavy_is_refused_before_it_is_made(rt: HostRuntime) -> Result<(), Fail> {
-    let alloc = rt.alloc();
-    let mut bytes = Vec::new(alloc);
-    for _ in 0..1_000_000 {
-        bytes.push(0_u8)?;
+/// Whether a text is read as a reference, a copy of which writes the text's value.
+fn is_reference(alloc: Global, text: &str) -> Result<bool, Fail> {
+    match cap(alloc, text)? {
+        Some(cap) => Ok(cap.to_value(alloc)? == value(alloc, text)?),
+        None => Ok(false),
     }
-    let heavy = Value::byte_string(Blob::from_vec(bytes)?);
-    let pair = "<rewrite <bind <_>> <arr [<ref 0> <ref 0>]>>";
-    assert!(rt; passed(alloc, &[pair], &heavy)?.is_none());
-    assert!(rt; passed(alloc, &["<reject <lit 1>>"], &heavy)?.is_some());
+}
+
+#[test]
+fn copies_write_the_same(rt: HostRuntime) -> Result<(), Fail> {
+    assert!(rt; is_copied(rt.alloc(), "<guard Greeting>")?);
+    assert!(rt; is_reference(rt.alloc(), "[18 4 <reject <bind <_>>>]")?);
     Ok(())
 }
 
 #[test]
-fn a_reference_is_its_value(rt: HostRuntime) -> Result<(), Fail> {
-    let alloc = rt.alloc();
-    let caveats = Caveats::from_vec(alloc, caveats(alloc, &["<reject <bind <_>>>"])?)?;
-    let cap = Cap {
-        actor: 18,
-        entity: 4,
-        caveats,
-    };
-    let written = cap.to_value(alloc)?;
-    assert!(rt; written == value(alloc, "[18 4 <reject <bind <_>>>]")?);
-    assert!(rt; Cap::of_value(alloc, &written)?.is_some());
-    assert!(rt; Cap::of_value(alloc, &value(alloc, "[18 4 <frob>]")?)?.is_none());
+fn a_guard_of_the_servers_own_refuses_what_no_name_judges(rt: HostRuntime) -> Result<(), Fail> {
+    assert!(rt; !passes(rt.alloc(), "<guard Greeting>", &Value::integer(7))?);
     Ok(())
 }

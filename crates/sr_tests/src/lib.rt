@@ -1,5 +1,5 @@
-//! Tests of caveats: calls that take memory, where it is ample, worked rows, and what is refused
-//! before it is made.
+//! Tests of caveats: calls that take memory, where it is ample, and which no row makes. What passes
+//! caveats, and what is refused, is shown by rows.
 #![tactic(auto)]
 
 #[cfg(test)]
