@@ -5,8 +5,8 @@ use Rattle.out_ports.specs.declared.ports.Took.TheVariants as took
 use Rattle.out_ports.specs.Ports.{given_after, ended_after}
 use Rattle.out_ports.specs.Calls.{CallCounts, before_calls, is_next_listed, after_call}
 
--- what is left, how many bytes were given, how many are given at once at most, whether a take has answered the end,
--- and the calls
+-- what is left, how many bytes were given, how many are given at once at most, whether a take has answered the end, and
+-- the calls
 pub record ToldSource : Type 0 where
   pub left : List ℕ
   pub given : ℕ

@@ -1,5 +1,4 @@
--- What the calls on the outside world do: taking from a source, putting into a sink, accepting links, reading
--- files.
+-- What the calls on the outside world do: taking from a source, putting into a sink, accepting links, reading files.
 use Rattle.std.specs.Prelude.{◌≡◌, ℕ, ◌+◌, ◌-◌, ◌^◌, ◌≤◌, min, Bool, true, ⊤, if◌then◌else◌}
 use Rattle.std.specs.Prelude.{List, [], ◌∷◌, ◌++◌, length, take, drop, Option, None, Some, IfSome}
 use Rattle.std.specs.Str.{bytes_eq}
@@ -35,8 +34,8 @@ pub record IsFront (n : ℕ) (buf before : List ℕ) (now : Option (List ℕ)) :
   pub given : take n buf ≡ take n before
   pub rest : now ≡ Some (drop n before)
 
--- what a take does to what is left, where that is told: a piece is its front, the end comes where nothing is left,
--- and a failed take changes nothing
+-- what a take does to what is left, where that is told: a piece is its front, the end comes where nothing is left, and
+-- a failed take changes nothing
 abbrev pub IsTaken : Took → List ℕ → Option (List ℕ) → Option (List ℕ) → Type 0
 IsTaken (took.Some n) buf before now = IfSome before (λ bytes. IsFront n buf bytes now)
 IsTaken took.End buf before now = IfSome before (λ bytes. (bytes ≡ []) × (now ≡ Some []))
