@@ -41,5 +41,6 @@ pub mod Steps
 pub mod Told
 pub mod Turning
 pub mod Turns
+pub mod Uncounted
 pub mod Wanted
 pub mod WhoLeaves

@@ -196,7 +196,7 @@ none_by k a r none = by (a == actor_of k)
     by true = none
     by false = refl
 
-fault_tells : (k a : ℕ) (o : Option Fault) (s : State) → events_by k (Turn a) (tell_fault a o s).reply ≡ []
+pub fault_tells : (k a : ℕ) (o : Option Fault) (s : State) → events_by k (Turn a) (tell_fault a o s).reply ≡ []
 fault_tells k a None s = none_by k a Gone refl
 fault_tells k a (Some f) s = none_by k a (Sent (error_of f)) (ap (λ es. es ++ []) (error_events f))
 

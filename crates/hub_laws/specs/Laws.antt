@@ -1,7 +1,8 @@
 -- What holds after every list of steps whose callers saw to their conditions.
-use Rattle.std.specs.Prelude.{◌≡◌, ℕ, ◌≤◌, ◌⊎◌, List, [], ◌∷◌, true, false}
+use Rattle.std.specs.Prelude.{◌≡◌, ◌≢◌, ℕ, ◌≤◌, ◌⊎◌, List, [], ◌∷◌, true, false}
 use Rattle.ac_table.specs.Tables.{is_live}
-use Rattle.ac_world.specs.Worlds.{actor_of}
+use Rattle.ac_world.specs.Sums.{deliveries}
+use Rattle.ac_world.specs.Worlds.{WorldState, actor_of, ended_of}
 use Rattle.hub_machine.specs.declared.faults.Fault.{Fault}
 use Rattle.hub_machine.specs.State.{State, opening}
 use Rattle.hub_machine.specs.Machine.{step, IsAllowed}
@@ -62,3 +63,7 @@ abbrev pub WhoEnds : Type 0
 WhoEnds = (s : State) (e : Step) (k : ℕ) → is_live (actor_of k) s.world.table ≡ true
     → is_live (actor_of k) (step s e).state.world.table ≡ false
     → IsDismissed k e (step s e).reply ⊎ HasFailed (spreads_of e s) k (step s e).state
+
+-- an ending ends nobody else: what is counted of others stays
+abbrev pub EndingsSpareOthers : Type 0
+EndingsSpareOthers = (a b : ℕ) (w : WorldState) → b ≢ a → deliveries b (ended_of a w) ≡ deliveries b w

@@ -5,7 +5,7 @@
 
 ghost use Rattle.hub_laws.specs.Laws.{Delivery, SettledDelivery, Wants, Endings};
 ghost use Rattle.hub_laws.specs.Laws.{Holdings, SettledHoldings, Presence, Handles, Refusals};
-ghost use Rattle.hub_laws.specs.Laws.{WhoEnds};
+ghost use Rattle.hub_laws.specs.Laws.{WhoEnds, EndingsSpareOthers};
 ghost use Rattle.hub_laws.specs.Posting.{PostedOnce, AreOutboxes};
 ghost use Rattle.hub_laws.specs.Saying.{SaysMessages, AnswersSyncs, MessagesArrive};
 
@@ -62,6 +62,11 @@ pub fn refusals_leave_their_fault()
 /// which too much is held and waits.
 pub fn nobody_else_ends()
     ensures { WhoEnds }
+{}
+
+/// An ending ends nobody else: what has come to another actor and waits for it counts as before.
+pub fn endings_spare_others()
+    ensures { EndingsSpareOthers }
 {}
 
 /// What is posted: each live actor that is told something gets it as one batch, in its order,

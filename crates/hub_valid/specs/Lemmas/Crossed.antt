@@ -236,7 +236,7 @@ number_within r xs = by (place_of r xs) (place_within r xs)
     by (Some n) within = within n refl
 
 -- the object that a reference names
-reference_read : (x : Plain) (c : Cap) → cap_of x ≡ Some c
+pub reference_read : (x : Plain) (c : Cap) → cap_of x ≡ Some c
     → reference_of x ≡ Some (record { at = c.actor; entity = c.entity })
 reference_read x c is =
     let sound = cap_sound x c is in
