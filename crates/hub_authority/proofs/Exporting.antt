@@ -95,7 +95,7 @@ first_more k s (f ∷ es) e =
     ap (option_or (first_by k s f)) (first_more k (step s f).state es e)
     ∙ option_or_assoc (first_by k s f) (first_from k (step s f).state es) _
 
-told_more : (k : ℕ) (s : State) (es : List Step) (e : Step) → told_from k s (es ++ e ∷ [])
+pub told_more : (k : ℕ) (s : State) (es : List Step) (e : Step) → told_from k s (es ++ e ∷ [])
     ≡ told_from k s es ++ told_by k (run_from s es) e
 told_more k s [] e = append-nil (told_by k s e)
 told_more k s (f ∷ es) e =

@@ -1,6 +1,8 @@
 pub mod Asking
 pub mod Endings
 pub mod Exporting
+pub mod Meaning
+pub mod Naming
 pub mod Orderly
 pub mod Rows
 pub mod Runs

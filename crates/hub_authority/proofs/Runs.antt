@@ -17,7 +17,7 @@ none_named : (b : Bool) (p : PortsState) → cond b None None ≡ Some p → ⊥
 none_named true p is = cc
 none_named false p is = cc
 
-at_first : (k : ℕ) → IsTold k [] opening
+pub at_first : (k : ℕ) → IsTold k [] opening
 at_first k = record {
   unborn = λ l. grind (arith, nat_tests, l);
   first = λ l. refl;

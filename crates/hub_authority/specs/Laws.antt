@@ -2,19 +2,22 @@
 -- let it pass, and these are its first object and the references of which it was told. Syndicate Protocol,
 -- "capabilities".
 use Rattle.std.specs.Prelude.{◌≡◌, ℕ, ◌++◌, List, Some, filter}
+use Rattle.std.specs.List.{flat_map}
 use Rattle.ac_table.specs.declared.batches.Row.{Row as TableRow}
 use Rattle.ac_table.specs.Tables.{Actor, find_actor, is_live}
 use Rattle.rl_packet.specs.declared.packets.TurnEvent.{TurnEvent}
+use Rattle.rl_packet.specs.Holding.{events_in}
 use Rattle.rl_ports.specs.Ports.{PortsState}
 use Rattle.hub_machine.specs.State.{State, opening, ports_of}
 use Rattle.hub_machine.specs.Machine.{step}
-use Rattle.hub_machine.specs.Replays.{replay}
+use Rattle.hub_machine.specs.Replays.{replay, sent_to}
 use Rattle.hub_machine.specs.declared.steps.Step.{Step}
 use Rattle.hub_machine.specs.declared.steps.Step.TheVariants.{Packet}
 use Rattle.hub_machine.specs.declared.steps.Reply.TheVariants.{Taken}
 use Rattle.hub_laws.specs.Laws.{AreAllowed}
 use Rattle.hub_authority.specs.Asked.{rows_asked, rows_left, messages_asked, messages_in, events_of}
-use Rattle.hub_authority.specs.Named.{AreItsOwn}
+use Rattle.hub_authority.specs.Meant.{AreSentAs}
+use Rattle.hub_authority.specs.Named.{told_from, AreItsOwn}
 
 -- the rows, without those whose owners the step's end has ended
 abbrev pub of_the_live : State → List TableRow → List TableRow
@@ -40,3 +43,10 @@ TakenPackets =
 abbrev pub Exports : Type 0
 Exports = (k : ℕ) (steps : List Step) (ports : PortsState) → ports_of k (replay steps) ≡ Some ports
     → AreItsOwn k steps ports.exports
+
+-- all that a live connection was sent means what was told, by its exports of now: a number stands for one reference while
+-- the connection lives
+abbrev pub Names : Type 0
+Names =
+    (k : ℕ) (steps : List Step) (ports : PortsState) → AreAllowed opening steps → ports_of k (replay steps) ≡ Some ports
+    → AreSentAs ports.exports k (events_of (told_from k opening steps)) (flat_map events_in (sent_to k steps))

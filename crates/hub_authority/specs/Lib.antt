@@ -1,3 +1,4 @@
 pub mod Asked
 pub mod Laws
+pub mod Meant
 pub mod Named

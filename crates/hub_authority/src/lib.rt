@@ -2,7 +2,7 @@
 //! function that does nothing, and is proved of the definitions alone.
 #![tactic(auto)]
 
-ghost use Rattle.hub_authority.specs.Laws.{TakenPackets, Exports};
+ghost use Rattle.hub_authority.specs.Laws.{TakenPackets, Exports, Names};
 
 /// In each state to which allowed steps lead, a packet that is taken makes exactly the rows and
 /// sends exactly the messages for which its events ask, at the objects that the connection's
@@ -15,4 +15,10 @@ pub fn packets_do_what_they_ask()
 /// told, each once, in order of first use.
 pub fn exports_are_what_was_told()
     ensures { Exports }
+{}
+
+/// Names: what a live connection was sent is what was told, with a name in place of each reference:
+/// `[1 e]` for an object of its own, and `[0 n]` for the reference that its export n is.
+pub fn names_mean_what_was_told()
+    ensures { Names }
 {}

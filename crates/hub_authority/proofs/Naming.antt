@@ -1,0 +1,298 @@
+-- In each run, what a live connection was sent means what was told.
+use Rattle.std.proofs.Common.{◌≡◌, ℕ, ◌+◌, ◌-◌, ◌<◌, ◌==◌, List, [], ◌∷◌, ◌++◌, Bool, true, false, cond, Option, Some}
+use Rattle.std.proofs.Common.{None, ◌⊎◌, inl, inr, refl, sym, ap, ◌∙◌, subst, arith, map, append-nil, append_assoc}
+use Rattle.std.specs.List.{flat_map}
+use Rattle.std.proofs.lemmas.Bool.Decides.{nat_tests}
+use Rattle.pv_value.specs.Plain.{Plain}
+use Rattle.ac_table.specs.declared.batches.Batch.{Batch}
+use Rattle.ac_table.specs.Tables.{is_live, first_batch, popped}
+use Rattle.ac_world.specs.declared.turns.Turned.TheVariants as turned
+use Rattle.ac_world.specs.Turns.{After as TurnOf, space_turn, plain_turn, connection_turn, turn_with, turn_first}
+use Rattle.ac_world.specs.Worlds.{WorldState, actor_of, entry_of, is_space, is_system}
+use Rattle.rl_packet.specs.declared.packets.TurnEvent.{TurnEvent}
+use Rattle.rl_packet.specs.Holding.{events_in}
+use Rattle.rl_ports.specs.Ports.{PortsState}
+use Rattle.rl_wire.specs.Crossing.{all_exported}
+use Rattle.rl_wire.specs.Lemmas.Exporting.{are_exported}
+use Rattle.hub_machine.specs.declared.faults.Fault.{Fault}
+use Rattle.hub_machine.specs.State.{State, opening, ports_of}
+use Rattle.hub_machine.specs.Machine.{unchanged, foreign_to, sent_event, telling_fault, exports_after, told_unless}
+use Rattle.hub_machine.specs.Machine.{tell, fault_for, after_turn, turn_of, is_worn, step}
+use Rattle.hub_machine.specs.Replays.{replay, packet_in, sent_by, sent_to}
+use Rattle.hub_machine.specs.Lemmas.ReplayLaws.{replay-more, sent_to-more}
+use Rattle.hub_machine.specs.declared.steps.Step.{Step}
+use Rattle.hub_machine.specs.declared.steps.Step.TheVariants.{Arrive, Packet, Bad, Close, Turn, Work, Stop}
+use Rattle.hub_machine.specs.declared.steps.Reply.{Reply}
+use Rattle.hub_machine.specs.declared.steps.Reply.TheVariants.{Worn}
+use Rattle.hub_valid.specs.Validity.{IsValid, IsValidBatch}
+use Rattle.hub_valid.specs.Lemmas.Hubs.{stays_valid}
+use Rattle.hub_valid.specs.Lemmas.Lasting.{live_popped}
+use Rattle.hub_valid.specs.Lemmas.Lists.{flat_map_append}
+use Rattle.hub_valid.specs.Lemmas.WorldTables.{first_valid}
+use Rattle.hub_valid.specs.Lemmas.Worlds.{table_of}
+use Rattle.hub_laws.specs.Laws.{AreAllowed}
+use Rattle.hub_laws.proofs.Sending.{fault_tells}
+use Rattle.hub_authority.specs.Asked.{events_of}
+use Rattle.hub_authority.specs.Laws.{Names}
+use Rattle.hub_authority.specs.Meant.{AreSentAs}
+use Rattle.hub_authority.specs.Named.{batch_sent, told_by, told_from, first_by}
+use Rattle.hub_authority.proofs.Exporting.{Tells, WasTold, CameWith, IsTold, told_more, one_more}
+use Rattle.hub_authority.proofs.Meaning.{events_mean, events_later, sent_append}
+use Rattle.hub_authority.proofs.Runs.{at_first}
+use Rattle.hub_authority.proofs.Telling.{step_tells}
+
+-- ---- what a step sends
+
+-- the events that a reply sends
+abbrev pub events_by : Reply → List TurnEvent
+events_by r = flat_map events_in (packet_in r)
+
+-- who isn't live is sent no event
+dead_turn : (k : ℕ) (s : State) → is_live (actor_of k) s.world.table ≡ false
+    → flat_map events_in (sent_by k (Turn (actor_of k)) (turn_of (actor_of k) s).reply) ≡ []
+dead_turn k s dead = by (is_live (actor_of k) s.world.table) dead
+  where
+    none : TurnOf
+    none = record { world = s.world; turned = turned.Gone }
+
+    by : (c : Bool) → c ≡ false → flat_map events_in (sent_by k (Turn (actor_of k))
+        (after_turn (actor_of k) (cond c (turn_first (actor_of k) (first_batch (actor_of k) s.world.table) s.world) none).turned
+        (record s { world = (cond c (turn_first (actor_of k) (first_batch (actor_of k) s.world.table) s.world) none).world })).reply)
+        ≡ []
+    by true dead = absurd cc
+    by false dead = fault_tells k (actor_of k) (fault_for (actor_of k) s) s
+
+dead_step : (k : ℕ) (s : State) (e : Step) → is_live (actor_of k) s.world.table ≡ false
+    → flat_map events_in (sent_by k e (step s e).reply) ≡ []
+dead_step k s (Arrive space) dead = refl
+dead_step k s (Packet j es) dead = refl
+dead_step k s (Bad j f) dead = refl
+dead_step k s (Close j) dead = refl
+dead_step k s (Turn a) dead = by (a == actor_of k) refl
+  where
+    own : (b : Bool) → flat_map events_in (sent_by k (Turn (actor_of k))
+        (cond b (unchanged s Worn) (turn_of (actor_of k) s)).reply) ≡ []
+    own true = worn (actor_of k == actor_of k)
+      where
+        worn : (c : Bool) → flat_map events_in (cond c (packet_in Worn) []) ≡ []
+        worn true = refl
+        worn false = refl
+    own false = dead_turn k s dead
+
+    by : (c : Bool) → (a == actor_of k) ≡ c → flat_map events_in (sent_by k (Turn a) (step s (Turn a)).reply) ≡ []
+    by true is =
+        let same : actor_of k ≡ a = grind (arith, nat_tests, is) in
+        subst (λ n. flat_map events_in (sent_by k (Turn n) (step s (Turn n)).reply) ≡ []) same
+        (own (is_worn s (Turn (actor_of k))))
+    by false other = ap (λ c. flat_map events_in (cond c (packet_in (step s (Turn a)).reply) [])) other
+dead_step k s Work dead = refl
+dead_step k s Stop dead = refl
+
+-- what connection k, which has these exports, is sent by a reply to the turn that takes this batch
+abbrev Sends : ℕ → List Plain → Option Batch → Reply → Type 0
+Sends k exports o r =
+    AreSentAs (all_exported exports (flat_map (foreign_to k) (batch_sent o r))) k (events_of (batch_sent o r)) (events_by r)
+
+sends_worn : (k : ℕ) (exports : List Plain) (o : Option Batch) → Sends k exports o Worn
+sends_worn k exports None = tt
+sends_worn k exports (Some b) = tt
+
+module _ (k : ℕ) (s : State) (valid : IsValid s) (ports : PortsState) (named : ports_of k s ≡ Some ports) where
+  abbrev own : ℕ
+  own = actor_of k
+
+  sends_batch : (b : Batch) → first_batch own s.world.table ≡ Some b → (o : Option Fault) (t : State)
+      → Sends k ports.exports (Some b) (told_unless o k ports b t).reply
+  sends_batch b first (Some f) t = tt
+  sends_batch b first None t =
+      let now : List Plain = exports_after k b ports in
+      let fits : IsValidBatch (16 + s.world.opened) s.world.table.next b =
+      first_valid (16 + s.world.opened) own s.world.table b (table_of s.world valid.world) first in
+      let means : AreSentAs now k b.events (map (sent_event now k) b.events) =
+      events_mean (16 + s.world.opened) s.world.table.next k now b.events fits
+      (are_exported ports.exports (foreign_to k b)) in
+      subst (λ rs. AreSentAs (all_exported ports.exports rs) k (b.events ++ []) (map (sent_event now k) b.events ++ []))
+      (sym (append-nil (foreign_to k b)))
+      (subst (λ es. AreSentAs now k es (map (sent_event now k) b.events ++ [])) (sym (append-nil b.events))
+      (subst (λ ts. AreSentAs now k b.events ts) (sym (append-nil (map (sent_event now k) b.events))) means))
+
+  sends_told : (b : Batch) → first_batch own s.world.table ≡ Some b → (t : State) → ports_of k t ≡ Some ports
+      → Sends k ports.exports (Some b) (tell (own - 16) (ports_of (own - 16) t) b t).reply
+  sends_told b first t is =
+      subst (λ j. Sends k ports.exports (Some b) (tell j (ports_of j t) b t).reply) (omega arith)
+      (subst (λ o. Sends k ports.exports (Some b) (tell k o b t).reply) (sym is)
+      (sends_batch b first (telling_fault k b ports) t))
+
+  abbrev SendsAfter : Option Batch → TurnOf → Type 0
+  SendsAfter o t = Sends k ports.exports o (after_turn own t.turned (record s { world = t.world })).reply
+
+  sends_with : (b : Batch) → first_batch own s.world.table ≡ Some b
+      → SendsAfter (Some b) (turn_with own b (record s.world { table = popped own s.world.table }))
+  sends_with b first = by (is_space own) (is_system own)
+    where
+      w : WorldState
+      w = record s.world { table = popped own s.world.table }
+
+      taken : State
+      taken = record s { world = (connection_turn own b w).world }
+
+      still : ports_of k taken ≡ Some ports
+      still = ap (λ c. cond c (entry_of k s.connections) None) (live_popped own own s.world.table) ∙ named
+
+      by : (c d : Bool) → SendsAfter (Some b)
+          (cond c (space_turn own b w) (cond d (plain_turn own b w) (connection_turn own b w)))
+      by true d = tt
+      by false true = tt
+      by false false = sends_told b first taken still
+
+  sends_turn : Sends k ports.exports (first_batch own s.world.table) (turn_of own s).reply
+  sends_turn = by (is_live own s.world.table) refl (first_batch own s.world.table) refl
+    where
+      none : TurnOf
+      none = record { world = s.world; turned = turned.Gone }
+
+      dead : (c : Bool) → c ≡ false → cond c (entry_of k s.connections) None ≡ Some ports → ⊥
+      dead true d is = cc
+      dead false d is = cc
+
+      by : (c : Bool) → is_live own s.world.table ≡ c → (o : Option Batch) → first_batch own s.world.table ≡ o
+          → SendsAfter o (cond c (turn_first own o s.world) none)
+      by false is o first = absurd (dead (is_live own s.world.table) is named)
+      by true is None first = tt
+      by true is (Some b) first = sends_with b first
+
+  sends_own : Sends k ports.exports (first_batch own s.world.table) (step s (Turn own)).reply
+  sends_own = by (is_worn s (Turn own))
+    where
+      by : (c : Bool) → Sends k ports.exports (first_batch own s.world.table)
+          (cond c (unchanged s Worn) (turn_of own s)).reply
+      by true = sends_worn k ports.exports (first_batch own s.world.table)
+      by false = sends_turn
+
+  -- what a step sends means what it tells
+  step_sends : (e : Step) → AreSentAs (all_exported ports.exports (flat_map (foreign_to k) (told_by k s e))) k
+      (events_of (told_by k s e)) (flat_map events_in (sent_by k e (step s e).reply))
+  step_sends (Arrive space) = tt
+  step_sends (Packet j es) = tt
+  step_sends (Bad j f) = tt
+  step_sends (Close j) = tt
+  step_sends (Turn a) = by (a == own) refl
+    where
+      SendsWhere : Bool → ℕ → Type 0
+      SendsWhere c n =
+          AreSentAs (all_exported ports.exports
+          (flat_map (foreign_to k) (cond c (batch_sent (first_batch n s.world.table) (step s (Turn n)).reply) []))) k
+          (events_of (cond c (batch_sent (first_batch n s.world.table) (step s (Turn n)).reply) []))
+          (flat_map events_in (cond c (packet_in (step s (Turn n)).reply) []))
+
+      by : (c : Bool) → (a == own) ≡ c → SendsWhere (a == own) a
+      by true is =
+          let same : own ≡ a = grind (arith, nat_tests, is) in
+          subst (λ c. SendsWhere c a) (sym is) (subst (SendsWhere true) same sends_own)
+      by false is = subst (λ c. SendsWhere c a) (sym is) tt
+  step_sends Work = tt
+  step_sends Stop = tt
+
+-- ---- all steps
+
+record IsMeant (k : ℕ) (es : List Step) (s : State) : Type 0 where
+  unsent : s.world.opened < k → flat_map events_in (sent_to k es) ≡ []
+  names : (p : PortsState) → ports_of k s ≡ Some p
+      → AreSentAs p.exports k (events_of (told_from k opening es)) (flat_map events_in (sent_to k es))
+
+sent_more : (k : ℕ) (es : List Step) (e : Step) → flat_map events_in (sent_to k (es ++ e ∷ []))
+    ≡ flat_map events_in (sent_to k es) ++ flat_map events_in (sent_by k e (step (replay es) e).reply)
+sent_more k es e =
+    ap (flat_map events_in) (sent_to-more k es e) ∙ flat_map_append events_in (sent_to k es) _
+
+told_events_more : (k : ℕ) (es : List Step) (e : Step) → events_of (told_from k opening (es ++ e ∷ []))
+    ≡ events_of (told_from k opening es) ++ events_of (told_by k (replay es) e)
+told_events_more k es e =
+    ap events_of (told_more k opening es e)
+    ∙ flat_map_append (λ (b : Batch). b.events) (told_from k opening es) (told_by k (replay es) e)
+
+meant_more : (k : ℕ) (es : List Step) (e : Step) → IsValid (replay es) → IsTold k es (replay es)
+    → IsMeant k es (replay es)
+    → Tells k (replay es) (step (replay es) e).state (told_by k (replay es) e) (first_by k (replay es) e)
+    → IsMeant k (es ++ e ∷ []) (step (replay es) e).state
+meant_more k es e valid told is tells = record {
+  unsent = λ l.
+      let old = is.unsent (before l) in
+      let new = dead_step k s e (told.unborn (before l)) in
+      sent_more k es e ∙ (λ i. old i ++ new i);
+  names = λ p there. by p (tells.named p there);
+}
+  where
+    s : State
+    s = replay es
+
+    before : (step s e).state.world.opened < k → s.world.opened < k
+    before l = omega (arith, l, tells.opened)
+
+    old_told : List Batch
+    old_told = told_from k opening es
+
+    old_sent : List TurnEvent
+    old_sent = flat_map events_in (sent_to k es)
+
+    new_sent : List TurnEvent
+    new_sent = flat_map events_in (sent_by k e (step s e).reply)
+
+    both : (p : PortsState)
+        → AreSentAs p.exports k (events_of old_told ++ events_of (told_by k s e)) (old_sent ++ new_sent)
+        → AreSentAs p.exports k (events_of (told_from k opening (es ++ e ∷ [])))
+        (flat_map events_in (sent_to k (es ++ e ∷ [])))
+    both p all =
+        subst (λ ds. AreSentAs p.exports k ds (flat_map events_in (sent_to k (es ++ e ∷ []))))
+        (sym (told_events_more k es e))
+        (subst (λ ts. AreSentAs p.exports k (events_of old_told ++ events_of (told_by k s e)) ts)
+        (sym (sent_more k es e)) all)
+
+    by : (p : PortsState) → WasTold k s (told_by k s e) p ⊎ CameWith k s (told_by k s e) (first_by k s e) p
+        → AreSentAs p.exports k (events_of (told_from k opening (es ++ e ∷ [])))
+        (flat_map events_in (sent_to k (es ++ e ∷ [])))
+    by p (inl w) =
+        let more : List Plain = flat_map (foreign_to k) (told_by k s e) in
+        let now : List Plain = all_exported w.before.exports more in
+        both p
+        (subst (λ xs. AreSentAs xs k (events_of old_told ++ events_of (told_by k s e)) (old_sent ++ new_sent))
+        (sym w.exports)
+        (sent_append now k (events_of old_told) (events_of (told_by k s e)) old_sent new_sent
+        (events_later w.before.exports more k (events_of old_told) old_sent (is.names w.before w.there))
+        (step_sends k s valid w.before w.there e)))
+    by p (inr c) =
+        let later : s.world.opened < k = omega (arith, c.next) in
+        let none : events_of old_told ++ events_of (told_by k s e) ≡ [] =
+        (λ i. events_of (told.told later i) ++ events_of (c.untold i)) in
+        let silent : old_sent ++ new_sent ≡ [] =
+        (λ i. is.unsent later i ++ dead_step k s e (told.unborn later) i) in
+        both p
+        (subst (λ ds. AreSentAs p.exports k ds (old_sent ++ new_sent)) (sym none)
+        (subst (λ ts. AreSentAs p.exports k [] ts) (sym silent) tt))
+
+-- the steps that are still to come, after those that were
+all_meant : (k : ℕ) (before later : List Step) → AreAllowed (replay before) later → IsValid (replay before)
+    → IsTold k before (replay before) → IsMeant k before (replay before)
+    → IsMeant k (before ++ later) (replay (before ++ later))
+all_meant k before [] may valid told is = subst (λ es. IsMeant k es (replay es)) (sym (append-nil before)) is
+all_meant k before (e ∷ es) may valid told is =
+    let tells = step_tells k (replay before) e in
+    let next : (step (replay before) e).state ≡ replay (before ++ e ∷ []) = sym (replay-more before e) in
+    subst (λ ds. IsMeant k ds (replay ds)) (append_assoc before (e ∷ []) es)
+    (all_meant k (before ++ e ∷ []) es
+    (subst (λ t. AreAllowed t es) next may.1)
+    (subst IsValid next (stays_valid.1 (replay before) e valid may.0))
+    (subst (IsTold k (before ++ e ∷ [])) next (one_more k before e told tells))
+    (subst (IsMeant k (before ++ e ∷ [])) next (meant_more k before e valid told is tells)))
+
+none_named : (b : Bool) (p : PortsState) → cond b None None ≡ Some p → ⊥
+none_named true p is = cc
+none_named false p is = cc
+
+pub names_mean : Names
+names_mean k steps ports may there =
+    (all_meant k [] steps may stays_valid.0 (at_first k)
+    (record {
+      unsent = λ l. refl;
+      names = λ p is. absurd (none_named (is_live (actor_of k) opening.world.table) p is);
+    })).names ports there
