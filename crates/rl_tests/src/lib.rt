@@ -1,5 +1,6 @@
-//! Tests of packets, streams, ports and the crossing of references: calls that take memory, where
-//! it is ample, and values that nest far deeper than the reader's bound.
+//! Tests of packets and of the crossing of references: calls that take memory, where it is ample,
+//! and values that nest far deeper than the reader's bound. What else these calls answer is shown
+//! by rows.
 #![tactic(auto)]
 
 #[cfg(test)]
@@ -7,6 +8,4 @@ mod crossing;
 #[cfg(test)]
 mod making;
 #[cfg(test)]
-mod ports;
-#[cfg(test)]
-mod streams;
+mod turns;

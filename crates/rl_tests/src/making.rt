@@ -2,6 +2,7 @@
 
 use ds_space::{Reference, reference_value};
 use pv_value::{Items, Value};
+use rl_ports::Ports;
 use std::alloc::Global;
 use std::test::Fail;
 
@@ -9,17 +10,27 @@ use std::test::Fail;
 pub(crate) const LEVELS: u32 = 10_000;
 
 /// The reference to an object of the actor, without caveats.
-pub(crate) fn object(alloc: Global, at: u32, entity: u64) -> Result<Value, Fail> {
+fn object(alloc: Global, at: u32, entity: u64) -> Result<Value, Fail> {
     Ok(reference_value(alloc, Reference { at, entity })?)
 }
 
-/// The embedded value that holds this, inside so many sequences.
-pub(crate) fn deep(alloc: Global, inside: Value) -> Result<Value, Fail> {
-    let mut value = Value::embedded(alloc, inside)?;
+/// The ports of a connection that knows object 0 of actor 1.
+pub(crate) fn ports(alloc: Global) -> Result<Ports, Fail> {
+    Ok(Ports::new(alloc, object(alloc, 1, 0)?)?)
+}
+
+/// The sequence of this value alone.
+fn around(alloc: Global, value: Value) -> Result<Value, Fail> {
+    let mut items = Vec::new(alloc);
+    items.push(value)?;
+    Ok(Value::sequence(Items::from_vec(alloc, items)?))
+}
+
+/// The embedded reference to an object of the actor, inside so many sequences.
+pub(crate) fn deep(alloc: Global, at: u32) -> Result<Value, Fail> {
+    let mut value = Value::embedded(alloc, object(alloc, at, 0)?)?;
     for _ in 0..LEVELS {
-        let mut items = Vec::new(alloc);
-        items.push(value)?;
-        value = Value::sequence(Items::from_vec(alloc, items)?);
+        value = around(alloc, value)?;
     }
     Ok(value)
 }

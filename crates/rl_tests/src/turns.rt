@@ -1,0 +1,21 @@
+//! Turns, by the call that looks at their events.
+
+use rl_packet::{Event, Turn, TurnEvent};
+use std::alloc::Global;
+use std::test::Fail;
+
+/// Whether the event that retracts this handle may stand in a turn.
+fn may_retract(alloc: Global, handle: u64) -> Result<bool, Fail> {
+    let mut events = Vec::new(alloc);
+    let event = Event::Retract(handle);
+    events.push(TurnEvent { oid: 0, event })?;
+    Ok(Turn::of_events(events).is_some())
+}
+
+#[test]
+fn a_turn_is_made_of_events_that_may_stand_in_one(rt: HostRuntime) -> Result<(), Fail> {
+    let alloc = rt.alloc();
+    assert!(rt; may_retract(alloc, (1 << 63) - 1)?);
+    assert!(rt; !may_retract(alloc, 1 << 63)?);
+    Ok(())
+}
