@@ -4,6 +4,7 @@ use Rattle.std.proofs.lemmas.Bool.Decides.{leb_tells}
 use Rattle.std.proofs.lemmas.List.Elements.{All-nil, All-head, All-tail, All-cons, All-take}
 use Rattle.pv_binary.specs.Kinds.{kind_number}
 use Rattle.pv_binary.specs.OneOfThree.{AreBytes, OneOfThreeHolds}
+use Rattle.rl_stream.specs.Limits.{packet_bytes}
 use Rattle.rl_stream.specs.declared.nexts.Next.{Next}
 use Rattle.rl_stream.specs.declared.nexts.Next.TheVariants.{Whole, BadBytes, BadPacket, Waits}
 use Rattle.rl_stream.specs.Nexts.{front_of, IsNext, HasDecider}
@@ -21,12 +22,12 @@ are_bytes (b ∷ bs) = elim (leb_tells 256 b) [
 
 module _ (three : (bytes : List ℕ) → AreBytes bytes → OneOfThreeHolds bytes) where
   abbrev some_next : (rest : List ℕ) (place : ℕ) → AreBytes rest → (x : Next) × IsNext rest place x
-  some_next rest place are = elim (three (front_of rest) (All-take (λ n. n < 256) 262144 rest are)).0 [
+  some_next rest place are = elim (three (front_of rest) (All-take (λ n. n < 256) packet_bytes rest are)).0 [
     | inl x ↦ elim (packet_or_none x.1) [
       | inl p ↦ (Whole p.0 x.0, (x.1, x.2, p.1))
       | inr other ↦ (BadPacket, (x.0, (x.1, x.2, other)))
     ]
-    | inr (inl f) ↦ elim (leb_tells 262144 (length rest)) [
+    | inr (inl f) ↦ elim (leb_tells packet_bytes (length rest)) [
       | inl l ↦ (BadBytes 9 place, inr (f, l.1, refl, refl))
       | inr l ↦ (Waits, (f, l.1))
     ]

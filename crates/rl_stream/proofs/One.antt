@@ -8,6 +8,7 @@ use Rattle.pv_binary.specs.Kinds.{kind_number}
 use Rattle.pv_binary.specs.declared.faults.BinKind.{BinKind}
 use Rattle.rl_packet.specs.declared.packets.Packet.{Packet}
 use Rattle.rl_packet.specs.Grammar.{IsPacketOf, OnePacket}
+use Rattle.rl_stream.specs.Limits.{packet_bytes}
 use Rattle.rl_stream.specs.declared.nexts.Next.{Next}
 use Rattle.rl_stream.specs.declared.nexts.Next.TheVariants.{Whole, BadBytes, BadPacket, Waits}
 use Rattle.rl_stream.specs.Nexts.{front_of, IsNext, OneNext}
@@ -80,5 +81,5 @@ module _ (one : OnePacket) (rest : List ℕ) (place : ℕ) (three : OneOfThreeHo
 -- from what one_packet_a_value and one_of_three ensure
 pub one_is_next : OnePacket → ((bytes : List ℕ) → AreBytes bytes → OneOfThreeHolds bytes) → OneNext
 one_is_next one three rest place x y are a b =
-    let all = All-take (λ n. n < 256) 262144 rest are in
+    let all = All-take (λ n. n < 256) packet_bytes rest are in
     next_same one rest place (three (front_of rest) all) x y a b

@@ -10,12 +10,13 @@ use Rattle.rl_packet.specs.declared.packets.Packet.{Packet}
 use Rattle.rl_packet.specs.Grammar.{IsPacketOf}
 use Rattle.pv_binary.specs.Kinds.{kind_number}
 use Rattle.pv_binary.specs.declared.faults.BinKind.{BinKind}
+use Rattle.rl_stream.specs.Limits.{packet_bytes}
 use Rattle.rl_stream.specs.declared.nexts.Next.{Next}
 use Rattle.rl_stream.specs.declared.nexts.Next.TheVariants.{Whole, BadBytes, BadPacket, Waits}
 
 -- the bytes on which the first value is decided
 abbrev pub front_of : List ℕ → List ℕ
-front_of rest = take 262144 rest
+front_of rest = take packet_bytes rest
 
 -- n bytes spell a value that is no packet
 abbrev pub IsNoPacket : List ℕ → ℕ → Type 0
@@ -30,14 +31,14 @@ IsFaultyAt rest place number at =
 -- as many bytes as a packet may have begin a value, and don't end it; it begins here
 abbrev pub IsTooLong : List ℕ → ℕ → ℕ → ℕ → Type 0
 IsTooLong rest place number at =
-    IsFront (front_of rest) × (262144 ≤ length rest) × (number ≡ 9) × (at ≡ place)
+    IsFront (front_of rest) × (packet_bytes ≤ length rest) × (number ≡ 9) × (at ≡ place)
 
 -- what is next in the rest, whose first byte is at this place of all that was sent
 abbrev pub IsNext : List ℕ → ℕ → Next → Type 0
 IsNext rest place (Whole p n) = (v : Plain) × BeginsWith (front_of rest) n v × IsPacketOf v p
 IsNext rest place (BadBytes number at) = IsFaultyAt rest place number at ⊎ IsTooLong rest place number at
 IsNext rest place BadPacket = (n : ℕ) × IsNoPacket rest n
-IsNext rest place Waits = IsFront (front_of rest) × (length rest < 262144)
+IsNext rest place Waits = IsFront (front_of rest) × (length rest < packet_bytes)
 
 -- of bytes no two of these stand
 abbrev pub OneNext : Type 0

@@ -16,6 +16,7 @@ use Rattle.pv_binary.specs.declared.tag.Tag.{Tag}
 use Rattle.pv_binary.specs.declared.tag.Tag.TheVariants as tag
 use Rattle.pv_binary.specs.declared.faults.BinKind.{BinKind}
 use Rattle.pv_binary.specs.declared.faults.BinKind.TheVariants as kind
+use Rattle.rl_stream.specs.Limits.{packet_bytes}
 use Rattle.rl_stream.specs.declared.nexts.Next.{Next}
 use Rattle.rl_stream.specs.declared.nexts.Next.TheVariants.{Whole, BadBytes, BadPacket, Waits}
 use Rattle.rl_stream.specs.Nexts.{front_of, IsNext}
@@ -94,20 +95,20 @@ stands_longer b z f (front, tail, os, is, open_, at) = (
 
 -- what is decided on goes on, where it goes on at all
 front_longer : (rest more : List ℕ) → (z : List ℕ) × (front_of (rest ++ more) ≡ front_of rest ++ z)
-front_longer rest more = elim (leb_tells 262144 (length rest)) [
-  | inl l ↦ ([], take-append-le 262144 rest more l.1 ∙ sym (append-nil (front_of rest)))
+front_longer rest more = elim (leb_tells packet_bytes (length rest)) [
+  | inl l ↦ ([], take-append-le packet_bytes rest more l.1 ∙ sym (append-nil (front_of rest)))
   | inr l ↦
-      let n : ℕ = 262144 - length rest in
-      let all : length rest + n ≡ 262144 = omega arith in
-      let whole : take 262144 rest ≡ rest = take_all 262144 rest (omega arith) in (
+      let n : ℕ = packet_bytes - length rest in
+      let all : length rest + n ≡ packet_bytes = omega arith in
+      let whole : take packet_bytes rest ≡ rest = take_all packet_bytes rest (omega arith) in (
         take n more,
         ap (λ m. take m (rest ++ more)) (sym all) ∙ take-append-add rest more n
             ∙ ap (λ (x : List ℕ). x ++ take n more) (sym whole),
       )
 ]
 
-front_full : (rest more : List ℕ) → 262144 ≤ length rest → front_of (rest ++ more) ≡ front_of rest
-front_full rest more l = take-append-le 262144 rest more l
+front_full : (rest more : List ℕ) → packet_bytes ≤ length rest → front_of (rest ++ more) ≡ front_of rest
+front_full rest more l = take-append-le packet_bytes rest more l
 
 still_begins : (rest more : List ℕ) (n : ℕ) (v : Plain) → BeginsWith (front_of rest) n v
     → BeginsWith (front_of (rest ++ more)) n v

@@ -2,6 +2,7 @@
 use Rattle.std.proofs.Common.{◌≡◌, ℕ, suc, ◌<◌, ◌≤◌, List, length, drop, arith, length-drop, length-take}
 use Rattle.pv_binary.specs.Lemmas.Begins.{begins_some}
 use Rattle.rl_packet.specs.declared.packets.Packet.{Packet}
+use Rattle.rl_stream.specs.Limits.{packet_bytes}
 use Rattle.rl_stream.specs.Nexts.{IsNext, front_of}
 use Rattle.rl_stream.specs.declared.nexts.Next.TheVariants.{Whole}
 
@@ -9,7 +10,7 @@ pub whole_fits : (rest : List ℕ) (place size : ℕ) (p : Packet) → IsNext re
     → (1 ≤ size) × (size ≤ length rest)
 whole_fits rest place size p h = (
   begins_some (front_of rest) size h.0 h.1,
-  omega (arith, h.1.0, length-take 262144 rest),
+  omega (arith, h.1.0, length-take packet_bytes rest),
 )
 
 -- what is left behind it is shorter

@@ -1,9 +1,10 @@
 use Rattle.std.proofs.Common.{◌≡◌, ℕ, List, length, take, min, ◌∙◌, ap, arith}
 use Rattle.std.proofs.lemmas.List.{take_min}
+use Rattle.rl_stream.specs.Limits.{packet_bytes}
 use Rattle.rl_stream.proofs.nexts.front_of.Goals as goal
 
 least : (n m : ℕ) (xs : List ℕ) → m ≡ min (length xs) n → take m xs ≡ take n xs
 least n m xs e = let f : m ≡ min n (length xs) = omega arith in ap (λ k. take k xs) f ∙ take_min n xs
 
 pub returns : goal.returns
-returns c = least 262144 _ _ c.min.ensures
+returns c = least packet_bytes _ _ c.min.ensures
