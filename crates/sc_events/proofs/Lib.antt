@@ -1,3 +1,4 @@
 pub mod Fielded
 pub mod ReadAs
 pub mod Readings
+pub mod SoFar

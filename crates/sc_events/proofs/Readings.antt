@@ -1,6 +1,6 @@
 -- How values one behind another are read: in one way, where each of them is; and in some way, where each is.
-use Rattle.std.proofs.Common.{◌≡◌, ◌≢◌, ℕ, zero, suc, ◌<◌, Bool, true, false, List, [], ◌∷◌, length, drop, ◌⊎◌, inl}
-use Rattle.std.proofs.Common.{inr}
+use Rattle.std.proofs.Common.{◌≡◌, ◌≢◌, ℕ, zero, suc, ◌<◌, Bool, true, false, List, [], ◌∷◌, ◌++◌, length, drop}
+use Rattle.std.proofs.Common.{◌⊎◌, inl, inr}
 use Rattle.std.proofs.Common.{refl, sym, ap, ◌∙◌, subst, arith}
 use Rattle.std.proofs.lemmas.List.Elements.{All-drop}
 use Rattle.pv_value.specs.Plain.{Plain}
@@ -34,6 +34,12 @@ module _ {V : Type 0} (To : List ℕ → V → List ℕ → Type 0) where
       let n = one bytes v w l.0 m.0 l.1 m.1 in
       let r = same_values one m.0 vs ws x y (subst (λ b. LeadsOver To b vs x) n.1 l.2) s m.2 t in
       ((λ i. n.0 i ∷ r.0 i), r.1)
+
+  -- values, and others behind them
+  pub leads_through : (bytes : List ℕ) (vs : List V) (rest : List ℕ) (ws : List V) (end : List ℕ)
+      → LeadsOver To bytes vs rest → LeadsOver To rest ws end → LeadsOver To bytes (vs ++ ws) end
+  leads_through bytes [] rest ws end l m = subst (λ b. LeadsOver To b ws end) (sym l) m
+  leads_through bytes (v ∷ vs) rest ws end l m = (l.0, l.1, leads_through l.0 vs rest ws end l.2 m)
 
   -- where what is left has a property, and each such list stops so or goes on with a value
   module _ (P Stop : List ℕ → Type 0)
@@ -93,12 +99,21 @@ module _ (three : (bytes : List ℕ) → AreBytes bytes → OneOfThreeHolds byte
         | inr (inr f) ↦ inl (inr (some, λ v more l. t.1.value_and_fault (l.0, v, l.1) f))
       ]
 
-  pub some_reading : (bytes : List ℕ) → AreBytes bytes → (vs : List Plain) × (whole : Bool) × AreRead bytes vs whole
-  some_reading bytes p =
-      let r = some_values Leads AreBytes IsStop next_binary leads_less bytes p in
+  bytes_left : (bytes : List ℕ) (vs : List Plain) (rest : List ℕ) → AreBytes bytes → LeadsOver Leads bytes vs rest
+      → AreBytes rest
+  bytes_left bytes [] rest p l = subst AreBytes l p
+  bytes_left bytes (v ∷ vs) rest p l =
+      bytes_left l.0 vs rest (subst AreBytes (sym l.1.2) (All-drop (λ n. n < 256) l.1.0 bytes p)) l.2
+
+  -- behind some values
+  pub reading_on : (bytes : List ℕ) (vs : List Plain) (rest : List ℕ) → AreBytes bytes → LeadsOver Leads bytes vs rest
+      → (ws : List Plain) × (whole : Bool) × AreRead bytes (vs ++ ws) whole
+  reading_on bytes vs rest p l =
+      let r = some_values Leads AreBytes IsStop next_binary leads_less rest (bytes_left bytes vs rest p l) in
+      let all = leads_through Leads bytes vs rest r.0 r.1 l r.2 in
       elim r.3 [
-        | inl e ↦ (r.0, true, subst (λ x. LeadsOver Leads bytes r.0 x) e r.2)
-        | inr s ↦ (r.0, false, (r.1, r.2, s))
+        | inl e ↦ (r.0, true, subst (λ x. LeadsOver Leads bytes (vs ++ r.0) x) e all)
+        | inr s ↦ (r.0, false, (r.1, all, s))
       ]
 
 -- ---- in text
@@ -140,11 +155,13 @@ module _ (one_way : IsOneWay) where
         | inr (inr f) ↦ inl (inr (f, λ v more l. t.1.value_and_fault (v, more, l) f))
       ]
 
-  pub some_text_reading : (text : List ℕ) → (vs : List Plain) × (whole : Bool) × AreTextRead text vs whole
-  some_text_reading text =
+  pub text_reading_on : (text : List ℕ) (vs : List Plain) (rest : List ℕ) → LeadsOver LeadsTo text vs rest
+      → (ws : List Plain) × (whole : Bool) × AreTextRead text (vs ++ ws) whole
+  text_reading_on text vs rest l =
       let r = some_values LeadsTo (λ b. Unit {0}) (IsTextStop (length text)) (next_text (length text)) leads_shorter
-      text tt in
+      rest tt in
+      let all = leads_through LeadsTo text vs rest r.0 r.1 l r.2 in
       elim r.3 [
-        | inl g ↦ (r.0, true, (r.1, r.2, g))
-        | inr s ↦ (r.0, false, (r.1, r.2, s))
+        | inl g ↦ (r.0, true, (r.1, all, g))
+        | inr s ↦ (r.0, false, (r.1, all, s))
       ]

@@ -2,4 +2,5 @@ pub mod Events
 pub mod Inputs
 pub mod Lemmas
 pub mod Readings
+pub mod SoFar
 pub mod TextInputs

@@ -10,5 +10,5 @@ mod inputs;
 mod laws;
 
 pub use events::{ScriptEvent, event_of};
-pub use inputs::{Form, INPUT_BYTES, is_text, read_values};
+pub use inputs::{Form, INPUT_BYTES, NextFault, Values};
 pub use laws::one_reading;
