@@ -46,8 +46,8 @@ parse_each-loop-x-preserved t c =
     let i = c.loop-x.x-index in
     let later = rest (drop (i + 1) all) in
     let next = ap rest (drop_is all i c.x-item.result (omega arith) c.x-item.is) in
-    let some : Some c.in-Some.template ≡ template_of c.args.self.own c.args.self.names c.x-item.result = sym c.in-Some.is
-    ∙ c.in_ok-template.ensures in
+    let some : Some c.in-Some.template ≡ template_of c.args.self.own c.args.self.names c.x-item.result =
+    sym c.in-Some.is ∙ c.in_ok-template.ensures in
     folded_on put_template c.loop-x.templates.items _ c.in-Some.template _ later (rest all) c.in_ok-push.ensures.items
     (ap (λ o. with_template o later) some ∙ sym next) c.loop-x.invariant
 
@@ -66,7 +66,8 @@ parse_values-parse_template-requires t c =
 
 pub parse_values-returns-in_default : goal.parse_values-returns-in_default
 parse_values-returns-in_default t c =
-    let rest = λ (es : List Entry). templates_in_pairs c.args.self.own c.args.self.names (pairs (map key_and_value es)) in
+    let rest = λ (es : List Entry).
+    templates_in_pairs c.args.self.own c.args.self.names (pairs (map key_and_value es)) in
     let all = c.args.entries.now in
     let i = c.loop-e.e-index in
     let later = rest (drop (i + 1) all) in
@@ -79,19 +80,21 @@ parse_values-returns-in_default t c =
 
 pub parse_values-loop-e-preserved : goal.parse_values-loop-e-preserved
 parse_values-loop-e-preserved t c =
-    let rest = λ (es : List Entry). templates_in_pairs c.args.self.own c.args.self.names (pairs (map key_and_value es)) in
+    let rest = λ (es : List Entry).
+    templates_in_pairs c.args.self.own c.args.self.names (pairs (map key_and_value es)) in
     let all = c.args.entries.now in
     let i = c.loop-e.e-index in
     let later = rest (drop (i + 1) all) in
     let next = ap rest (drop_is all i c.e-item.result (omega arith) c.e-item.is) in
-    let some : Some c.in-Some.template ≡ template_of c.args.self.own c.args.self.names c.e-item.result.value = sym c.in-Some.is
-    ∙ c.in_ok-template.ensures in
+    let some : Some c.in-Some.template ≡ template_of c.args.self.own c.args.self.names c.e-item.result.value =
+    sym c.in-Some.is ∙ c.in_ok-template.ensures in
     folded_on put_template c.loop-e.templates.items _ c.in-Some.template _ later (rest all) c.in_ok-push.ensures.items
     (ap (λ o. with_template o later) some ∙ sym next) c.loop-e.invariant
 
 pub parse_values-returns : goal.parse_values-returns
 parse_values-returns t c =
-    let rest = λ (es : List Entry). templates_in_pairs c.args.self.own c.args.self.names (pairs (map key_and_value es)) in
+    let rest = λ (es : List Entry).
+    templates_in_pairs c.args.self.own c.args.self.names (pairs (map key_and_value es)) in
     let all = c.args.entries.now in
     folded_whole put_template c.loop-e.templates.items (Some no_templates) _ (rest all) _
     (folded_templates c.loop-e.templates.items)
@@ -107,8 +110,10 @@ parse_dictionary-returns-in_ok-parse_values-in-Dict t c =
     ∙ ap (option_map (dictionary_of (keys_of ks)))
     (c.in_ok-parse_values-in-Dict.ensures
     ∙ ap (λ ps. templates_in_pairs c.args.self.own c.args.self.names (pairs ps)) c.as_slice.ensures.same)
-    ∙ ap (λ ls. option_map (dictionary_of ls) (templates_in_pairs c.args.self.own c.args.self.names (pairs ks))) (keys_same ks)
-    ∙ ap (λ x. option_map (dictionary_of (keys_of_value x)) (templates_under_keys c.args.self.own c.args.self.names x)) is)
+    ∙ ap (λ ls. option_map (dictionary_of ls) (templates_in_pairs c.args.self.own c.args.self.names (pairs ks)))
+    (keys_same ks)
+    ∙ ap (λ x. option_map (dictionary_of (keys_of_value x))
+    (templates_under_keys c.args.self.own c.args.self.names x)) is)
     c.new_dictionary.ensures
 
 pub parse_caveats-parse_standing-requires : goal.parse_caveats-parse_standing-requires
@@ -181,12 +186,14 @@ parse_rewrites-loop-x-preserved t c =
 
 pub parse_worded-returns-in-len1 : goal.parse_worded-returns-in-len1
 parse_worded-returns-in-len1 t c =
-    subst (λ fs. IfOk c.parse_short.result (λ u. u ≡ template_of c.args.self.own c.args.self.names (labelled c.args.word.now fs)))
+    subst (λ fs. IfOk c.parse_short.result
+    (λ u. u ≡ template_of c.args.self.own c.args.self.names (labelled c.args.word.now fs)))
     (sym (one_item c.args.parts.now c.x-item.result (omega arith) c.x-item.is)) c.parse_short.ensures
 
 pub parse_worded-returns-in-len2 : goal.parse_worded-returns-in-len2
 parse_worded-returns-in-len2 t c =
-    subst (λ fs. IfOk c.parse_long.result (λ u. u ≡ template_of c.args.self.own c.args.self.names (labelled c.args.word.now fs)))
+    subst (λ fs. IfOk c.parse_long.result
+    (λ u. u ≡ template_of c.args.self.own c.args.self.names (labelled c.args.word.now fs)))
     (sym (two_items c.args.parts.now c.x-item-then-parts-lt3.result c.y-item.result (omega arith)
     c.x-item-then-parts-lt3.is c.y-item.is)) c.parse_long.ensures
 
