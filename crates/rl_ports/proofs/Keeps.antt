@@ -15,6 +15,7 @@ use Rattle.pv_value.specs.Order.{order}
 use Rattle.pv_value.specs.Weight.{weight}
 use Rattle.pv_value.specs.Lemmas.OrderLaws.{order_same}
 use Rattle.pv_words.specs.Parts.{same}
+use Rattle.rl_ports.specs.Limits.{most_exports, most_exports_weight}
 use Rattle.rl_ports.specs.Ports.{place_of, weight_of, told, export_fault, IsWhy, PortsFault, Exports, Weight, NoMemory}
 use Rattle.rl_ports.specs.Kept.{Export, number_at, references, AreOnce, IsWeighed, IsKept, fault_of}
 use Rattle.rl_ports.proofs.Places.{where_it, place-append, same_turns, once_push, once_pop}
@@ -89,9 +90,9 @@ heavier list numbers sum e k weighed =
     ∙ ap told (sym (ap weight_of (references-append list e) ∙ weight_of-append (references list) e.reference))
 
 pub kept_push : (list list' : List Export) (numbers numbers' : List (Plain × ℕ)) (sum sum' : ℕ) (e : Export)
-    → IsKept list numbers sum → place_of e.reference (references list) ≡ None → length list < 4096 → IsWeighed e
+    → IsKept list numbers sum → place_of e.reference (references list) ≡ None → length list < most_exports → IsWeighed e
     → list' ≡ list ++ e ∷ [] → Puts numbers numbers' e.reference (Some (length list)) → sum' ≡ told (sum + e.weight)
-    → sum' ≤ 4194304
+    → sum' ≤ most_exports_weight
     → IsKept list' numbers' sum'
 kept_push list list' numbers numbers' sum sum' e k absent few weighed list_is puts sum_is light =
     let longer = references-append list e in
@@ -160,7 +161,7 @@ kept_pop list list' numbers numbers' sum sum' e k list_is puts sum_is =
 
 -- ---- the limits
 
-pub within : (count sum : ℕ) → fault_of count sum ≡ None → (count ≤ 4096) × (sum ≤ 4194304)
+pub within : (count sum : ℕ) → fault_of count sum ≡ None → (count ≤ most_exports) × (sum ≤ most_exports_weight)
 within count sum none = (grind (arith, nat_tests), grind (arith, nat_tests))
 
 pub fault_is : (list : List Export) (numbers : List (Plain × ℕ)) (sum count told_sum : ℕ) (e : Export)

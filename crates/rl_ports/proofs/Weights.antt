@@ -3,6 +3,7 @@ use Rattle.std.proofs.Common.{◌≡◌, ℕ, ◌+◌, ◌<◌, ◌≤◌, List,
 use Rattle.std.specs.List.{AllByRecursion}
 use Rattle.pv_value.specs.Plain.{Plain}
 use Rattle.pv_value.specs.Weight.{weight}
+use Rattle.rl_ports.specs.Limits.{most_exports_weight}
 use Rattle.rl_ports.specs.Ports.{weight_of, told}
 
 pub weight_of-append : (xs : List Plain) (r : Plain) → weight_of (xs ++ r ∷ []) ≡ weight_of xs + weight r
@@ -14,7 +15,7 @@ pub told_sum : (m n : ℕ) → told (told m + told n) ≡ told (m + n)
 told_sum m n = omega arith
 
 -- where there are others, what the newest weighs is told whole
-pub told_newest : (xs : List Plain) (w : ℕ) → (0 < length xs → weight_of xs + w ≤ 4194304)
+pub told_newest : (xs : List Plain) (w : ℕ) → (0 < length xs → weight_of xs + w ≤ most_exports_weight)
     → told (weight_of xs + w) ≡ told (weight_of xs) + told w
 told_newest [] w light = omega arith
 told_newest (x ∷ xs) w light = omega (arith, light (omega arith))

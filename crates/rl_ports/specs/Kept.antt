@@ -7,6 +7,7 @@ use Rattle.std.specs.Map.{lookup}
 use Rattle.pv_value.specs.Plain.{Plain}
 use Rattle.pv_value.specs.Order.{order}
 use Rattle.pv_value.specs.Weight.{weight}
+use Rattle.rl_ports.specs.Limits.{most_exports, most_exports_weight}
 use Rattle.rl_ports.specs.Ports.{PortsFault, Exports, Weight, place_of, weight_of, told}
 pub use Rattle.rl_ports.specs.declared.export_list.Export.{Export}
 
@@ -26,15 +27,16 @@ abbrev pub IsWeighed : Export → Type 0
 IsWeighed e = e.weight ≡ told (weight e.reference)
 
 pub record IsKept (list : List Export) (numbers : List (Plain × ℕ)) (sum : ℕ) : Type 0 where
-  pub few : length list ≤ 4096
+  pub few : length list ≤ most_exports
   pub once : AreOnce (references list)
   pub numbered : (r : Plain) → number_at r numbers ≡ place_of r (references list)
   pub weighed : AllByRecursion IsWeighed list
   pub sum_is : sum ≡ told (weight_of (references list))
   -- the first one weighs what it does, and none is put behind it where they would be too heavy
-  pub light : 1 < length list → weight_of (references list) ≤ 4194304
+  pub light : 1 < length list → weight_of (references list) ≤ most_exports_weight
 
 -- why so many exports, of this weight, are too many or too heavy
 abbrev pub fault_of : ℕ → ℕ → Option PortsFault
 fault_of count sum =
-    if nat_lt 4096 count then Some (Exports count) else if nat_lt 4194304 sum then Some (Weight sum) else None
+    if nat_lt most_exports count then Some (Exports count)
+    else if nat_lt most_exports_weight sum then Some (Weight sum) else None

@@ -9,6 +9,7 @@ use Rattle.std.specs.Ordering.{nat_cmp}
 use Rattle.pv_value.specs.Weight.{weight}
 use Rattle.pv_value.specs.Plain.{Plain}
 use Rattle.pv_words.specs.Parts.{same}
+use Rattle.rl_ports.specs.Limits.{most_exports, most_exports_weight}
 pub use Rattle.rl_ports.specs.declared.ports.Inbound.{Inbound}
 pub use Rattle.rl_ports.specs.declared.ports.Inbound.TheVariants.{Row, Refused}
 pub use Rattle.rl_ports.specs.declared.ports.PortsFault.{PortsFault}
@@ -68,8 +69,8 @@ told n = min n (2 ^ 64 - 1)
 -- at most 4,096 exports, export 0 among them, which weigh at most 4,194,304 together
 abbrev pub export_fault : List Plain → Option PortsFault
 export_fault xs =
-    if nat_lt 4096 (length xs) then Some (Exports (length xs))
-    else if nat_lt 4194304 (told (weight_of xs)) then Some (Weight (told (weight_of xs))) else None
+    if nat_lt most_exports (length xs) then Some (Exports (length xs))
+    else if nat_lt most_exports_weight (told (weight_of xs)) then Some (Weight (told (weight_of xs))) else None
 
 -- why an export more is refused: what is there already is never refused
 abbrev pub fault_at : Plain → List Plain → Option PortsFault

@@ -6,6 +6,7 @@ ghost use Rattle.std.specs.BTreeMap.{is_at};
 ghost use Rattle.std.specs.Option.{option_copied};
 ghost use Rattle.pv_value.specs.Plain.{Plain};
 ghost use Rattle.pv_value.specs.Order.{order};
+ghost use Rattle.rl_ports.specs.Limits.{most_exports};
 ghost use Rattle.rl_ports.specs.Ports.{place_of, export_fault, IsWhy};
 ghost use Rattle.rl_ports.specs.Kept.{number_at, fault_of};
 
@@ -78,7 +79,7 @@ impl ExportList {
     /// How many there are. They are few.
     pub(crate) fn len(&self) -> usize
         ensures count { result ≡ length self.now }
-        ensures few { result ≤ 4096 }
+        ensures few { result ≤ most_exports }
     {
         self.list.len()
     }

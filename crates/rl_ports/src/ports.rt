@@ -1,6 +1,7 @@
 //! The exports and the inbound handles of one connection.
 ghost use Rattle.std.specs.Prelude.{◌≡◌, ◌≤◌, None, IfOk, IfErr, OnOk, OnErr, length, take};
 ghost use Rattle.std.specs.Option.{option_copied};
+ghost use Rattle.rl_ports.specs.Limits.{most_exports};
 ghost use Rattle.rl_ports.specs.Ports.{ports_to, inbound_of, taken_into_use, freed, export_of};
 ghost use Rattle.rl_ports.specs.Ports.{exported, number_of, fault_at, with_exports, place_of};
 ghost use Rattle.rl_ports.specs.Ports.{IsWhy};
@@ -99,7 +100,7 @@ impl Ports {
     /// How many exports there are, at most [`EXPORTS`].
     pub fn exports(&self) -> usize
         ensures count { result ≡ length self.now.exports }
-        ensures few { result ≤ 4096 }
+        ensures few { result ≤ most_exports }
     {
         self.exports.len()
     }
