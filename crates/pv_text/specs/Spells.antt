@@ -79,6 +79,8 @@ SpellsIn n commas t v r = Annotated (IsCoreIn n commas) commas t v r
 
 -- ---- whole texts
 
--- the text spells the value
+-- The text spells the value, from its first byte to its last. The white space inside is part of it, also that between an
+-- annotation and the value; the white space before and after is none, since it may as well belong to a neighbour: what
+-- is read of a text says by itself which gaps it passes (Reads.antt).
 abbrev pub TextSpells : List ℕ → Plain → Type 0
 TextSpells t v = IsUtf8 t × (n : ℕ) × SpellsIn n false t v []

@@ -8,6 +8,3 @@ mod values;
 pub use laws::{text_is_judged_as_a_whole, texts_are_read_one_way};
 pub use pv_lex::{TextFault, TextKind};
 pub use values::{next_value, read_all, read_text};
-
-/// How many levels of nesting are read.
-pub const READ_DEPTH: u32 = 64;

@@ -12,9 +12,9 @@ ghost use Rattle.pv_text.specs.Stops.{TextStands};
 ghost use Rattle.pv_text.specs.Reads.{LeadsTo, NextStops, BeginsWith, AreValuesOf};
 ghost use Rattle.pv_text.specs.Reads.{ValuesStand, IsNext};
 
-use crate::READ_DEPTH;
 use crate::reading::{End, read_value};
 use pv_lex::{TextFault, TextKind, skip_blank};
+use pv_read::READ_DEPTH;
 use pv_value::{Items, Value};
 use simdutf8::compat::from_utf8;
 use std::alloc::Global;
