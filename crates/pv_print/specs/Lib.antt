@@ -1,7 +1,6 @@
 pub mod Bare
 pub mod Base64
 pub mod Escaped
-pub mod Fronts
 pub mod Hex
 pub mod Lines
 pub mod Printed

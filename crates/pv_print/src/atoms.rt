@@ -2,17 +2,17 @@
 ghost use Rattle.std.specs.Prelude.{◌≡◌, ◌≤◌, ◌++◌, ◌∷◌, [], length, take, OnOk};
 ghost use Rattle.std.specs.Fmt.{signed_decimal};
 ghost use Rattle.std.specs.Int.{w64, to_be_bytes};
-ghost use Rattle.pv_print.specs.Fronts.{IsFront};
+ghost use Rattle.std.specs.Io.{StartsWith};
 ghost use Rattle.pv_print.specs.Hex.{hex_pairs};
 ghost use Rattle.pv_print.specs.Escaped.{control_escape, stands_raw, escape, escaped, quoted};
 
-use crate::bytes::{push_byte, push_bytes, push_hex};
+use crate::bytes::push_hex;
 use itoa::Buffer;
-use pv_value::NoMemory;
+use pv_value::{NoMemory, push_byte, push_bytes};
 
 pub(crate) fn push_int(out: &mut Vec<u8>, n: i128) -> Result<(), NoMemory>
     ensures exact { OnOk result (out.new.items ≡ out.old.items ++ signed_decimal n) }
-    ensures front { IsFront out.old.items out.new.items }
+    ensures front { StartsWith out.new.items out.old.items }
 {
     let mut buffer = Buffer::new();
     push_bytes(out, buffer.format(n).as_bytes())
@@ -22,7 +22,7 @@ pub(crate) fn push_int(out: &mut Vec<u8>, n: i128) -> Result<(), NoMemory>
 pub(crate) fn push_double(out: &mut Vec<u8>, bits: u64) -> Result<(), NoMemory>
     ensures exact { OnOk result (out.new.items ≡ out.old.items
         ++ 35 ∷ 120 ∷ 100 ∷ 34 ∷ (hex_pairs (to_be_bytes w64 bits) ++ 34 ∷ [])) }
-    ensures front { IsFront out.old.items out.new.items }
+    ensures front { StartsWith out.new.items out.old.items }
 {
     push_bytes(out, b"#xd\"")?;
     push_hex(out, &bits.to_be_bytes())?;
@@ -32,7 +32,7 @@ pub(crate) fn push_double(out: &mut Vec<u8>, bits: u64) -> Result<(), NoMemory>
 /// Text between quotes.
 pub(crate) fn push_quoted(out: &mut Vec<u8>, quote: u8, text: &[u8]) -> Result<(), NoMemory>
     ensures exact { OnOk result (out.new.items ≡ out.old.items ++ quoted quote text.now) }
-    ensures front { IsFront out.old.items out.new.items }
+    ensures front { StartsWith out.new.items out.old.items }
 {
     push_byte(out, quote)?;
     push_escapes(out, quote, text)?;
@@ -42,7 +42,7 @@ pub(crate) fn push_quoted(out: &mut Vec<u8>, quote: u8, text: &[u8]) -> Result<(
 /// Text as it stands between quotes. What stands as it is goes in a run.
 fn push_escapes(out: &mut Vec<u8>, quote: u8, text: &[u8]) -> Result<(), NoMemory>
     ensures exact { OnOk result (out.new.items ≡ out.old.items ++ escaped quote text.now) }
-    ensures front { IsFront out.old.items out.new.items }
+    ensures front { StartsWith out.new.items out.old.items }
 {
     let mut rest = text;
     while !rest.is_empty() {
@@ -77,7 +77,7 @@ fn stands_raw(quote: u8, b: u8) -> bool
 
 fn push_escaped(out: &mut Vec<u8>, quote: u8, b: u8) -> Result<(), NoMemory>
     ensures exact { OnOk result (out.new.items ≡ out.old.items ++ escape quote b) }
-    ensures front { IsFront out.old.items out.new.items }
+    ensures front { StartsWith out.new.items out.old.items }
 {
     if b == quote || b == b'\\' {
         push_bytes(out, &[b'\\', b])
@@ -90,7 +90,7 @@ fn push_escaped(out: &mut Vec<u8>, quote: u8, b: u8) -> Result<(), NoMemory>
 
 fn push_control(out: &mut Vec<u8>, b: u8) -> Result<(), NoMemory>
     ensures exact { OnOk result (out.new.items ≡ out.old.items ++ control_escape b) }
-    ensures front { IsFront out.old.items out.new.items }
+    ensures front { StartsWith out.new.items out.old.items }
 {
     match b {
         8 => push_bytes(out, b"\\b"),

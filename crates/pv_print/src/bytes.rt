@@ -1,32 +1,16 @@
-//! Bytes at the end of the text that is made, and bytes in hexadecimal and base64.
+//! Bytes in hexadecimal and base64, at the end of the text that is made.
 ghost use Rattle.std.specs.Prelude.{◌≡◌, ◌++◌, ◌∷◌, [], OnOk};
-ghost use Rattle.pv_print.specs.Fronts.{IsFront};
+ghost use Rattle.std.specs.Io.{StartsWith};
 ghost use Rattle.pv_print.specs.Hex.{hex_pairs};
 ghost use Rattle.pv_print.specs.Base64.{in_base64};
 
 use base64::engine::general_purpose::STANDARD;
-use pv_value::NoMemory;
-
-pub(crate) fn push_byte(out: &mut Vec<u8>, byte: u8) -> Result<(), NoMemory>
-    ensures exact { OnOk result (out.new.items ≡ out.old.items ++ byte ∷ []) }
-    ensures front { IsFront out.old.items out.new.items }
-{
-    out.push(byte)?;
-    Ok(())
-}
-
-pub(crate) fn push_bytes(out: &mut Vec<u8>, bytes: &[u8]) -> Result<(), NoMemory>
-    ensures exact { OnOk result (out.new.items ≡ out.old.items ++ bytes.now) }
-    ensures front { IsFront out.old.items out.new.items }
-{
-    out.extend_from_slice(bytes)?;
-    Ok(())
-}
+use pv_value::{NoMemory, push_bytes};
 
 /// Two lower-case hexadecimal digits for each byte.
 pub(crate) fn push_hex(out: &mut Vec<u8>, bytes: &[u8]) -> Result<(), NoMemory>
     ensures exact { OnOk result (out.new.items ≡ out.old.items ++ hex_pairs bytes.now) }
-    ensures front { IsFront out.old.items out.new.items }
+    ensures front { StartsWith out.new.items out.old.items }
 {
     let digits = hex::encode(*out.allocator(), bytes)?;
     push_bytes(out, digits.as_bytes())
@@ -35,7 +19,7 @@ pub(crate) fn push_hex(out: &mut Vec<u8>, bytes: &[u8]) -> Result<(), NoMemory>
 /// Base64 in the standard alphabet with padding.
 pub(crate) fn push_base64(out: &mut Vec<u8>, bytes: &[u8]) -> Result<(), NoMemory>
     ensures exact { OnOk result (out.new.items ≡ out.old.items ++ in_base64 bytes.now) }
-    ensures front { IsFront out.old.items out.new.items }
+    ensures front { StartsWith out.new.items out.old.items }
 {
     let digits = STANDARD.encode(*out.allocator(), bytes)?;
     push_bytes(out, digits.as_bytes())

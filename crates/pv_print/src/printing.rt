@@ -5,14 +5,14 @@ ghost use Rattle.pv_value.specs.View.{key_and_value};
 ghost use Rattle.pv_value.specs.Depth.{depth};
 ghost use Rattle.pv_text.specs.Spells.{TextSpells};
 ghost use Rattle.pv_text.specs.Reads.{BeginsWith};
-ghost use Rattle.pv_print.specs.Fronts.{IsFront};
+ghost use Rattle.std.specs.Io.{StartsWith};
 ghost use Rattle.pv_print.specs.Printed.{printed, printed_all, printed_behind};
 ghost use Rattle.pv_print.specs.Printed.{printed_entries, entries_behind};
 
 use crate::atoms::{push_double, push_int, push_quoted};
-use crate::bytes::{push_base64, push_byte, push_bytes};
+use crate::bytes::push_base64;
 use crate::symbols::push_symbol;
-use pv_value::{Entry, NoMemory, Node, Text, Value};
+use pv_value::{Entry, NoMemory, Node, Text, Value, push_byte, push_bytes};
 use std::alloc::Global;
 
 /// The one compact text of a value: sets and dictionaries in ascending order, one space where white
@@ -33,7 +33,7 @@ pub fn print(alloc: Global, v: &Value) -> Result<Text, NoMemory>
 /// The same text behind what stands there; where memory runs out, some front of it may stand there.
 pub fn print_into(out: &mut Vec<u8>, v: &Value) -> Result<(), NoMemory>
     ensures exact { OnOk result (out.new.items ≡ out.old.items ++ printed v.now) }
-    ensures front { IsFront out.old.items out.new.items }
+    ensures front { StartsWith out.new.items out.old.items }
 {
     push_value(out, v)
 }
@@ -41,7 +41,7 @@ pub fn print_into(out: &mut Vec<u8>, v: &Value) -> Result<(), NoMemory>
 #[cycle(push)]
 fn push_value(out: &mut Vec<u8>, v: &Value) -> Result<(), NoMemory>
     ensures exact { OnOk result (out.new.items ≡ out.old.items ++ printed v.now) }
-    ensures front { IsFront out.old.items out.new.items }
+    ensures front { StartsWith out.new.items out.old.items }
 {
     match &v.node {
         Node::Bool(false) => push_bytes(out, b"#f"),
@@ -84,7 +84,7 @@ fn push_value(out: &mut Vec<u8>, v: &Value) -> Result<(), NoMemory>
 fn push_all(out: &mut Vec<u8>, items: &[Value], close: u8) -> Result<(), NoMemory>
     ensures exact { OnOk result (out.new.items ≡ out.old.items
         ++ (printed_all (plains items.now) ++ close ∷ [])) }
-    ensures front { IsFront out.old.items out.new.items }
+    ensures front { StartsWith out.new.items out.old.items }
 {
     match items.split_first() {
         None => push_byte(out, close),
@@ -100,7 +100,7 @@ fn push_all(out: &mut Vec<u8>, items: &[Value], close: u8) -> Result<(), NoMemor
 fn push_behind(out: &mut Vec<u8>, items: &[Value], close: u8) -> Result<(), NoMemory>
     ensures exact { OnOk result (out.new.items ≡ out.old.items
         ++ (printed_behind (plains items.now) ++ close ∷ [])) }
-    ensures front { IsFront out.old.items out.new.items }
+    ensures front { StartsWith out.new.items out.old.items }
 {
     for x in items {
         push_byte(out, b' ')?;
@@ -114,7 +114,7 @@ fn push_behind(out: &mut Vec<u8>, items: &[Value], close: u8) -> Result<(), NoMe
 fn push_entries(out: &mut Vec<u8>, entries: &[Entry]) -> Result<(), NoMemory>
     ensures exact { OnOk result (out.new.items ≡ out.old.items
         ++ (printed_entries (pairs (map key_and_value entries.now)) ++ 125 ∷ [])) }
-    ensures front { IsFront out.old.items out.new.items }
+    ensures front { StartsWith out.new.items out.old.items }
 {
     match entries.split_first() {
         None => push_byte(out, b'}'),
@@ -130,7 +130,7 @@ fn push_entries(out: &mut Vec<u8>, entries: &[Entry]) -> Result<(), NoMemory>
 fn push_entries_behind(out: &mut Vec<u8>, entries: &[Entry]) -> Result<(), NoMemory>
     ensures exact { OnOk result (out.new.items ≡ out.old.items
         ++ (entries_behind (pairs (map key_and_value entries.now)) ++ 125 ∷ [])) }
-    ensures front { IsFront out.old.items out.new.items }
+    ensures front { StartsWith out.new.items out.old.items }
 {
     for e in entries {
         push_byte(out, b' ')?;
@@ -144,7 +144,7 @@ fn push_entries_behind(out: &mut Vec<u8>, entries: &[Entry]) -> Result<(), NoMem
 fn push_entry(out: &mut Vec<u8>, entry: &Entry) -> Result<(), NoMemory>
     ensures exact { OnOk result (out.new.items ≡ out.old.items
         ++ (printed entry.now.key ++ 58 ∷ 32 ∷ printed entry.now.value)) }
-    ensures front { IsFront out.old.items out.new.items }
+    ensures front { StartsWith out.new.items out.old.items }
 {
     push_value(out, &entry.key)?;
     push_bytes(out, b": ")?;

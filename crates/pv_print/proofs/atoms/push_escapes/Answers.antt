@@ -14,7 +14,7 @@ loop-rest-preserved c =
           (sym (take-append-drop n rest)
           ∙ ap (λ (x : List ℕ). take n rest ++ x) (sym c.split_at.ensures.back ∙ c.in-Some.ensures.cases.0))
           c.raw_length.ensures.raw
-          (c.in_ok-push_bytes.ensures.exact ∙ ap (λ (x : List ℕ). out ++ x) c.split_at.ensures.front)
+          (c.in_ok-push_bytes.ensures.all ∙ ap (λ (x : List ℕ). out ++ x) c.split_at.ensures.front)
           c.in_ok-push_escaped.ensures.exact;
       front =
           front_on _ out _ c.loop-rest.invariant.front

@@ -6,4 +6,4 @@ pub returns : goal.returns
 returns c =
     let e = c.as_bytes.ensures.value ∙ c.in_ok-digits.ensures.text
     ∙ base64_is c.args.bytes.now (λ i. let f = c.type_inv.bytes i in omega arith) in
-    rw e at c.push_bytes.ensures
+    record { exact = rw e at c.push_bytes.ensures.all; front = c.push_bytes.ensures.front }

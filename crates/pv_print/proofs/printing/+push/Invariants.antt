@@ -2,7 +2,7 @@ use Rattle.std.proofs.Common.{◌≡◌, ◌+◌, ◌*◌, ◌++◌, drop, map}
 use Rattle.pv_value.specs.Plain.{plains, pairs}
 use Rattle.pv_value.specs.Lemmas.Measures.{measure, measure_all, measure_pairs}
 use Rattle.pv_value.specs.View.{key_and_value}
-use Rattle.pv_print.specs.Fronts.{IsFront}
+use Rattle.std.specs.Io.{StartsWith}
 use Rattle.pv_print.specs.Printed.{printed_behind, entries_behind}
 use Rattle.pv_print.proofs.printing.+push.Given as goal
 
@@ -28,12 +28,12 @@ abbrev pub invariant-push_behind-loop-x : goal.invariant-push_behind-loop-x
 invariant-push_behind-loop-x l = record {
   text : l.out.items ++ printed_behind (plains (drop l.x-index l.items))
       ≡ l.initial.out.items ++ printed_behind (plains l.items);
-  front : IsFront l.initial.out.items l.out.items;
+  front : StartsWith l.out.items l.initial.out.items;
 }
 
 abbrev pub invariant-push_entries_behind-loop-e : goal.invariant-push_entries_behind-loop-e
 invariant-push_entries_behind-loop-e l = record {
   text : l.out.items ++ entries_behind (pairs (map key_and_value (drop l.e-index l.entries)))
       ≡ l.initial.out.items ++ entries_behind (pairs (map key_and_value l.entries));
-  front : IsFront l.initial.out.items l.out.items;
+  front : StartsWith l.out.items l.initial.out.items;
 }
