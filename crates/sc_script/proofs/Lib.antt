@@ -1,8 +1,8 @@
 pub mod Coming
-pub mod CourseOfInput
 pub mod Courses
 pub mod EventCourses
 pub mod FaultsPassed
+pub mod InputCourses
 pub mod Nexts
 pub mod NoPackets
 pub mod Notes
@@ -12,4 +12,3 @@ pub mod PartsPassed
 pub mod Reading
 pub mod Replays
 pub mod Stepping
-pub mod ValuesInTurn

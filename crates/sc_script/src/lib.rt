@@ -14,4 +14,4 @@ pub use faults::ScriptFault;
 pub use laws::one_course;
 pub use ran::run_script;
 pub use rl_stream::next_is_decided;
-pub use sc_events::{Form, is_text, one_reading};
+pub use sc_events::{Form, one_reading};

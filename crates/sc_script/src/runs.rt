@@ -8,8 +8,8 @@ ghost use Rattle.sc_events.specs.Events.{event_of, NamesASpace};
 ghost use Rattle.sc_script.specs.declared.faults.ScriptFault.TheVariants as fault;
 ghost use Rattle.sc_script.specs.Runs.{Running, Course, goes, beginning, stepped, turned, drained};
 ghost use Rattle.sc_script.specs.Runs.{with_stream, with_no_packet, packets_read, bytes_come};
-ghost use Rattle.sc_script.specs.Runs.{was_opened, may_turn, after_event, after_value, course_of};
-ghost use Rattle.sc_script.specs.Runs.{size_of, noted, IsAt, HasRun, IsStopped, RunsAs, StopsAs};
+ghost use Rattle.sc_script.specs.Runs.{was_opened, may_turn, after_event, after_value};
+ghost use Rattle.sc_script.specs.Runs.{size_of, noted, IsAt, RunsAs, StopsAs};
 ghost use Rattle.sc_script.specs.Runs.{with_packet, ReadsOn};
 
 use crate::faults::ScriptFault;
@@ -72,7 +72,8 @@ fn size_of(alloc: Global, packet: &Packet) -> Result<usize, NoMemory>
 }
 
 impl<S: Space + Drop> Run<S> {
-    fn begin(alloc: Global) -> Result<Run<S>, NoMemory>
+    /// Nothing is done yet.
+    pub(crate) fn begin(alloc: Global) -> Result<Run<S>, NoMemory>
         ensures { IfOk result (IsAt beginning) }
     {
         Ok(Run {
@@ -341,7 +342,7 @@ impl<S: Space + Drop> Run<S> {
     }
 
     /// Value `place` of a script.
-    fn value(self, alloc: Global, place: u64, value: &Value) -> Result<Run<S>, ScriptFault>
+    pub(crate) fn value(self, alloc: Global, place: u64, value: &Value) -> Result<Run<S>, ScriptFault>
         ensures run { IfOk result
             (RunsAs self (λ N. after_value N place (event_of value.now))) }
         ensures stop { IfErr result
@@ -351,28 +352,5 @@ impl<S: Space + Drop> Run<S> {
             Some(event) => self.event(alloc, place, event),
             None => Err(ScriptFault::Bad(place)),
         }
-    }
-
-    /// The run of values, which were read to the end of the input or to where no more could be.
-    pub(crate) fn of_values(
-        alloc: Global,
-        values: &[Value],
-        whole: bool,
-    ) -> Result<Run<S>, ScriptFault>
-        ensures run { IfOk result (λ run. (N : Decider) → Decides N
-            → HasRun (course_of N values.now whole) run) }
-        ensures stop { IfErr result (λ f. (N : Decider) → Decides N
-            → IsStopped (course_of N values.now whole) f) }
-    {
-        let mut run = Run::begin(alloc)?;
-        let mut place = 0;
-        for value in values {
-            run = run.value(alloc, place, value)?;
-            place += 1;
-        }
-        if !whole {
-            return Err(ScriptFault::Bad(place));
-        }
-        Ok(run)
     }
 }

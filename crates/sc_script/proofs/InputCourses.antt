@@ -1,0 +1,148 @@
+-- The course of an input: how it goes on with each value that is read and done, and how it ends or stops.
+use Rattle.std.proofs.Common.{◌≡◌, ℕ, ◌+◌, ◌≤◌, Bool, true, false, List, [], ◌∷◌, ◌++◌, length, Option, Some, None}
+use Rattle.std.proofs.Common.{inr, refl, sym, ap, ◌∙◌, subst, arith, length-append}
+use Rattle.pv_value.specs.Plain.{Plain}
+use Rattle.rl_stream.specs.Nexts.{Decider, Decides}
+use Rattle.sc_events.specs.declared.inputs.Form.{Form}
+use Rattle.sc_events.specs.declared.inputs.Values.{Values}
+use Rattle.sc_events.specs.Events.{event_of}
+use Rattle.sc_events.specs.Readings.{AreReadAs}
+use Rattle.sc_events.specs.SoFar.{AreSoFar}
+use Rattle.sc_events.specs.Lemmas.Reading.{few_so_far}
+use Rattle.sc_script.specs.declared.faults.ScriptFault.{ScriptFault}
+use Rattle.sc_script.specs.declared.faults.ScriptFault.TheVariants as fault
+use Rattle.sc_script.specs.Runs.{Running, RunState, Cause, Course, goes, stops, bad, goes_on, beginning, after_value}
+use Rattle.sc_script.specs.Runs.{after_values, ended, course_of, cause_in, IsAt, HasRun, StopsFor, IsStopped}
+use Rattle.sc_script.specs.Scripts.{IsCourseOf, RanAs, StopsWith, StopsAt}
+
+-- ---- courses in parts
+
+goes_with : (last later more : Running → Course) (c : Course) → ((r : Running) → more r ≡ goes_on last (later r))
+    → goes_on more c ≡ goes_on last (goes_on later c)
+goes_with last later more (goes r) same = same r
+goes_with last later more (stops c) same = refl
+
+goes_no_further : (more : Running → Course) (c : Course) → ((r : Running) → more r ≡ goes r) → goes_on more c ≡ c
+goes_no_further more (goes r) same = same r
+goes_no_further more (stops c) same = refl
+
+part_runs : (part : Running → Course) (c : Course) (s now : RunState) → HasRun c s
+    → ((r : Running) → IsAt r s → HasRun (part r) now) → HasRun (goes_on part c) now
+part_runs part (goes r) s now at next = next r at
+part_runs part (stops c) s now at next = absurd at
+
+part_stops : (part : Running → Course) (c : Course) (s : RunState) (f : ScriptFault) → HasRun c s
+    → ((r : Running) → IsAt r s → IsStopped (part r) f) → IsStopped (goes_on part c) f
+part_stops part (goes r) s f at next = next r at
+part_stops part (stops c) s f at next = absurd at
+
+-- ---- the values in turn
+
+module _ (N : Decider) where
+  in_parts : (n : ℕ) (vs ws : List Plain) (r : Running)
+      → after_values N n (vs ++ ws) r ≡ goes_on (after_values N (n + length vs) ws) (after_values N n vs r)
+  in_parts n [] ws r = let none : n ≡ n + 0 = omega arith in ap (λ m. after_values N m ws r) none
+  in_parts n (v ∷ vs) ws r =
+      let all : (n + 1) + length vs ≡ n + length (v ∷ vs) = omega arith in
+      goes_with (after_values N (n + length (v ∷ vs)) ws) (after_values N (n + 1) vs) (after_values N (n + 1) (vs ++ ws))
+      (after_value N n (event_of v) r)
+      (λ s. in_parts (n + 1) vs ws s ∙ ap (λ m. goes_on (after_values N m ws) (after_values N (n + 1) vs s)) all)
+
+  one_more : (n : ℕ) (vs : List Plain) (v : Plain) (r : Running) → n ≡ length vs
+      → after_values N 0 (vs ++ v ∷ []) r ≡ goes_on (after_value N n (event_of v)) (after_values N 0 vs r)
+  one_more n vs v r counted =
+      let at : 0 + length vs ≡ n = omega arith in
+      let last : (m : ℕ) → 0 + length vs ≡ m → after_values N 0 (vs ++ v ∷ []) r
+          ≡ goes_on (after_values N m (v ∷ [])) (after_values N 0 vs r) =
+      λ m is. in_parts 0 vs (v ∷ []) r ∙ ap (λ k. goes_on (after_values N k (v ∷ [])) (after_values N 0 vs r)) is in
+      last n at ∙ goes_with (after_value N n (event_of v)) (λ s. goes s) (after_values N n (v ∷ []))
+      (after_values N 0 vs r) (λ s. goes_no_further (after_values N (n + 1) []) (after_value N n (event_of v) s)
+      (λ t. refl)) ∙ ap (goes_on (after_value N n (event_of v))) (goes_no_further (λ s. goes s) (after_values N 0 vs r)
+      (λ t. refl))
+
+-- ---- the values of an input
+
+-- so many values of the input are read and done
+pub record IsDone (form : Form) (bytes : List ℕ) (place : ℕ) (values : Values) (s : RunState) : Type 0 where
+  pub vs : List Plain
+  pub counted : place ≡ length vs
+  pub read : AreSoFar form bytes vs values
+  pub runs : (N : Decider) → Decides N → HasRun (after_values N 0 vs beginning) s
+
+module _ (form : Form) (bytes : List ℕ) where
+  pub none_done : (values : Values) (s : RunState) → AreSoFar form bytes [] values → IsAt beginning s
+      → IsDone form bytes 0 values s
+  none_done values s read at = record { vs = []; counted = refl; read = read; runs = λ N d. at }
+
+  -- value n is read
+  module _ (n : ℕ) (values next : Values) (s : RunState) (v : Plain) (done : IsDone form bytes n values s)
+      (read : (vs : List Plain) → AreSoFar form bytes vs values → AreSoFar form bytes (vs ++ v ∷ []) next) where
+    abbrev all : List Plain
+    all = done.vs ++ v ∷ []
+
+    all_counted : n + 1 ≡ length all
+    all_counted = omega (arith, length-append done.vs (v ∷ []), done.counted)
+
+    pub is_few : n + 1 ≤ length bytes
+    is_few = omega (arith, few_so_far form bytes all next (read done.vs done.read), all_counted)
+
+    pub one_done : (now : RunState) → ((N : Decider) → Decides N → (r : Running) → IsAt r s
+        → HasRun (after_value N n (event_of v) r) now) → IsDone form bytes (n + 1) next now
+    one_done now one = record {
+      vs = all;
+      counted = all_counted;
+      read = read done.vs done.read;
+      runs = λ N d. subst (λ c. HasRun c now) (sym (one_more N n done.vs v beginning done.counted))
+          (part_runs (after_value N n (event_of v)) (after_values N 0 done.vs beginning) s now (done.runs N d) (one N d));
+    }
+
+    -- the input is read on in some way
+    module _ (short : length bytes ≤ 67108864)
+        (on : (vs : List Plain) → AreSoFar form bytes vs next
+            → (ws : List Plain) × (whole : Bool) × AreReadAs form bytes (vs ++ ws) whole) where
+      stops_there : (o : Option Cause)
+          → ((N : Decider) → Decides N → StopsFor (after_values N 0 all beginning) o) → StopsWith form bytes o
+      stops_there None stop = tt
+      stops_there (Some c) stop = λ N d.
+          let r = on all (read done.vs done.read) in
+          let us = all ++ r.0 in
+          let is : after_values N 0 us beginning ≡ stops c =
+          in_parts N 0 all r.0 beginning ∙ ap (goes_on (after_values N (0 + length all) r.0)) (stop N d) in
+          inr (short, (us, r.1, r.2, sym (ap (goes_on (ended r.1 (length us))) is)))
+
+      pub one_stops : (f : ScriptFault) → ((N : Decider) → Decides N → (r : Running) → IsAt r s
+          → IsStopped (after_value N n (event_of v) r) f) → StopsAt form bytes f
+      one_stops f one = stops_there (cause_in f) (λ N d.
+          subst (λ c. IsStopped c f) (sym (one_more N n done.vs v beginning done.counted))
+          (part_stops (after_value N n (event_of v)) (after_values N 0 done.vs beginning) s f (done.runs N d) (one N d)))
+
+  -- no value is left
+  module _ (n : ℕ) (values : Values) (s : RunState) (done : IsDone form bytes n values s)
+      (short : length bytes ≤ 67108864) where
+    ends_at : (N : Decider) (c : Course) → AreReadAs form bytes done.vs true → after_values N 0 done.vs beginning ≡ c
+        → HasRun c s → (r : Running) × IsCourseOf N form bytes (goes r) × IsAt r s
+    ends_at N (goes r) read is at =
+        (r, inr (short, (done.vs, true, read, sym (ap (goes_on (ended true (length done.vs))) is))), at)
+    ends_at N (stops c) read is at = absurd at
+
+    pub all_done : ((vs : List Plain) → AreSoFar form bytes vs values → AreReadAs form bytes vs true)
+        → RanAs form bytes s
+    all_done read N d = ends_at N (after_values N 0 done.vs beginning) (read done.vs done.read) refl (done.runs N d)
+
+    bad_behind : (N : Decider) (c : Course) → after_values N 0 done.vs beginning ≡ c → HasRun c s
+        → stops (bad n) ≡ course_of N done.vs false
+    bad_behind N (goes r) is at =
+        ap (λ m. stops (bad m)) done.counted ∙ sym (ap (goes_on (ended false (length done.vs))) is)
+    bad_behind N (stops c) is at = absurd at
+
+    pub cut_off : ((vs : List Plain) → AreSoFar form bytes vs values → AreReadAs form bytes vs false)
+        → StopsAt form bytes (fault.Bad n)
+    cut_off read N d = inr (
+      short,
+      (
+        done.vs,
+        false,
+        read done.vs done.read,
+        bad_behind N (after_values N 0 done.vs beginning) refl (done.runs N d),
+      ),
+    )
