@@ -1,16 +1,20 @@
 -- What a status says, by its cause.
 use Rattle.std.proofs.Common.{◌≡◌, ◌≢◌, ℕ, ◌<◌, List, length, Option, Some, None, IfSome, IfErr, Result, Ok, Err}
-use Rattle.std.proofs.Common.{Contains, lit<, refl, sym, subst, arith}
+use Rattle.std.proofs.Common.{Contains, [], ◌∷◌, lit<, refl, sym, subst, arith}
 use Rattle.std.specs.Result.{IsErrAnd}
-use Rattle.dsd_top.specs.declared.once.Fault.{Fault}
-use Rattle.dsd_top.specs.declared.once.Fault.TheVariants.{BadInput, BadWords, ReadFailed, WriteFailed, NoMemory}
-use Rattle.dsd_top.specs.declared.once.Fault.TheVariants.{Limit, NotBuilt}
+use Rattle.dsd_top.specs.declared.faults.Fault.{Fault}
+use Rattle.dsd_top.specs.declared.faults.Fault.TheVariants.{BadInput, BadWords, ReadFailed, WriteFailed, NoMemory}
+use Rattle.dsd_top.specs.declared.faults.Fault.TheVariants.{Limit, NotBuilt}
 use Rattle.out_ports.specs.declared.streams.ReadFault.{ReadFault}
 use Rattle.out_ports.specs.declared.streams.ReadFault.TheVariants as reading
 use Rattle.dsd_top.specs.declared.words.Command.{Command}
 use Rattle.dsd_top.specs.declared.words.Command.TheVariants.{Run, RunText, CanonicalForms, Printed, Written}
-use Rattle.dsd_top.specs.Statuses.{IsStatus, statuses_by, IsBadInputAt, IsOverAt, IsNotBuiltAt, IsBadInput, IsOver}
-use Rattle.dsd_top.specs.Statuses.{IsNotBuilt, IsCut, status_of, IsBehindInput, from_read, IsCauseOf, Tells}
+use Rattle.dsd_top.specs.declared.words.Notice.{Notice}
+use Rattle.dsd_top.specs.declared.words.Request.{Request}
+use Rattle.dsd_top.specs.declared.words.Request.TheVariants.{Tell}
+use Rattle.dsd_top.specs.Statuses.{IsStatus, statuses_by, statuses_of, IsBadInputAt, IsOverAt, IsNotBuiltAt}
+use Rattle.dsd_top.specs.Statuses.{IsBadInput, IsOver, IsNotBuilt, IsCut, status_of, IsBehindInput, from_read}
+use Rattle.dsd_top.specs.Statuses.{IsCauseOf, Tells}
 
 pub is_status : (f : Fault) → IsStatus (status_of f)
 is_status (BadInput n) = (1, lit< tt, refl)
@@ -50,6 +54,14 @@ read_known c reading.NoMemory = (4, within c 4 (lit< tt), refl)
 
 pub write_known : (c : Command) → Contains (statuses_by c) (status_of WriteFailed)
 write_known c = (3, within c 3 (lit< tt), refl)
+
+-- a notice's statuses are those of the words that ask for it; words of no request have 2 alone
+pub notice_known : (o : Option Request) (n : Notice) (k : ℕ) → Some (Tell n) ≡ o → Contains (0 ∷ 4 ∷ []) k
+    → Contains (statuses_of o) k
+notice_known o n k is known = subst (λ q. Contains (statuses_of q) k) is known
+
+pub refused_known : (o : Option Request) (k : ℕ) → o ≡ None → k ≡ 2 → Contains (statuses_of o) k
+refused_known o k none is = subst (λ q. Contains (statuses_of q) k) (sym none) (0, lit< tt, sym is)
 
 pub read_failed : (f : Fault) → status_of f ≡ 3 → f ≡ ReadFailed
 read_failed (BadInput n) e = absurd (omega arith)

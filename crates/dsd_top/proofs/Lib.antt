@@ -1,4 +1,5 @@
 pub mod Causes
+pub mod Fronts
 pub mod InForm
 pub mod Readings
 pub mod Reported

@@ -1,5 +1,5 @@
 pub mod Commands
 pub mod Forms
+pub mod Lines
 pub mod Statuses
-pub mod Texts
 pub mod Values

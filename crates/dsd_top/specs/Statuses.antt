@@ -1,9 +1,9 @@
 -- What a status says of the words, the input and what was written.
-use Rattle.std.specs.Prelude.{◌≡◌, ◌≢◌, ℕ, ◌<◌, ◌≤◌, List, [], ◌∷◌, length, Option, Some, None, Contains, IfSome}
+use Rattle.std.specs.Prelude.{◌≡◌, ◌≢◌, ℕ, ◌<◌, List, [], ◌∷◌, length, Option, Some, None, Contains, IfSome}
 use Rattle.out_ports.specs.Ports.{Appends, AppendsFront}
 use Rattle.hub_laws.specs.Settled.{HoldsFromScratch}
-use Rattle.sc_events.specs.declared.inputs.Form.{Form as Script}
-use Rattle.sc_events.specs.declared.inputs.Form.TheVariants as script
+use Rattle.sc_events.specs.declared.inputs.Form.{Form as Input}
+use Rattle.sc_events.specs.declared.inputs.Form.TheVariants as input
 use Rattle.sc_report.specs.Reports.{report_of}
 use Rattle.sc_script.specs.Leavings.{ran_of}
 use Rattle.rl_stream.specs.Nexts.{Decider, Decides}
@@ -14,18 +14,17 @@ use Rattle.sc_script.specs.declared.faults.ScriptFault.TheVariants as stopped
 use Rattle.out_ports.specs.declared.streams.ReadFault.{ReadFault}
 use Rattle.out_ports.specs.declared.streams.ReadFault.TheVariants as reading
 use Rattle.dsd_top.specs.Forms.{in_form}
-use Rattle.dsd_top.specs.Texts.{IsBadTextAt, IsTextIn}
-use Rattle.dsd_top.specs.Values.{IsBadValueAt, AreIn}
+use Rattle.dsd_top.specs.Values.{IsBadAt, AreIn}
 use Rattle.dsd_top.specs.declared.forms.Form.{Form}
 use Rattle.dsd_top.specs.declared.forms.Form.TheVariants as form
 use Rattle.dsd_top.specs.declared.values.InputFault.{InputFault}
-use Rattle.dsd_top.specs.declared.values.InputFault.TheVariants as input
+use Rattle.dsd_top.specs.declared.values.InputFault.TheVariants as unread
 use Rattle.dsd_top.specs.declared.words.Command.{Command}
 use Rattle.dsd_top.specs.declared.words.Command.TheVariants.{Run, RunText, CanonicalForms, Printed, Written}
 use Rattle.dsd_top.specs.declared.words.Request.{Request}
 use Rattle.dsd_top.specs.declared.words.Request.TheVariants.{Make, Tell}
-use Rattle.dsd_top.specs.declared.once.Fault.{Fault}
-use Rattle.dsd_top.specs.declared.once.Fault.TheVariants as fault
+use Rattle.dsd_top.specs.declared.faults.Fault.{Fault}
+use Rattle.dsd_top.specs.declared.faults.Fault.TheVariants as fault
 
 -- ---- by the command
 
@@ -55,35 +54,35 @@ IfTold command left P = IfSome command (λ c. IfSome left (P c))
 
 -- the input is a script, and this the report of its run in the form; where nothing is pending, each live connection
 -- holds what is captured from scratch
-abbrev pub IsReported : Script → Form → List ℕ → List ℕ → Type 0
-IsReported script form bytes out =
-    (N : Decider) → Decides N → (r : Running) × IsCourseOf N script bytes (goes r)
+abbrev pub IsReported : Input → Form → List ℕ → List ℕ → Type 0
+IsReported input form bytes out =
+    (N : Decider) → Decides N → (r : Running) × IsCourseOf N input bytes (goes r)
     × ((k : ℕ) → HoldsFromScratch k r.steps) × (out ≡ in_form form (report_of (ran_of r.steps)))
 
 -- the input stops as a script for this cause
-abbrev pub StopsFor : Script → List ℕ → Cause → Type 0
-StopsFor script bytes c = (N : Decider) → Decides N → IsCourseOf N script bytes (stops c)
+abbrev pub StopsFor : Input → List ℕ → Cause → Type 0
+StopsFor input bytes c = (N : Decider) → Decides N → IsCourseOf N input bytes (stops c)
 
 -- what the command makes of the input
 abbrev pub IsAnswerOf : Command → List ℕ → List ℕ → Type 0
-IsAnswerOf Run bytes out = IsReported script.Binary form.Written bytes out
-IsAnswerOf RunText bytes out = IsReported script.Text form.Printed bytes out
-IsAnswerOf CanonicalForms bytes out = AreIn form.Canonical bytes out
-IsAnswerOf Printed bytes out = AreIn form.Printed bytes out
-IsAnswerOf Written bytes out = IsTextIn form.Written bytes out
+IsAnswerOf Run bytes out = IsReported input.Binary form.Written bytes out
+IsAnswerOf RunText bytes out = IsReported input.Text form.Printed bytes out
+IsAnswerOf CanonicalForms bytes out = AreIn input.Binary form.Canonical bytes out
+IsAnswerOf Printed bytes out = AreIn input.Binary form.Printed bytes out
+IsAnswerOf Written bytes out = AreIn input.Text form.Written bytes out
 
 -- value n of the input is malformed
 abbrev pub IsBadInputAt : Command → List ℕ → ℕ → Type 0
-IsBadInputAt Run bytes n = StopsFor script.Binary bytes (bad n)
-IsBadInputAt RunText bytes n = StopsFor script.Text bytes (bad n)
-IsBadInputAt CanonicalForms bytes n = (length bytes ≤ 67108864) × IsBadValueAt bytes n
-IsBadInputAt Printed bytes n = (length bytes ≤ 67108864) × IsBadValueAt bytes n
-IsBadInputAt Written bytes n = (length bytes ≤ 67108864) × IsBadTextAt bytes n
+IsBadInputAt Run bytes n = StopsFor input.Binary bytes (bad n)
+IsBadInputAt RunText bytes n = StopsFor input.Text bytes (bad n)
+IsBadInputAt CanonicalForms bytes n = IsBadAt input.Binary bytes n
+IsBadInputAt Printed bytes n = IsBadAt input.Binary bytes n
+IsBadInputAt Written bytes n = IsBadAt input.Text bytes n
 
 -- value n of the input goes past what is built
 abbrev pub IsNotBuiltAt : Command → List ℕ → ℕ → Type 0
-IsNotBuiltAt Run bytes n = StopsFor script.Binary bytes (not_built n)
-IsNotBuiltAt RunText bytes n = StopsFor script.Text bytes (not_built n)
+IsNotBuiltAt Run bytes n = StopsFor input.Binary bytes (not_built n)
+IsNotBuiltAt RunText bytes n = StopsFor input.Text bytes (not_built n)
 IsNotBuiltAt c bytes n = ⊥
 
 -- of values, limit 1 alone: the input has more than 67,108,864 bytes
@@ -92,8 +91,8 @@ IsOverOf bytes w = (w ≡ 1) × (67108864 < length bytes)
 
 -- limit w is passed
 abbrev pub IsOverAt : Command → List ℕ → ℕ → Type 0
-IsOverAt Run bytes w = StopsFor script.Binary bytes (limit w)
-IsOverAt RunText bytes w = StopsFor script.Text bytes (limit w)
+IsOverAt Run bytes w = StopsFor input.Binary bytes (limit w)
+IsOverAt RunText bytes w = StopsFor input.Text bytes (limit w)
 IsOverAt c bytes w = IsOverOf bytes w
 
 -- ---- for any command
@@ -157,9 +156,9 @@ from_script (stopped.NotBuilt n) = fault.NotBuilt n
 from_script stopped.NoMemory = fault.NoMemory
 
 abbrev pub from_input : InputFault → Fault
-from_input (input.Bad n) = fault.BadInput n
-from_input input.TooLong = fault.Limit 1
-from_input input.NoMemory = fault.NoMemory
+from_input (unread.Bad n) = fault.BadInput n
+from_input unread.TooLong = fault.Limit 1
+from_input unread.NoMemory = fault.NoMemory
 
 abbrev pub from_read : ReadFault → Fault
 from_read reading.Failed = fault.ReadFailed

@@ -1,9 +1,10 @@
 //! The program over an outside world that is handed in.
 #![tactic(auto)]
 
+mod faults;
 mod forms;
+mod lines;
 mod once;
-mod texts;
 mod values;
 mod words;
 

@@ -8,108 +8,32 @@ ghost use Rattle.dsd_top.specs.Commands.{is_serve as begins_with_serve};
 ghost use Rattle.dsd_top.specs.Statuses.{IsStatus, statuses_by, statuses_of, IfTold};
 ghost use Rattle.dsd_top.specs.Statuses.{IsReported, IsAnswerOf, IsAnswered};
 ghost use Rattle.dsd_top.specs.Statuses.{IsCut, IsBadInput, IsNotBuilt, IsOver, IsCauseOf, Tells};
-ghost use Rattle.dsd_top.specs.Statuses.{status_of, IsBehindInput, from_script, from_input};
-ghost use Rattle.dsd_top.specs.Statuses.{from_read};
-ghost use Rattle.dsd_top.specs.declared.once.Fault.TheVariants as fault;
+ghost use Rattle.dsd_top.specs.Statuses.{status_of, IsBehindInput};
+ghost use Rattle.dsd_top.specs.Lines.{Says, SaysFront};
+ghost use Rattle.dsd_top.specs.declared.faults.Fault.TheVariants as fault;
 
+use crate::faults::Fault;
 use crate::forms::{Form, value_in};
-use crate::texts::text_to_end;
-use crate::values::{InputFault, values_to_end};
+use crate::lines::refuse;
+use crate::values::values_to_end;
 use crate::words::{Command, Notice, Request, find_request, is_serve};
 use ds_space::PlainSpace;
 use hub_laws::settled_holdings_are_from_scratch;
 use out_ports::ports::{Host, Sink, Source};
-use out_ports::streams::{ReadFault, WriteFault, read_to_end, write_all};
+use out_ports::streams::{read_to_end, write_all};
 use sc_report::report;
-use sc_script::{Form as Script, ScriptFault, run_script};
+use sc_script::{Form as Input, ScriptFault, run_script};
 use std::alloc::Global;
 use std::sync::Wait;
 use std::thread::Threads;
 
-/// Why the status isn't 0.
-#[derive(Clone, Copy)]
-enum Fault {
-    BadInput(u64),
-    BadWords,
-    ReadFailed,
-    WriteFailed,
-    NoMemory,
-    Limit(u8),
-    NotBuilt(u64),
-}
-
-impl Fault {
-    fn status(self) -> u8
-        ensures { result ≡ status_of self }
-    {
-        match self {
-            Fault::BadInput(_) => 1,
-            Fault::BadWords => 2,
-            Fault::ReadFailed => 3,
-            Fault::WriteFailed => 4,
-            Fault::NoMemory => 5,
-            Fault::Limit(_) => 6,
-            Fault::NotBuilt(_) => 10,
-        }
-    }
-}
-
-impl From<ScriptFault> for Fault {
-    ghost from_gives = { λ e f. f ≡ from_script e };
-
-    fn from(fault: ScriptFault) -> Fault {
-        match fault {
-            ScriptFault::Bad(n) => Fault::BadInput(n),
-            ScriptFault::Limit(limit) => Fault::Limit(limit),
-            ScriptFault::NotBuilt(n) => Fault::NotBuilt(n),
-            ScriptFault::NoMemory => Fault::NoMemory,
-        }
-    }
-}
-
-impl From<InputFault> for Fault {
-    ghost from_gives = { λ e f. f ≡ from_input e };
-
-    fn from(fault: InputFault) -> Fault {
-        match fault {
-            InputFault::Bad(n) => Fault::BadInput(n),
-            InputFault::TooLong => Fault::Limit(1),
-            InputFault::NoMemory => Fault::NoMemory,
-        }
-    }
-}
-
-impl From<ReadFault> for Fault {
-    ghost from_gives = { λ e f. f ≡ from_read e };
-
-    fn from(fault: ReadFault) -> Fault {
-        match fault {
-            ReadFault::Failed => Fault::ReadFailed,
-            ReadFault::NoMemory => Fault::NoMemory,
-        }
-    }
-}
-
-impl From<WriteFault> for Fault {
-    ghost from_gives = { λ _ f. f ≡ fault.WriteFailed };
-
-    fn from(_: WriteFault) -> Fault {
-        Fault::WriteFailed
-    }
-}
-
 /// The report of the run of the script that the input is, in this form.
-fn report_in(
-    alloc: Global,
-    bytes: &[u8],
-    script: Script,
-    form: Form,
-) -> Result<Vec<u8>, ScriptFault>
-    ensures answer { IfOk result (λ out. IsReported script form bytes.now out.items) }
-    ensures stop { IfErr result (StopsAt script bytes.now) }
+fn report_in(alloc: Global, bytes: &[u8], input: Input, form: Form) -> Result<Vec<u8>, ScriptFault>
+    ensures answer { IfOk result (λ out. IsReported input form bytes.now out.items) }
+    ensures stop { IfErr result (StopsAt input bytes.now) }
 {
     settled_holdings_are_from_scratch();
-    let ran = run_script::<PlainSpace>(alloc, bytes, script)?;
+    let ran = run_script::<PlainSpace>(alloc, bytes, input)?;
     let value = report(alloc, &ran)?;
     Ok(value_in(alloc, &value, form)?)
 }
@@ -120,11 +44,13 @@ fn answer(alloc: Global, command: Command, bytes: &[u8]) -> Result<Vec<u8>, Faul
     ensures cause { IfErr result (IsCauseOf command bytes.now) }
 {
     match command {
-        Command::Run => Ok(report_in(alloc, bytes, Script::Binary, Form::Written)?),
-        Command::RunText => Ok(report_in(alloc, bytes, Script::Text, Form::Printed)?),
-        Command::CanonicalForms => Ok(values_to_end(alloc, bytes, Form::Canonical)?),
-        Command::Printed => Ok(values_to_end(alloc, bytes, Form::Printed)?),
-        Command::Written => Ok(text_to_end(alloc, bytes, Form::Written)?),
+        Command::Run => Ok(report_in(alloc, bytes, Input::Binary, Form::Written)?),
+        Command::RunText => Ok(report_in(alloc, bytes, Input::Text, Form::Printed)?),
+        Command::CanonicalForms => {
+            Ok(values_to_end(alloc, bytes, Input::Binary, Form::Canonical)?)
+        }
+        Command::Printed => Ok(values_to_end(alloc, bytes, Input::Binary, Form::Printed)?),
+        Command::Written => Ok(values_to_end(alloc, bytes, Input::Text, Form::Written)?),
     }
 }
 
@@ -153,56 +79,20 @@ fn do_command<I: Source, O: Sink>(
     Ok(())
 }
 
-/// Writes a line, and leaves what can't be written.
-fn say<E: Sink>(diag: &mut E, line: &str) {
-    let _ = write_all(diag, line.as_bytes());
-}
-
-/// Writes a line that names a place. Where memory is wanting for it, it is left out.
-fn say_place<E: Sink>(alloc: Global, diag: &mut E, what: &str, place: u64) {
-    if let Ok(line) = format!(in alloc; "dsd: {what} at {place}\n") {
-        say(diag, line.as_str());
-    }
-}
-
-/// Writes a line that names a limit. Where memory is wanting for it, it is left out.
-fn say_limit<E: Sink>(alloc: Global, diag: &mut E, limit: u8) {
-    if let Ok(line) = format!(in alloc; "dsd: limit {limit}\n") {
-        say(diag, line.as_str());
-    }
-}
-
-/// Says why the status isn't 0.
-fn tell<E: Sink>(alloc: Global, diag: &mut E, fault: Fault) {
-    match fault {
-        Fault::BadInput(n) => say_place(alloc, diag, "bad input", n),
-        Fault::BadWords => say(diag, "dsd: bad words\n"),
-        Fault::ReadFailed => say(diag, "dsd: read failed\n"),
-        Fault::WriteFailed => say(diag, "dsd: write failed\n"),
-        Fault::NoMemory => say(diag, "dsd: out of memory\n"),
-        Fault::Limit(limit) => say_limit(alloc, diag, limit),
-        Fault::NotBuilt(n) => say_place(alloc, diag, "not built", n),
-    }
-}
-
-/// Says why the status isn't 0, and answers it.
-fn refuse<E: Sink>(alloc: Global, diag: &mut E, fault: Fault) -> u8
-    ensures { result ≡ status_of fault }
-{
-    tell(alloc, diag, fault);
-    fault.status()
-}
-
 /// Writes a notice, and answers the status.
-fn show<O: Sink, E: Sink>(alloc: Global, notice: Notice, out: &mut O, diag: &mut E) -> u8
+fn show<O: Sink, E: Sink>(notice: Notice, out: &mut O, diag: &mut E) -> u8
     ensures known { Contains (0 ∷ 4 ∷ []) result }
     ensures done { result ≡ 0 → Appends (O.held out.old) (O.held out.new) (text_of notice) }
     ensures cut { result ≡ 4 → AppendsFront (O.held out.old) (O.held out.new) (text_of notice) }
     ensures write_failed { result ≡ 4 → Rose (O.faults out.old) (O.faults out.new) }
+    ensures silent { result ≡ 0 → E.held diag.new ≡ E.held diag.old }
+    ensures said { result ≢ 0 → SaysFront result (E.held diag.old) (E.held diag.new) }
+    ensures said_all { result ≢ 0 → (Rose (E.faults diag.old) (E.faults diag.new) → ⊥)
+        → Says result (E.held diag.old) (E.held diag.new) }
 {
     match write_all(out, notice.text().as_bytes()) {
         Ok(()) => 0,
-        Err(_) => refuse(alloc, diag, Fault::WriteFailed),
+        Err(_) => refuse(diag, Fault::WriteFailed),
     }
 }
 
@@ -210,7 +100,7 @@ fn show<O: Sink, E: Sink>(alloc: Global, notice: Notice, out: &mut O, diag: &mut
 /// for, and all output written, 1 where a value of the input is malformed, 2 where the words are
 /// none of the table's, 3 where the input failed, 4 where the output failed, 5 for want of memory,
 /// 6 where a limit is passed, 10 where the input goes past what is built.
-/// At every status but 0 one line on `diag` says why; a fault of `diag` changes nothing.
+/// At every status but 0 one line on `diag` says why; a fault of `diag` changes nothing else.
 pub fn dsd_once<I: Source, O: Sink, E: Sink, H: Host>(
     alloc: Global,
     words: &[String],
@@ -253,15 +143,22 @@ pub fn dsd_once<I: Source, O: Sink, E: Sink, H: Host>(
         (λ c bytes. IsCut c bytes (O.held out.old) (O.held out.new)) }
     ensures unwritten { result ≢ 0 → result ≢ 4 → O.held out.new ≡ O.held out.old }
     ensures same_host { host.new ≡ host.old }
+
+    // Standard error: nothing at 0, else a front of the line that goes with the status, and all of
+    // it where the count of its faults hasn't risen.
+    ensures silent { result ≡ 0 → E.held diag.new ≡ E.held diag.old }
+    ensures said { result ≢ 0 → SaysFront result (E.held diag.old) (E.held diag.new) }
+    ensures said_all { result ≢ 0 → (Rose (E.faults diag.old) (E.faults diag.new) → ⊥)
+        → Says result (E.held diag.old) (E.held diag.new) }
 {
     let command = match find_request(words) {
         Some(Request::Make(command)) => command,
-        Some(Request::Tell(notice)) => return show(alloc, notice, out, diag),
-        None => return refuse(alloc, diag, Fault::BadWords),
+        Some(Request::Tell(notice)) => return show(notice, out, diag),
+        None => return refuse(diag, Fault::BadWords),
     };
     match do_command(alloc, command, input, out) {
         Ok(()) => 0,
-        Err(fault) => refuse(alloc, diag, fault),
+        Err(fault) => refuse(diag, fault),
     }
 }
 
@@ -312,9 +209,16 @@ where
         (λ c bytes. IsCut c bytes (O.held out.old) (O.held out.new)) }
     ensures unwritten { result ≢ 0 → result ≢ 4 → O.held out.new ≡ O.held out.old }
     ensures same_host { host.new ≡ host.old }
+
+    // Standard error: nothing at 0, else a front of the line that goes with the status, and all of
+    // it where the count of its faults hasn't risen.
+    ensures silent { result ≡ 0 → E.held diag.new ≡ E.held diag.old }
+    ensures said { result ≢ 0 → SaysFront result (E.held diag.old) (E.held diag.new) }
+    ensures said_all { result ≢ 0 → (Rose (E.faults diag.old) (E.faults diag.new) → ⊥)
+        → Says result (E.held diag.old) (E.held diag.new) }
 {
     if is_serve(words) {
-        return refuse(alloc, diag, Fault::BadWords);
+        return refuse(diag, Fault::BadWords);
     }
     dsd_once(alloc, words, input, out, diag, host)
 }

@@ -1,12 +1,11 @@
-//! Binary values one behind another, and what is made of them.
-ghost use Rattle.std.specs.Prelude.{◌≡◌, ◌<◌, length, IfOk, IfErr};
+//! The values of an input one behind another, and what is made of them.
+ghost use Rattle.std.specs.Prelude.{◌≡◌, IfOk, IfErr};
 ghost use Rattle.dsd_top.specs.declared.values.InputFault.TheVariants as fault;
-ghost use Rattle.dsd_top.specs.Values.{IsNextIn, StopsAt, AreIn, IsInputFaultOf};
+ghost use Rattle.dsd_top.specs.Values.{AreIn, IsInputFaultOf};
 
 use crate::forms::{Form, push_last};
-use pv_binary::{BinFault, read};
 use pv_value::NoMemory;
-use sc_events::INPUT_BYTES;
+use sc_events::{Form as Input, INPUT_BYTES, NextFault, Values};
 use std::alloc::Global;
 use thiserror::Error;
 
@@ -31,45 +30,30 @@ impl From<NoMemory> for InputFault {
     }
 }
 
-/// Appends in this form the value that the bytes begin with, behind so many values. Gives the bytes
-/// after it.
-fn push_next<'a>(
+/// The values of an input, each in this form, one behind another. Its length is looked at first,
+/// and whether a text is UTF-8; then its values in order.
+pub fn values_to_end(
     alloc: Global,
-    out: &mut Vec<u8>,
-    rest: &'a [u8],
+    bytes: &[u8],
+    input: Input,
     form: Form,
-    place: u64,
-) -> Result<&'a [u8], InputFault>
-    ensures next { IfOk result (λ more.
-        IsNextIn form rest.now more.now out.old.items out.new.items) }
-    ensures shorter { IfOk result (λ more. length more.now < length rest.now) }
-    ensures stops { IfErr result (StopsAt rest.now place) }
-{
-    match read(alloc, rest) {
-        Ok((value, size)) => {
-            push_last(alloc, out, value, form)?;
-            Ok(&rest[size..])
-        }
-        Err(BinFault::Bad(_, _)) => Err(InputFault::Bad(place)),
-        Err(BinFault::NoMemory) => Err(InputFault::NoMemory),
-    }
-}
-
-/// The values that the bytes are, each in this form, one behind another. Their length is looked at
-/// first, and then the values in order.
-pub fn values_to_end(alloc: Global, bytes: &[u8], form: Form) -> Result<Vec<u8>, InputFault>
-    ensures forms { IfOk result (λ out. AreIn form bytes.now out.items) }
-    ensures fault { IfErr result (IsInputFaultOf bytes.now) }
+) -> Result<Vec<u8>, InputFault>
+    ensures forms { IfOk result (λ out. AreIn input form bytes.now out.items) }
+    ensures fault { IfErr result (IsInputFaultOf input bytes.now) }
 {
     if bytes.len() > INPUT_BYTES {
         return Err(InputFault::TooLong);
     }
     let mut out = Vec::new(alloc);
-    let mut rest = bytes;
+    let mut values = Values::of(bytes, input);
     let mut place = 0;
-    while !rest.is_empty() {
-        rest = push_next(alloc, &mut out, rest, form, place)?;
+    loop {
+        match values.next(alloc) {
+            Ok(Some(value)) => push_last(alloc, &mut out, value, form)?,
+            Ok(None) => return Ok(out),
+            Err(NextFault::Bad) => return Err(InputFault::Bad(place)),
+            Err(NextFault::NoMemory) => return Err(InputFault::NoMemory),
+        }
         place += 1;
     }
-    Ok(out)
 }

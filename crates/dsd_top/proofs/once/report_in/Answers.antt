@@ -7,5 +7,5 @@ use Rattle.dsd_top.proofs.once.report_in.Goals as goal
 pub returns-clause-answer : goal.returns-clause-answer
 returns-clause-answer c =
     let law : SettledHoldings = search rules in
-    reported c.args.script c.args.form _ _ _ _ law c.in_ok-ran.ensures.run c.in_ok-value.ensures
+    reported c.args.input c.args.form _ _ _ _ law c.in_ok-ran.ensures.run c.in_ok-value.ensures
     c.in_ok-value_in.ensures

@@ -1,0 +1,55 @@
+//! What is said on standard error.
+ghost use Rattle.std.specs.Prelude.{◌≡◌, ◌++◌, OnOk, OnErr};
+ghost use Rattle.out_ports.specs.Ports.{Rose, Appends, AppendsFront};
+ghost use Rattle.dsd_top.specs.Lines.{line_of, Says, SaysFront};
+ghost use Rattle.dsd_top.specs.Statuses.{status_of};
+
+use crate::faults::Fault;
+use itoa::Buffer;
+use out_ports::ports::Sink;
+use out_ports::streams::{WriteFault, write_all};
+
+/// Writes three pieces, one behind another. After a fault the sink holds a front of them.
+fn write_three<E: Sink>(
+    sink: &mut E,
+    first: &[u8],
+    second: &[u8],
+    third: &[u8],
+) -> Result<(), WriteFault>
+    ensures written { OnOk result (Appends (E.held sink.old) (E.held sink.new)
+        (first.now ++ second.now ++ third.now)) }
+    ensures front { OnErr result (AppendsFront (E.held sink.old) (E.held sink.new)
+        (first.now ++ second.now ++ third.now)) }
+    ensures cause { OnErr result (Rose (E.faults sink.old) (E.faults sink.new)) }
+{
+    if let Err(fault) = write_all(sink, first) {
+        return Err(fault);
+    }
+    if let Err(fault) = write_all(sink, second) {
+        return Err(fault);
+    }
+    write_all(sink, third)
+}
+
+/// Says why the status isn't 0, in one line. After a fault the sink holds a front of it.
+fn tell<E: Sink>(diag: &mut E, fault: Fault) -> Result<(), WriteFault>
+    ensures written { OnOk result (Appends (E.held diag.old) (E.held diag.new) (line_of fault)) }
+    ensures front { OnErr result
+        (AppendsFront (E.held diag.old) (E.held diag.new) (line_of fault)) }
+    ensures cause { OnErr result (Rose (E.faults diag.old) (E.faults diag.new)) }
+{
+    let mut buffer = Buffer::new();
+    let number = fault.number(&mut buffer);
+    write_three(diag, fault.words().as_bytes(), number.as_bytes(), b"\n")
+}
+
+/// Says why the status isn't 0, and answers it. What can't be written is left.
+pub(crate) fn refuse<E: Sink>(diag: &mut E, fault: Fault) -> u8
+    ensures status { result ≡ status_of fault }
+    ensures said { SaysFront result (E.held diag.old) (E.held diag.new) }
+    ensures said_all { (Rose (E.faults diag.old) (E.faults diag.new) → ⊥)
+        → Says result (E.held diag.old) (E.held diag.new) }
+{
+    let _ = tell(diag, fault);
+    fault.status()
+}
