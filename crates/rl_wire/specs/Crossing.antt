@@ -19,6 +19,7 @@ use Rattle.pv_value.specs.Depth.{depth}
 use Rattle.pv_words.specs.Words.{number, number_in}
 use Rattle.ds_space.specs.declared.references.Reference.{Reference}
 use Rattle.ds_space.specs.References.{reference_of, reference_value}
+use Rattle.sr_caveat.specs.Limits.{value_weight, value_depth, reference_caveats, reference_weight}
 use Rattle.sr_caveat.specs.Spelled.{caveat_value}
 use Rattle.sr_caveat.specs.Written.{caveat_of}
 use Rattle.rl_ports.specs.declared.ports.PortsFault.{PortsFault}
@@ -119,11 +120,11 @@ reference_in exports actor x (Some w) = unwrap_or (named_by exports actor (cavea
 abbrev pub crossed_in : List Plain → ℕ → Plain → Plain
 crossed_in exports k v = crossed (λ x. reference_in exports (actor_at k) x (wire_of x)) v
 
--- a reference may have 32 caveats and weigh 65,536
+-- a reference may have so many caveats, and weigh so much
 abbrev pub reference_fault : Plain → Option WireFault
 reference_fault r =
-    if nat_lt 32 (length (caveats_in r)) then Some (Limit 8 (length (caveats_in r)))
-    else if nat_lt 65536 (told (weight r)) then Some (Limit 9 (told (weight r))) else None
+    if nat_lt reference_caveats (length (caveats_in r)) then Some (Limit 8 (length (caveats_in r)))
+    else if nat_lt reference_weight (told (weight r)) then Some (Limit 9 (told (weight r))) else None
 
 -- why what stands for export n with these caveats isn't taken
 abbrev pub export_fault_in : ℕ → List Plain → Option Plain → Option WireFault
@@ -140,11 +141,11 @@ abbrev pub first_fault : List Plain → List Plain → Option WireFault
 first_fault exports [] = None
 first_fault exports (x ∷ xs) = option_or (wire_fault exports x (wire_of x)) (first_fault exports xs)
 
--- a value may weigh 1,048,576 and nest 48 deep, as the server keeps it
+-- a value may weigh so much and nest so deep, as the server keeps it
 abbrev pub size_fault : Plain → Option WireFault
 size_fault v =
-    if nat_lt 1048576 (told (weight v)) then Some (Limit 6 (told (weight v)))
-    else if nat_lt 48 (nested v) then Some (Limit 7 (nested v)) else None
+    if nat_lt value_weight (told (weight v)) then Some (Limit 6 (told (weight v)))
+    else if nat_lt value_depth (nested v) then Some (Limit 7 (nested v)) else None
 
 -- why a value can't come in: a reference in it, before all else
 abbrev pub fault_in : List Plain → ℕ → Plain → Option WireFault

@@ -2,6 +2,7 @@ pub mod Caps
 pub mod Embedded
 pub mod Laws
 pub mod Lemmas
+pub mod Limits
 pub mod Patterns
 pub mod Spelled
 pub mod View

@@ -21,7 +21,9 @@ pub use caps::{Cap, Caveats};
 pub use caveats::parse_caveat;
 pub use embedded::has_embedded;
 pub use laws::{caps_are_their_values, caveats_are_read_back, no_guard_from_the_wire};
-pub use limits::{REFERENCE_CAVEATS, REFERENCE_WEIGHT, VALUE_DEPTH, VALUE_WEIGHT};
+pub use limits::{
+    REFERENCE_CAVEATS, REFERENCE_WEIGHT, VALUE_DEPTH, VALUE_WEIGHT, limits_are_as_defined,
+};
 use pv_value::{Entries, Text, Value};
 pub use spelling::{caveat_values, dictionary_with};
 use std::marker::Model;
