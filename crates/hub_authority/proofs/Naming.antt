@@ -32,7 +32,7 @@ use Rattle.hub_valid.specs.Lemmas.WorldTables.{first_valid}
 use Rattle.hub_valid.specs.Lemmas.Worlds.{table_of}
 use Rattle.hub_laws.specs.Laws.{AreAllowed}
 use Rattle.hub_laws.proofs.Sending.{fault_tells}
-use Rattle.hub_authority.specs.Asked.{events_of}
+use Rattle.hub_laws.specs.Standing.{events_of}
 use Rattle.hub_authority.specs.Laws.{Names}
 use Rattle.hub_authority.specs.Meant.{AreSentAs}
 use Rattle.hub_authority.specs.Named.{batch_sent, told_by, told_from, first_by}

@@ -32,11 +32,12 @@ use Rattle.hub_machine.specs.declared.faults.Fault.{Fault}
 use Rattle.hub_machine.specs.Admission.{Admitting, admitted, cause_of, cause_at, after, after_at, after_event}
 use Rattle.hub_machine.specs.Admission.{after_assertion, after_message, after_retraction, unless, all_admitted}
 use Rattle.hub_machine.specs.Admission.{cap_at}
+use Rattle.hub_valid.specs.Lemmas.Admitted.{exports_after}
 use Rattle.hub_authority.specs.Asked.{cap_under, let_in, message_to, message_asked, messages_asked, message_in}
-use Rattle.hub_authority.specs.Asked.{messages_in, events_of}
+use Rattle.hub_laws.specs.Standing.{events_of}
+use Rattle.hub_authority.specs.Asked.{messages_in}
 use Rattle.hub_authority.proofs.Asking.{plan_of, all_acted_more}
 use Rattle.hub_valid.specs.Lemmas.Lists.{flat_map_append}
-use Rattle.hub_authority.proofs.Telling.{exports_after}
 
 -- ---- what is said in an outbox
 
@@ -150,7 +151,7 @@ events_say k b w (e ∷ es) x y is =
         ≡ said_to b (plan_of k w x).out ++ messages_asked x.ports.exports k b (e ∷ es)
     by None none is later =
         later is
-        ∙ (λ i. at (cap_at e.oid x.ports) none i ++ messages_asked (exports_after k w e x i) k b es)
+        ∙ (λ i. at (cap_at e.oid x.ports) none i ++ messages_asked (exports_after k w (cap_at e.oid x.ports) e.event x i) k b es)
         ∙ append_assoc (said_to b (plan_of k w x).out)
         (message_asked x.ports.exports k b (cap_under x.ports.exports e.oid) e.event)
         (messages_asked x.ports.exports k b es)

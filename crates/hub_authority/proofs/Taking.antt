@@ -25,7 +25,8 @@ use Rattle.hub_valid.specs.Lemmas.Values.{all_weaker, all_append}
 use Rattle.hub_laws.proofs.Steps.{named_of}
 use Rattle.hub_authority.specs.Asked.{takes_back, cap_under, let_in, row_of, row_asked, next_after, rows_asked}
 use Rattle.hub_authority.specs.Asked.{rows_left, messages_asked}
-use Rattle.hub_authority.specs.Asked.{messages_in, events_of}
+use Rattle.hub_laws.specs.Standing.{events_of}
+use Rattle.hub_authority.specs.Asked.{messages_in}
 use Rattle.hub_authority.specs.Laws.{DoesWhatIsAsked}
 use Rattle.hub_valid.specs.Lemmas.Lives.{live_committed, rows_posted}
 use Rattle.hub_authority.proofs.Asking.{StandBelow, plan_of, IsWalked, all_led}
@@ -33,7 +34,8 @@ use Rattle.hub_valid.specs.Lemmas.Lists.{filter_all, flat_map_append}
 use Rattle.hub_valid.specs.Lemmas.Plans.{goes_on_all_acted}
 use Rattle.hub_authority.proofs.Rows.{once_sorted}
 use Rattle.hub_authority.proofs.Saying.{events_say, ascend_all_acted, posted_events}
-use Rattle.hub_authority.proofs.Sparing.{AreLive, spares_finished}
+use Rattle.hub_valid.specs.Lemmas.Sparing.{AreLive, spares_finished}
+use Rattle.hub_authority.proofs.Sparing.{messages_finished}
 use Rattle.hub_authority.proofs.Telling.{live_from_actors}
 
 -- its table is one, and the handles that a connection has in use ascend, and stand for rows that have been made
@@ -137,11 +139,11 @@ does : (k : ℕ) (ports : PortsState) (es : List TurnEvent) (s t : State) → Is
     → is_live (actor_of k) s.world.table ≡ true → Made k ports es s t
     → DoesWhatIsAsked k ports es s (finished [] t)
 does k ports es s t table live made =
-    let spares = spares_finished t (made_live k ports es s t table live made) in
+    let spares = spares_finished [] t (made_live k ports es s t table live made) in
     record {
       rows = spares.rows ∙ ap (filter (λ r. is_live r.owner (finished [] t).world.table)) made.rows;
       messages = λ b x y old new.
-          let had = spares.messages b y new in
+          let had = messages_finished [] t b y new in
           had.same ∙ made.messages b x had.actor old had.found;
     }
 

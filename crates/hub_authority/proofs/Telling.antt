@@ -1,13 +1,12 @@
 -- What each step makes of a connection's exports, and of what it is told.
 use Rattle.std.proofs.Common.{◌≡◌, ◌≢◌, ℕ, ◌+◌, ◌-◌, ◌<◌, ◌≤◌, List, [], ◌∷◌, ◌==◌, Bool, true, false, cond}
-use Rattle.std.proofs.Common.{Option, Some, None, ◌⊎◌, inl, inr, refl, ap, sym, ◌∙◌, subst, arith, drop, nat_lt, length}
+use Rattle.std.proofs.Common.{Option, Some, None, ◌⊎◌, inl, inr, refl, ap, sym, ◌∙◌, subst, arith, nat_lt, length}
 use Rattle.std.proofs.Common.{is_some}
 use Rattle.std.specs.Prelude.{nat_le}
 use Rattle.std.specs.List.{flat_map}
 use Rattle.std.proofs.lemmas.Bool.Decides.{nat_tests}
 use Rattle.std.proofs.lemmas.List.{append-nil}
 use Rattle.pv_value.specs.Plain.{Plain}
-use Rattle.sr_caveat.specs.declared.caps.Cap.{Cap}
 use Rattle.ac_table.specs.declared.batches.Batch.{Batch}
 use Rattle.ac_table.specs.Tables.{Actor, TableState, is_live, first_batch, first_in, find_actor, popped, lowest}
 use Rattle.ac_world.specs.declared.turns.Turned.TheVariants as turned
@@ -16,19 +15,14 @@ use Rattle.ac_world.specs.Worlds.{WorldState, actor_of, entry_of, with_entry, wi
 use Rattle.ac_world.specs.Turns.{After as TurnOf, turn_first, turn_with, begin_turn, all_turned, all_answered}
 use Rattle.ac_world.specs.Turns.{space_turn, plain_turn, connection_turn}
 use Rattle.ac_world.specs.Lemmas.Entries.{put_found, put_other, out_other}
-use Rattle.rl_packet.specs.declared.packets.Event.{Event}
-use Rattle.rl_packet.specs.declared.packets.Event.TheVariants.{Assert, Retract, Message, Sync}
 use Rattle.rl_packet.specs.declared.packets.TurnEvent.{TurnEvent}
-use Rattle.rl_ports.specs.declared.ports.Inbound.{Inbound}
-use Rattle.rl_ports.specs.declared.ports.Inbound.TheVariants.{Row, Refused as Without}
-use Rattle.rl_ports.specs.Ports.{PortsState, ports_to, with_exports, inbound_of}
+use Rattle.rl_ports.specs.Ports.{PortsState, ports_to, with_exports}
 use Rattle.rl_wire.specs.Crossing.{all_exported}
 use Rattle.hub_machine.specs.declared.faults.Fault.{Fault}
-use Rattle.hub_machine.specs.Faults.{over, error_of}
+use Rattle.hub_machine.specs.Faults.{error_of}
 use Rattle.hub_machine.specs.State.{State, ports_of}
-use Rattle.hub_machine.specs.Admission.{Admitting, Admitted, refused, admitted, before_all, cause_of, after, after_at}
-use Rattle.hub_machine.specs.Admission.{after_event, after_assertion, after_message, after_retraction, unless}
-use Rattle.hub_machine.specs.Admission.{let_through, kept, cap_at, all_admitted, admission}
+use Rattle.hub_machine.specs.Admission.{Admitting, Admitted, refused, admitted}
+use Rattle.hub_machine.specs.Admission.{admission}
 use Rattle.hub_machine.specs.Endings.{nameless, failed, closed}
 use Rattle.hub_machine.specs.Machine.{After, step, done, is_worn, unchanged, ends, opened, refusal, arrive_unless}
 use Rattle.hub_machine.specs.Machine.{accepted, judged, packet_at, bad_at, close_at, foreign_to, telling_fault}
@@ -39,12 +33,14 @@ use Rattle.hub_machine.specs.declared.steps.Step.TheVariants.{Arrive, Packet, Ba
 use Rattle.hub_machine.specs.declared.steps.Reply.{Reply}
 use Rattle.hub_machine.specs.declared.steps.Reply.TheVariants.{Worn, Barred, Halted, Full, Gone, Refused, Idle, Sent}
 use Rattle.hub_machine.specs.declared.steps.Reply.TheVariants.{Ran, Taken}
+use Rattle.hub_valid.specs.Lemmas.Admitted.{exports_stay}
+use Rattle.hub_valid.specs.Lemmas.Lasting.{live_popped, lasts_sent}
 use Rattle.hub_authority.specs.Named.{batch_sent, told_by, first_by, opened_as}
-use Rattle.hub_valid.specs.Lemmas.Lives.{live_placed, live_committed, live_with_inbox}
+use Rattle.hub_valid.specs.Lemmas.Lives.{live_placed, live_committed}
 use Rattle.hub_authority.proofs.Endings.{HadThem, Keeps, keeps_all, keeps_then, keeps_failed, keeps_closed}
 use Rattle.hub_authority.proofs.Endings.{keeps_finished}
 use Rattle.hub_authority.proofs.Exporting.{Tells, WasTold, CameWith, tells_nothing, tells_then}
-use Rattle.hub_valid.specs.Lemmas.Plans.{goes_on_all_acted, goes_on_all_turned, goes_on_all_answered}
+use Rattle.hub_valid.specs.Lemmas.Plans.{goes_on_all_turned, goes_on_all_answered}
 
 -- ---- the world changes
 
@@ -148,58 +144,6 @@ arrive_tells k space s = worn (is_worn s (Arrive space))
 
 -- ---- a packet
 
-exports_retraction : (h : ℕ) (o : Option Inbound) (w : WorldState) (x : Admitting)
-    → (after_retraction h o w x).ports.exports ≡ x.ports.exports
-exports_retraction h None w x = refl
-exports_retraction h (Some Without) w x = refl
-exports_retraction h (Some (Row n)) w x = refl
-
-exports_assertion : (w : WorldState) (to : Cap) (o : Option Plain) (h : ℕ) (x : Admitting)
-    → (after_assertion w to o h x).ports.exports ≡ x.ports.exports
-exports_assertion w to None h x = refl
-exports_assertion w to (Some v) h x = refl
-
-exports_message : (w : WorldState) (to : Cap) (o : Option Plain) (x : Admitting)
-    → (after_message w to o x).ports.exports ≡ x.ports.exports
-exports_message w to None x = refl
-exports_message w to (Some v) x = refl
-
-exports_event : (k : ℕ) (w : WorldState) (to : Cap) (e : Event) (x : Admitting)
-    → (after_event k w to e x).ports.exports ≡ x.ports.exports
-exports_event k w to (Assert v h) x = exports_assertion w to (let_through to (kept k v x)) h x
-exports_event k w to (Retract h) x = exports_retraction h (inbound_of h x.ports) w x
-exports_event k w to (Message v) x = exports_message w to (let_through to (kept k v x)) x
-exports_event k w to (Sync peer) x = refl
-
-pub exports_after : (k : ℕ) (w : WorldState) (e : TurnEvent) (x : Admitting)
-    → (after k w e x).ports.exports ≡ x.ports.exports
-exports_after k w e x = by (cap_at e.oid x.ports)
-  where
-    by : (o : Option Cap) → (after_at k w o e.event x).ports.exports ≡ x.ports.exports
-    by None = refl
-    by (Some to) = exports_event k w to e.event x
-
-admitted_exports : (k : ℕ) (w : WorldState) (es : List TurnEvent) (x y : Admitting)
-    → all_admitted k w es x ≡ admitted y → y.ports.exports ≡ x.ports.exports
-admitted_exports k w [] x y is = let same : x ≡ y = cc in ap (λ z. z.ports.exports) (sym same)
-admitted_exports k w (e ∷ es) x y is =
-    by (cause_of k w e x) is (λ later. admitted_exports k w es (after k w e x) y later)
-  where
-    by : (c : Option Fault) → unless c (all_admitted k w es (after k w e x)) ≡ admitted y
-        → (all_admitted k w es (after k w e x) ≡ admitted y → y.ports.exports ≡ (after k w e x).ports.exports)
-        → y.ports.exports ≡ x.ports.exports
-    by None is later = later is ∙ exports_after k w e x
-    by (Some f) is later = absurd cc
-
-admission_exports : (k : ℕ) (ports : PortsState) (w : WorldState) (es : List TurnEvent) (y : Admitting)
-    → admission k ports w es ≡ admitted y → y.ports.exports ≡ ports.exports
-admission_exports k ports w es y is = by (over 1024 3 (length es)) is
-  where
-    by : (c : Option Fault) → unless c (all_admitted k w es (before_all k ports w)) ≡ admitted y
-        → y.ports.exports ≡ ports.exports
-    by None is = admitted_exports k w es (before_all k ports w) y is
-    by (Some f) is = absurd cc
-
 keeps_accepted : (k j : ℕ) (x : Admitting) (ports : PortsState) (s : State) → ports_of j s ≡ Some ports
     → x.ports.exports ≡ ports.exports → Keeps k s (accepted j x (nameless j s))
 keeps_accepted k j x ports s there same = record {
@@ -210,10 +154,7 @@ keeps_accepted k j x ports s there same = record {
   where
     live : is_live (actor_of k) (committed (actor_of j) (all_acted (actor_of j) x.acts (plan_over s.world.table)))
         ≡ is_live (actor_of k) s.world.table
-    live =
-        live_committed (actor_of k) (actor_of j) (all_acted (actor_of j) x.acts (plan_over s.world.table))
-        ∙ live_from_actors (actor_of k) (all_acted (actor_of j) x.acts (plan_over s.world.table)).table s.world.table
-        (goes_on_all_acted (actor_of j) x.acts (plan_over s.world.table)).actors
+    live = (lasts_sent (actor_of j) x.acts s.world).live (actor_of k)
 
     by : (b : Bool) → (k == j) ≡ b → (p : PortsState) → ports_of k (accepted j x (nameless j s)) ≡ Some p
         → HadThem k s p
@@ -245,7 +186,7 @@ keeps_packet k j es s = by (ports_of j s) refl
         keeps_then k s (failed j f s) _ (keeps_failed k j f s) (keeps_finished k [] (failed j f s))
     judge ports (admitted x) there is =
         keeps_then k s (accepted j x (nameless j s)) _
-        (keeps_accepted k j x ports s there (admission_exports j ports s.world es x is))
+        (keeps_accepted k j x ports s there (exports_stay j ports s.world es x is))
         (keeps_finished k [] (accepted j x (nameless j s)))
 
     by : (o : Option PortsState) → ports_of j s ≡ o → Keeps k s (packet_at j o es s).state
@@ -295,9 +236,6 @@ none_refused f (Some b) = refl
 -- what follows from a turn in s
 abbrev follows : ℕ → State → TurnOf → After
 follows a s t = after_turn a t.turned (record s { world = t.world })
-
-live_popped : (b a : ℕ) (t : TableState) → is_live b (popped a t) ≡ is_live b t
-live_popped b a t = live_with_inbox b a (drop 1) t.actors
 
 -- a system actor's
 quiet_system : (k a : ℕ) (b : Batch) (s : State) → is_system a ≡ true

@@ -8,7 +8,6 @@ use Rattle.sr_caveat.specs.Caps.{cap_of}
 use Rattle.ac_table.specs.declared.batches.Row.{Row as TableRow}
 use Rattle.ac_table.specs.declared.batches.Event.{Event as Told}
 use Rattle.ac_table.specs.declared.batches.Event.TheVariants as told
-use Rattle.ac_table.specs.declared.batches.Batch.{Batch}
 use Rattle.ac_world.specs.Worlds.{actor_of}
 use Rattle.rl_packet.specs.declared.packets.Event.{Event}
 use Rattle.rl_packet.specs.declared.packets.Event.TheVariants.{Assert, Retract, Message, Sync}
@@ -114,7 +113,3 @@ message_in (told.Sync entity peer) = []
 -- the messages among events
 abbrev pub messages_in : List Told → List Told
 messages_in es = flat_map message_in es
-
--- the events of an inbox, in order
-abbrev pub events_of : List Batch → List Told
-events_of bs = flat_map (λ b. b.events) bs

@@ -1,10 +1,9 @@
 -- Authority: a packet that is taken does exactly what its events ask for at the connection's exports, as their caveats
 -- let it pass, and these are its first object and the references of which it was told. Syndicate Protocol,
 -- "capabilities".
-use Rattle.std.specs.Prelude.{◌≡◌, ℕ, ◌++◌, List, Some, filter}
+use Rattle.std.specs.Prelude.{◌≡◌, ℕ, ◌++◌, List, Some}
 use Rattle.std.specs.List.{flat_map}
-use Rattle.ac_table.specs.declared.batches.Row.{Row as TableRow}
-use Rattle.ac_table.specs.Tables.{Actor, find_actor, is_live}
+use Rattle.ac_table.specs.Tables.{Actor, find_actor}
 use Rattle.rl_packet.specs.declared.packets.TurnEvent.{TurnEvent}
 use Rattle.rl_packet.specs.Holding.{events_in}
 use Rattle.rl_ports.specs.Ports.{PortsState}
@@ -15,13 +14,11 @@ use Rattle.hub_machine.specs.declared.steps.Step.{Step}
 use Rattle.hub_machine.specs.declared.steps.Step.TheVariants.{Packet}
 use Rattle.hub_machine.specs.declared.steps.Reply.TheVariants.{Taken}
 use Rattle.hub_laws.specs.Laws.{AreAllowed}
-use Rattle.hub_authority.specs.Asked.{rows_asked, rows_left, messages_asked, messages_in, events_of}
+use Rattle.hub_laws.specs.Refusals.{of_the_live}
+use Rattle.hub_laws.specs.Standing.{events_of}
+use Rattle.hub_authority.specs.Asked.{rows_asked, rows_left, messages_asked, messages_in}
 use Rattle.hub_authority.specs.Meant.{AreSentAs}
 use Rattle.hub_authority.specs.Named.{told_from, AreItsOwn}
-
--- the rows, without those whose owners the step's end has ended
-abbrev pub of_the_live : State → List TableRow → List TableRow
-of_the_live s rows = filter (λ r. is_live r.owner s.world.table) rows
 
 -- from s to t: what a packet of connection k, which had these ports, does
 pub record DoesWhatIsAsked (k : ℕ) (ports : PortsState) (es : List TurnEvent) (s t : State) : Type 0 where

@@ -4,7 +4,6 @@ use Rattle.std.proofs.Common.{Option, Some, None, is_some, inl, inr, refl, sym, 
 use Rattle.std.specs.Map.{keys_of}
 use Rattle.std.proofs.lemmas.Bool.Decides.{nat_tests}
 use Rattle.pv_value.specs.Plain.{Plain}
-use Rattle.sr_caveat.specs.declared.caps.Cap.{Cap}
 use Rattle.ac_table.specs.declared.batches.Batch.{Batch}
 use Rattle.ac_table.specs.Tables.{Actor, IsTable, find_actor, is_live, rows_of, ended, first_batch}
 use Rattle.ac_world.specs.declared.spreads.Spread.{Spread as SpreadOf}
@@ -15,24 +14,19 @@ use Rattle.ac_world.specs.Turns.{After as TurnOf, space_turn, plain_turn, connec
 use Rattle.ac_world.specs.Worlds.{WorldState, entry_of, with_entry, without_entry, is_space, is_system, actor_of, gone}
 use Rattle.ac_world.specs.Worlds.{ended_of}
 use Rattle.ac_world.specs.Lemmas.Entries.{put_found, put_other, out_other}
-use Rattle.rl_packet.specs.declared.packets.Event.{Event}
-use Rattle.rl_packet.specs.declared.packets.Event.TheVariants.{Assert, Retract, Message, Sync}
 use Rattle.rl_packet.specs.declared.packets.TurnEvent.{TurnEvent}
-use Rattle.rl_ports.specs.declared.ports.Inbound.{Inbound}
-use Rattle.rl_ports.specs.declared.ports.Inbound.TheVariants.{Row, Refused}
-use Rattle.rl_ports.specs.Ports.{PortsState, inbound_of}
+use Rattle.rl_ports.specs.Ports.{PortsState}
 use Rattle.hub_machine.specs.declared.faults.Fault.{Fault}
 use Rattle.hub_machine.specs.declared.faults.Fault.TheVariants.{Spread}
 use Rattle.hub_machine.specs.State.{State, is_there, ports_of}
-use Rattle.hub_machine.specs.Admission.{Admitting, Admitted, refused, admitted, before_all, cause_of, after_retraction}
-use Rattle.hub_machine.specs.Admission.{let_through, kept, cap_at, after_assertion, after_message, after_event}
-use Rattle.hub_machine.specs.Admission.{after_at, after, unless, all_admitted, admission}
+use Rattle.hub_machine.specs.Admission.{Admitting, Admitted, refused, admitted, admission}
 use Rattle.hub_machine.specs.Endings.{nameless, closed, failed, failed_where, spread_out, all_spread_out}
 use Rattle.hub_machine.specs.Endings.{overrun_of, all_overrun, finished}
 use Rattle.hub_machine.specs.Machine.{unchanged, accepted, judged, packet_at, bad_at, close_at, telling_fault}
 use Rattle.hub_machine.specs.Machine.{exporting, told_unless, tell, fault_for, tell_fault, after_turn, turn_of, rest}
 use Rattle.hub_machine.specs.Machine.{work_by}
 use Rattle.hub_machine.specs.declared.steps.Reply.TheVariants.{Halted, Idle}
+use Rattle.hub_valid.specs.Lemmas.Admitted.{exports_stay}
 use Rattle.hub_laws.specs.Scratch.{exports_in}
 use Rattle.hub_laws.proofs.EndingActors.{retractions_ascend, ended_none}
 use Rattle.hub_laws.proofs.Growing.{Grows, grows_not, grows_on, ended_grows, sent_grows, other_turn_grows}
@@ -146,52 +140,6 @@ close_stays k j (Some p) s =
 
 -- ---- a packet is taken: it exports nothing
 
-retraction_exports : (h : ℕ) (o : Option Inbound) (w : WorldState) (x : Admitting)
-    → (after_retraction h o w x).ports.exports ≡ x.ports.exports
-retraction_exports h None w x = refl
-retraction_exports h (Some Refused) w x = refl
-retraction_exports h (Some (Row n)) w x = refl
-
-assertion_exports : (w : WorldState) (to : Cap) (o : Option Plain) (h : ℕ) (x : Admitting)
-    → (after_assertion w to o h x).ports.exports ≡ x.ports.exports
-assertion_exports w to None h x = refl
-assertion_exports w to (Some v) h x = refl
-
-message_exports : (w : WorldState) (to : Cap) (o : Option Plain) (x : Admitting)
-    → (after_message w to o x).ports.exports ≡ x.ports.exports
-message_exports w to None x = refl
-message_exports w to (Some v) x = refl
-
-event_exports : (j : ℕ) (w : WorldState) (to : Cap) (e : Event) (x : Admitting)
-    → (after_event j w to e x).ports.exports ≡ x.ports.exports
-event_exports j w to (Assert v h) x = assertion_exports w to (let_through to (kept j v x)) h x
-event_exports j w to (Retract h) x = retraction_exports h (inbound_of h x.ports) w x
-event_exports j w to (Message v) x = message_exports w to (let_through to (kept j v x)) x
-event_exports j w to (Sync peer) x = refl
-
-at_exports : (j : ℕ) (w : WorldState) (o : Option Cap) (e : Event) (x : Admitting)
-    → (after_at j w o e x).ports.exports ≡ x.ports.exports
-at_exports j w None e x = refl
-at_exports j w (Some to) e x = event_exports j w to e x
-
-all_exports : (j : ℕ) (w : WorldState) (es : List TurnEvent) (x y : Admitting) → all_admitted j w es x ≡ admitted y
-    → y.ports.exports ≡ x.ports.exports
-all_exports j w [] x y is = let same : x ≡ y = cc in ap (λ (z : Admitting). z.ports.exports) (sym same)
-all_exports j w (e ∷ es) x y is =
-    by (cause_of j w e x) is (all_exports j w es (after j w e x) y)
-    ∙ at_exports j w (cap_at e.oid x.ports) e.event x
-  where
-    by : (c : Option Fault) → unless c (all_admitted j w es (after j w e x)) ≡ admitted y
-        → (all_admitted j w es (after j w e x) ≡ admitted y → y.ports.exports ≡ (after j w e x).ports.exports)
-        → y.ports.exports ≡ (after j w e x).ports.exports
-    by None is later = later is
-    by (Some f) is later = absurd cc
-
-admission_exports : (j : ℕ) (p : PortsState) (w : WorldState) (es : List TurnEvent) (c : Option Fault) (x : Admitting)
-    → unless c (all_admitted j w es (before_all j p w)) ≡ admitted x → x.ports.exports ≡ p.exports
-admission_exports j p w es None x is = all_exports j w es (before_all j p w) x is
-admission_exports j p w es (Some f) x is = absurd cc
-
 accepted_stays : (k j : ℕ) (p : PortsState) (x : Admitting) (s : State) → IsTable s.world.table → IsNamed j p s
     → x.ports.exports ≡ p.exports → Stays k s (accepted j x (nameless j s))
 accepted_stays k j p x s table named is = record {
@@ -212,7 +160,7 @@ judged_stays : (k j : ℕ) (p : PortsState) (es : List TurnEvent) (d : Admitted)
 judged_stays k j p es (refused f) s table named is = failing_stays k j f s
 judged_stays k j p es (admitted x) s table named is =
     let t : State = accepted j x (nameless j s) in
-    stays_on k s t _ (accepted_stays k j p x s table named (admission_exports j p s.world es _ x is))
+    stays_on k s t _ (accepted_stays k j p x s table named (exports_stay j p s.world es x is))
     (finished_stays k [] t)
 
 pub packet_stays : (k j : ℕ) (o : Option PortsState) (es : List TurnEvent) (s : State) → IsTable s.world.table

@@ -265,7 +265,7 @@ exports_messaged : (to : Cap) (o : Option Plain) (w : WorldState) (x : Admitting
 exports_messaged to None w x = refl
 exports_messaged to (Some v) w x = refl
 
-exports_after : (k : ℕ) (w : WorldState) (o : Option Cap) (e : Event) (x : Admitting)
+pub exports_after : (k : ℕ) (w : WorldState) (o : Option Cap) (e : Event) (x : Admitting)
     → (after_at k w o e x).ports.exports ≡ x.ports.exports
 exports_after k w None e x = refl
 exports_after k w (Some to) (Assert v h) x = exports_asserted to (let_through to (kept k v x)) h w x
