@@ -81,8 +81,9 @@ abbrev pub told_reply : Option Fault → ℕ → Batch → PortsState → Reply
 told_reply None k b ports = packet_to (exports_after k b ports) k b
 told_reply (Some f) k b ports = Refused f
 
+-- a live connection has names: it doesn't come about that it has none
 abbrev pub IsToldTo : ℕ → Option PortsState → Batch → Reply → Type 0
-IsToldTo k None b r = Unit {0}
+IsToldTo k None b r = r ≡ Ran
 IsToldTo k (Some ports) b r = r ≡ told_reply (telling_fault k b ports) k b ports
 
 -- the reply to an actor's turn that takes this batch

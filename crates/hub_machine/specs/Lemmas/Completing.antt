@@ -159,7 +159,7 @@ told_is None k b ports s = refl
 told_is (Some f) k b ports s = refl
 
 tell_is : (k : ℕ) (o : Option PortsState) (b : Batch) (s : State) → IsToldTo k o b (tell k o b s).reply
-tell_is k None b s = tt
+tell_is k None b s = refl
 tell_is k (Some ports) b s = told_is (telling_fault k b ports) k b ports s
 
 told_after : (k a : ℕ) (s : State) (b : Batch) → IsToldTo k (ports_of k s) b (tell k (ports_of k (taken_by a s b)) b
