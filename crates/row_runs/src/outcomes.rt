@@ -85,10 +85,9 @@ fn status_of(
     diag: &mut MemSink,
 ) -> u8
     requires words { begins_with_serve (texts row.now.words.items) ≡ false }
-    requires input { input ≡ (streams_of (row_told row.now)).input }
     requires out { out.old ≡ (streams_of (row_told row.now)).out }
     requires diag { diag.old ≡ (streams_of (row_told row.now)).diag }
-    ensures { (now : Streams) × IsRun (row_told row.now) now result
+    ensures { (now : Streams) × IsRun (texts row.now.words.items) input now result
         × (out.new ≡ now.out) × (diag.new ≡ now.diag) }
 {
     let links = MemListen::new(Vec::new(alloc), Vec::new(alloc));
