@@ -1,5 +1,5 @@
--- What each call of the codecs answers.
-use Rattle.std.specs.Prelude.{◌≡◌, ℕ, zero, suc, ◌-◌, false, ◌++◌, ◌∷◌, [], List, length, take, codes, ◌⊎◌}
+-- What each call of the codecs and the hash answers.
+use Rattle.std.specs.Prelude.{◌≡◌, ℕ, zero, suc, ◌-◌, false, ◌++◌, ◌∷◌, [], List, length, take, drop, replicate, slice_index, codes, ◌⊎◌}
 use Rattle.std.specs.Prelude.{string_bytes}
 use Rattle.std.specs.Fmt.{decimal}
 use Rattle.pv_value.specs.Plain.{Plain, plains}
@@ -12,6 +12,8 @@ use Rattle.pv_binary.specs.Reads.{BeginsWith as BytesBeginWith, Stops as BytesSt
 use Rattle.pv_binary.specs.Written.{written_all}
 use Rattle.pv_canon.specs.Canonical.{canonical}
 use Rattle.pv_print.specs.Printed.{printed}
+use Rattle.b2s_mac.specs.Blake2s.{blake2s}
+use Rattle.b2s_mac.specs.Hmac.{hmac}
 use Rattle.row_cases.specs.Names.{text_fault_name, binary_fault_name}
 use Rattle.row_cases.specs.Told.{BytesOrStop, TextOrStop, TellsFault, told_up_to, told_before, tokens_told}
 use Rattle.row_cases.specs.Told.{said, IsWithout}
@@ -112,3 +114,25 @@ abbrev pub GivesFronts : (List ℕ → Answer → Type 0) → List ℕ → List 
 GivesFronts Gives beginning bytes (Text s) = TellFronts Gives beginning bytes (length bytes - 1) (string_bytes s)
 GivesFronts Gives beginning bytes (Bytes b) = ⊥
 GivesFronts Gives beginning bytes (Stops s) = ⊥
+
+-- ---- the hash
+
+-- behind the first n bytes stands a key, as long as the first byte says, and then a message
+abbrev pub key_behind : ℕ → List ℕ → List ℕ
+key_behind n given = take (slice_index given 0) (drop n given)
+
+abbrev pub message_behind : ℕ → List ℕ → List ℕ
+message_behind n given = drop (slice_index given 0) (drop n given)
+
+-- the digest of the message under the key, as long as the second byte says, with zeros behind it; the third byte, where
+-- the message is cut, makes no difference
+abbrev pub GivesDigest : List ℕ → Answer → Type 0
+GivesDigest given (Bytes b) =
+    b.items
+    ≡ blake2s (key_behind 3 given) (slice_index given 1) (message_behind 3 given) ++ replicate (32 - slice_index given 1) 0
+GivesDigest given a = ⊥
+
+-- the code of the message under the key
+abbrev pub GivesMac : List ℕ → Answer → Type 0
+GivesMac given (Bytes b) = b.items ≡ hmac (key_behind 1 given) (message_behind 1 given)
+GivesMac given a = ⊥

@@ -4,6 +4,7 @@ use Rattle.std.specs.Prelude.{◌≡◌, ℕ, List, Option, Some, None, if◌the
 use Rattle.std.specs.Str.{bytes_eq}
 use Rattle.row_cases.specs.Calls.{GivesWritten, GivesFirst, GivesPrinted, GivesCanonical, GivesFirstEnd}
 use Rattle.row_cases.specs.Calls.{GivesLaterStop, GivesNext, GivesTokens, GivesRead, GivesSpelled, GivesFronts}
+use Rattle.row_cases.specs.Calls.{GivesDigest, GivesMac}
 use Rattle.row_cases.specs.Forms.{IsIn}
 use Rattle.row_cases.specs.declared.codecs.Answer.{Answer}
 use Rattle.row_cases.specs.declared.codecs.Answer.TheVariants as answer
@@ -13,7 +14,7 @@ use Rattle.row_cases.specs.declared.tables.Table.{Table}
 use Rattle.row_cases.specs.declared.tables.Table.TheVariants.{TextFaults, LaterTextFaults}
 use Rattle.row_cases.specs.declared.tables.Table.TheVariants.{Texts, FirstValues, NextValues}
 use Rattle.row_cases.specs.declared.tables.Table.TheVariants.{NextFaults, BinaryFaults, Binary, Printed, Canonical}
-use Rattle.row_cases.specs.declared.tables.Table.TheVariants.{Tokens, TokenFaults, TextFronts, BinaryFronts}
+use Rattle.row_cases.specs.declared.tables.Table.TheVariants.{Tokens, TokenFaults, TextFronts, BinaryFronts, Digests, Macs}
 
 -- the table of a file's name
 abbrev pub table_named : List ℕ → Option Table
@@ -32,13 +33,17 @@ table_named name =
     else (if bytes_eq name (codes "token_faults") then Some TokenFaults
     else (if bytes_eq name (codes "text_fronts") then Some TextFronts
     else (if bytes_eq name (codes "binary_fronts") then Some BinaryFronts
-    else None)))))))))))))
+    else (if bytes_eq name (codes "blake2s") then Some Digests
+    else (if bytes_eq name (codes "hmac") then Some Macs
+    else None)))))))))))))))
 
 -- how what is given to the call is written
 abbrev pub given_form : Table → Form
 given_form BinaryFaults = form.Hex
 given_form Binary = form.Hex
 given_form BinaryFronts = form.Hex
+given_form Digests = form.Hex
+given_form Macs = form.Hex
 given_form table = form.Text
 
 -- ---- what has to be answered, of what stands behind the arrow
@@ -61,6 +66,8 @@ WantsText text a = ⊥
 abbrev pub IsWanted : Table → List ℕ → Answer → Type 0
 IsWanted Texts text a = WantsBytes text a
 IsWanted Canonical text a = WantsBytes text a
+IsWanted Digests text a = WantsBytes text a
+IsWanted Macs text a = WantsBytes text a
 IsWanted TextFaults text a = WantsStop text a
 IsWanted LaterTextFaults text a = WantsStop text a
 IsWanted NextFaults text a = WantsStop text a
@@ -85,3 +92,5 @@ Gives Tokens given a = GivesTokens given a
 Gives TokenFaults given a = GivesTokens given a
 Gives TextFronts given a = GivesFronts GivesFirstEnd (codes "Unclosed at ") given a
 Gives BinaryFronts given a = GivesFronts GivesRead (codes "Truncated at ") given a
+Gives Digests given a = GivesDigest given a
+Gives Macs given a = GivesMac given a

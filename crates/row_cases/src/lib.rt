@@ -1,10 +1,11 @@
-//! Cases of the codecs in tables, how bytes are written in a file, what differs between two
+//! Cases of the codecs and the hash in tables, how bytes are written in a file, what differs between two
 //! outcomes, and the count of what passed.
 #![tactic(auto)]
 
 mod codecs;
 mod differences;
 mod faults;
+mod hashes;
 mod names;
 mod shown;
 mod spelling;

@@ -1,4 +1,4 @@
-//! Tables of cases: a line each, with what a call of the codecs is given and what it answers.
+//! Tables of cases: a line each, with what a call of the codecs or the hash is given and what it answers.
 ghost use Rattle.std.specs.Prelude.{◌≡◌, ◌≢◌, ◌+◌, ℕ, List, None, IfOk, IfErr, IfSome, OnOk, All};
 ghost use Rattle.std.specs.Prelude.{count_by};
 ghost use Rattle.std.specs.Prelude.{[], length, string_bytes};
@@ -15,6 +15,7 @@ use crate::codecs::{
 };
 use crate::differences::answers_differ;
 use crate::faults::Fault;
+use crate::hashes::{digest_of, mac_of};
 use crate::spelling::{Form, bytes_in};
 use crate::tally::Findings;
 use std::alloc::{AllocError, Global};
@@ -50,6 +51,10 @@ pub enum Table {
     TextFronts,
     /// Bytes of a value, and where each front of them stops.
     BinaryFronts,
+    /// Keys and messages, and the digest.
+    Digests,
+    /// Keys and messages, and the code.
+    Macs,
 }
 
 /// The table of a file's name.
@@ -71,6 +76,8 @@ pub fn find_table(name: &str) -> Option<Table>
         "token_faults" => Some(Table::TokenFaults),
         "text_fronts" => Some(Table::TextFronts),
         "binary_fronts" => Some(Table::BinaryFronts),
+        "blake2s" => Some(Table::Digests),
+        "hmac" => Some(Table::Macs),
         _ => None,
     }
 }
@@ -81,7 +88,11 @@ impl Table {
         ensures { result ≡ given_form self }
     {
         match self {
-            Table::BinaryFaults | Table::Binary | Table::BinaryFronts => Form::Hex,
+            Table::BinaryFaults
+            | Table::Binary
+            | Table::BinaryFronts
+            | Table::Digests
+            | Table::Macs => Form::Hex,
             _ => Form::Text,
         }
     }
@@ -91,7 +102,7 @@ impl Table {
         ensures { IfOk result (λ a. IsWanted self text.now a) }
     {
         match self {
-            Table::Texts | Table::Canonical => {
+            Table::Texts | Table::Canonical | Table::Digests | Table::Macs => {
                 Ok(Answer::Bytes(bytes_in(alloc, Form::Hex, text)?))
             }
             Table::TextFaults
@@ -123,6 +134,8 @@ impl Table {
             Table::Tokens | Table::TokenFaults => tokens_of(alloc, given),
             Table::TextFronts => text_fronts(alloc, given),
             Table::BinaryFronts => binary_fronts(alloc, given),
+            Table::Digests => digest_of(alloc, given),
+            Table::Macs => mac_of(alloc, given),
         }
     }
 
