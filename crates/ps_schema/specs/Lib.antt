@@ -1,0 +1,7 @@
+pub mod Lemmas
+pub mod Patterns
+pub mod Laws
+pub mod Names
+pub mod Schemas
+pub mod Seen
+pub mod View
