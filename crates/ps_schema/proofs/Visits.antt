@@ -1,20 +1,19 @@
 -- What walks over names see, and what it tells of ways.
 use Rattle.std.proofs.Common.{◌≡◌, ◌+◌, ◌*◌, ◌≤◌, ◌<◌, ℕ, suc, Bool, true, false, ◌||◌, List, [], ◌∷◌, ◌++◌, length, get_or}
-use Rattle.std.proofs.Common.{take, Result, Ok, Err, OnOk, drop, Option, Some, None, ◌⊎◌, inl, inr, refl, sym, ap, subst, ◌∙◌, arith}
+use Rattle.std.proofs.Common.{take, Result, Ok, Err, OnOk, drop, Option, Some, None, inl, inr, refl, sym, ap, subst, ◌∙◌, arith}
 use Rattle.std.proofs.lemmas.List.{drop_more, drop_all, take_more}
 use Rattle.std.proofs.Math.Nat.{mul-le-mul_right, suc-mul, add_comm}
 use Rattle.std.specs.Bool.{Decides}
 use Rattle.std.specs.Str.{bytes_eq}
 use Rattle.ps_schema.specs.Patterns.{PlainPattern, patterns}
-use Rattle.ps_schema.specs.Names.{knows, pattern_under, named_twice, missing_from}
-use Rattle.ps_schema.specs.Schemas.{asks, one_asks, asked_by, leads, IsWay, LeadsBack, IsSchema, IsFirstBack, IsRefused}
+use Rattle.ps_schema.specs.Names.{knows, pattern_under}
+use Rattle.ps_schema.specs.Schemas.{asks, one_asks, asked_by, leads, IsWay, LeadsBack, IsFirstBack}
 use Rattle.ps_schema.specs.Seen.{among, IsReached, Visited, NoneBack}
 use Rattle.ps_schema.specs.Laws.{RefusedIsNone}
 use Rattle.ps_schema.specs.Lemmas.Measures.{measure}
 use Rattle.ps_schema.specs.Lemmas.Ends.{decide, either_side, no_is_not_yes, same_name, its_own_name, unseen, unseen_no_more}
 use Rattle.ps_schema.specs.Lemmas.Ends.{unseen_less, known_by_pattern}
 use Rattle.ps_schema.specs.declared.Definition.{Definition}
-use Rattle.ps_schema.specs.declared.faults.SchemaFault.{SchemaFault}
 use Rattle.ps_schema.specs.declared.faults.SchemaFault.TheVariants.{NoMemory, Unguarded, NoSuchName, NameTwice}
 
 left_side : (a b : Bool) → a ≡ true → (a || b) ≡ true

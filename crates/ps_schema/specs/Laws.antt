@@ -1,8 +1,8 @@
 -- Laws of the definitions.
-use Rattle.std.specs.Prelude.{◌≡◌, ℕ, zero, suc, true, List, length, Option, Some}
+use Rattle.std.specs.Prelude.{◌≡◌, ℕ, zero, suc, true, List, length, Some}
 use Rattle.ps_schema.specs.Patterns.{PlainPattern}
 use Rattle.ps_schema.specs.Names.{pattern_under}
-use Rattle.ps_schema.specs.Schemas.{asks, IsSchema, IsFirstBack, IsRefused}
+use Rattle.ps_schema.specs.Schemas.{asks, IsSchema, IsRefused}
 use Rattle.ps_schema.specs.declared.Definition.{Definition}
 use Rattle.ps_schema.specs.declared.faults.SchemaFault.{SchemaFault}
 use Rattle.ps_schema.specs.declared.faults.SchemaFault.TheVariants.{NoMemory}

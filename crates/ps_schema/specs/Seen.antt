@@ -1,5 +1,5 @@
 -- What a walk over names has seen.
-use Rattle.std.specs.Prelude.{◌≡◌, ◌+◌, ℕ, Bool, true, false, ◌||◌, List, [], ◌∷◌, ◌⊎◌}
+use Rattle.std.specs.Prelude.{◌≡◌, ℕ, Bool, true, false, ◌||◌, List, [], ◌∷◌, ◌⊎◌}
 use Rattle.std.specs.Str.{bytes_eq}
 use Rattle.ps_schema.specs.Names.{knows}
 use Rattle.ps_schema.specs.Schemas.{leads, IsWay, LeadsBack}

@@ -4,11 +4,10 @@ use Rattle.std.specs.Prelude.{Option, Some, None, refl, cond}
 use Rattle.std.proofs.Common.{arith, ap, sym, ◌∙◌}
 use Rattle.std.specs.Str.{bytes_eq}
 use Rattle.std.proofs.lemmas.Slice.Eq.{bytes_eq-Decides}
-use Rattle.ps_schema.specs.Patterns.{PlainPattern, any_value, of_kind, literal, reference, embedded_as, record_with}
-use Rattle.ps_schema.specs.Patterns.{record_of_both, tuple, tuple_with_rest, set_of_all, dictionary_of_all}
-use Rattle.ps_schema.specs.Patterns.{dictionary_with, one_of, all_of, PlainPatterns, no_patterns, then_pattern}
+use Rattle.ps_schema.specs.Patterns.{PlainPattern, reference}
+use Rattle.ps_schema.specs.Patterns.{one_of, all_of, PlainPatterns, no_patterns, then_pattern}
 use Rattle.ps_schema.specs.Names.{knows, pattern_under, first_of, missing, missing_in_all, missing_from}
-use Rattle.ps_schema.specs.Schemas.{asks, one_asks, asked_by, leads, IsWay, LeadsBack, IsSchema}
+use Rattle.ps_schema.specs.Schemas.{asks, one_asks, asked_by, leads, IsWay, IsSchema}
 use Rattle.ps_schema.specs.Seen.{among}
 use Rattle.ps_schema.specs.Laws.{EndsWithin, WaysEnd}
 use Rattle.ps_schema.specs.declared.Definition.{Definition}
