@@ -1,8 +1,6 @@
-//! Tests of scripts and of the top call: calls that take memory, where it is ample, and calls that
-//! no file of rows can bring about.
+//! Tests of the top call that no file of rows can bring about: with threads at hand, and over a
+//! sink of another kind. Calls of the crates below it are made by rows.
 #![tactic(auto)]
 
-#[cfg(test)]
-mod scripts;
 #[cfg(test)]
 mod top;
