@@ -7,8 +7,8 @@ use Rattle.rl_stream.specs.Nexts.{Decider}
 use Rattle.rl_stream.specs.Streams.{StreamState, no_stream, with_bytes}
 use Rattle.hub_machine.specs.State.{is_there}
 use Rattle.sc_script.specs.declared.faults.ScriptFault.{ScriptFault}
-use Rattle.sc_script.specs.Runs.{Running, RunState, goes, stream_of, packets_read, without_stream, bytes_come, IsAt}
-use Rattle.sc_script.specs.Runs.{HasRun, IsStopped, RunsAs, StopsAs}
+use Rattle.sc_script.specs.Runs.{Running, goes, stream_of, packets_read, without_stream, bytes_come}
+use Rattle.sc_script.specs.Keeping.{RunState, IsAt, HasRun, IsStopped, RunsAs, StopsAs}
 
 -- what the code keeps, with other streams
 abbrev pub with_streams : List (ℕ × StreamState) → RunState → RunState

@@ -3,8 +3,8 @@ use Rattle.std.proofs.Common.{◌≡◌, ℕ, zero, suc, refl, sym, ap, ◌∙�
 use Rattle.hub_machine.specs.Replays.{lowest}
 use Rattle.sc_script.specs.declared.faults.ScriptFault.{ScriptFault}
 use Rattle.sc_script.specs.declared.faults.ScriptFault.TheVariants as fault
-use Rattle.sc_script.specs.Runs.{Running, RunState, Course, goes, stops, goes_on, state_of, turned}
-use Rattle.sc_script.specs.Runs.{turned_where, drained, IsAt, HasRun, IsStopped}
+use Rattle.sc_script.specs.Runs.{Running, Course, goes, stops, goes_on, state_of, turned, turned_where, drained}
+use Rattle.sc_script.specs.Keeping.{RunState, IsAt, HasRun, IsStopped}
 
 -- the course as a whole goes on from the state in this way
 abbrev pub GoesOn : Course → (Running → Course) → RunState → Type 0

@@ -4,8 +4,9 @@ use Rattle.rl_stream.specs.Nexts.{Decider}
 use Rattle.hub_machine.specs.declared.steps.Step.TheVariants as step
 use Rattle.sc_events.specs.declared.events.ScriptEvent.{ScriptEvent}
 use Rattle.sc_events.specs.declared.events.ScriptEvent.TheVariants.{Open, Bytes, Close, Turn, Drain}
-use Rattle.sc_script.specs.Runs.{Running, RunState, Course, stops, bad, stepped, turned, drained, bytes_come}
-use Rattle.sc_script.specs.Runs.{was_opened, may_turn, after_event, IsAt}
+use Rattle.sc_script.specs.Runs.{Running, Course, stops, bad, stepped, turned, drained, bytes_come, was_opened}
+use Rattle.sc_script.specs.Runs.{may_turn, after_event}
+use Rattle.sc_script.specs.Keeping.{RunState, IsAt}
 
 -- the event runs as this part does, from where the run is
 abbrev pub IsPart : RunState → ℕ → ScriptEvent → (Decider → Running → Course) → Type 0

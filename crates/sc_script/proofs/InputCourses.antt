@@ -11,9 +11,10 @@ use Rattle.sc_events.specs.SoFar.{AreSoFar}
 use Rattle.sc_events.specs.Lemmas.Reading.{few_so_far}
 use Rattle.sc_script.specs.declared.faults.ScriptFault.{ScriptFault}
 use Rattle.sc_script.specs.declared.faults.ScriptFault.TheVariants as fault
-use Rattle.sc_script.specs.Runs.{Running, RunState, Cause, Course, goes, stops, bad, goes_on, beginning, after_value}
-use Rattle.sc_script.specs.Runs.{after_values, ended, course_of, cause_in, IsAt, HasRun, StopsFor, IsStopped}
-use Rattle.sc_script.specs.Scripts.{IsCourseOf, RanAs, StopsWith, StopsAt}
+use Rattle.sc_script.specs.Runs.{Running, Cause, Course, goes, stops, bad, goes_on, beginning, after_value}
+use Rattle.sc_script.specs.Runs.{after_values, ended, course_of, cause_in}
+use Rattle.sc_script.specs.Keeping.{RunState, IsAt, HasRun, StopsFor, IsStopped, RanAs}
+use Rattle.sc_script.specs.Scripts.{IsCourseOf, StopsWith, StopsAt}
 
 -- ---- courses in parts
 
@@ -44,8 +45,8 @@ module _ (N : Decider) where
   in_parts n [] ws r = let none : n ≡ n + 0 = omega arith in ap (λ m. after_values N m ws r) none
   in_parts n (v ∷ vs) ws r =
       let all : (n + 1) + length vs ≡ n + length (v ∷ vs) = omega arith in
-      goes_with (after_values N (n + length (v ∷ vs)) ws) (after_values N (n + 1) vs) (after_values N (n + 1) (vs ++ ws))
-      (after_value N n (event_of v) r)
+      goes_with (after_values N (n + length (v ∷ vs)) ws) (after_values N (n + 1) vs)
+      (after_values N (n + 1) (vs ++ ws)) (after_value N n (event_of v) r)
       (λ s. in_parts (n + 1) vs ws s ∙ ap (λ m. goes_on (after_values N m ws) (after_values N (n + 1) vs s)) all)
 
   one_more : (n : ℕ) (vs : List Plain) (v : Plain) (r : Running) → n ≡ length vs
@@ -53,7 +54,7 @@ module _ (N : Decider) where
   one_more n vs v r counted =
       let at : 0 + length vs ≡ n = omega arith in
       let last : (m : ℕ) → 0 + length vs ≡ m → after_values N 0 (vs ++ v ∷ []) r
-          ≡ goes_on (after_values N m (v ∷ [])) (after_values N 0 vs r) =
+      ≡ goes_on (after_values N m (v ∷ [])) (after_values N 0 vs r) =
       λ m is. in_parts 0 vs (v ∷ []) r ∙ ap (λ k. goes_on (after_values N k (v ∷ [])) (after_values N 0 vs r)) is in
       last n at ∙ goes_with (after_value N n (event_of v)) (λ s. goes s) (after_values N n (v ∷ []))
       (after_values N 0 vs r) (λ s. goes_no_further (after_values N (n + 1) []) (after_value N n (event_of v) s)
@@ -93,13 +94,14 @@ module _ (form : Form) (bytes : List ℕ) where
       counted = all_counted;
       read = read done.vs done.read;
       runs = λ N d. subst (λ c. HasRun c now) (sym (one_more N n done.vs v beginning done.counted))
-          (part_runs (after_value N n (event_of v)) (after_values N 0 done.vs beginning) s now (done.runs N d) (one N d));
+          (part_runs (after_value N n (event_of v)) (after_values N 0 done.vs beginning) s now (done.runs N d)
+          (one N d));
     }
 
     -- the input is read on in some way
     module _ (short : length bytes ≤ 67108864)
         (on : (vs : List Plain) → AreSoFar form bytes vs next
-            → (ws : List Plain) × (whole : Bool) × AreReadAs form bytes (vs ++ ws) whole) where
+        → (ws : List Plain) × (whole : Bool) × AreReadAs form bytes (vs ++ ws) whole) where
       stops_there : (o : Option Cause)
           → ((N : Decider) → Decides N → StopsFor (after_values N 0 all beginning) o) → StopsWith form bytes o
       stops_there None stop = tt
@@ -114,7 +116,8 @@ module _ (form : Form) (bytes : List ℕ) where
           → IsStopped (after_value N n (event_of v) r) f) → StopsAt form bytes f
       one_stops f one = stops_there (cause_in f) (λ N d.
           subst (λ c. IsStopped c f) (sym (one_more N n done.vs v beginning done.counted))
-          (part_stops (after_value N n (event_of v)) (after_values N 0 done.vs beginning) s f (done.runs N d) (one N d)))
+          (part_stops (after_value N n (event_of v)) (after_values N 0 done.vs beginning) s f (done.runs N d)
+          (one N d)))
 
   -- no value is left
   module _ (n : ℕ) (values : Values) (s : RunState) (done : IsDone form bytes n values s)

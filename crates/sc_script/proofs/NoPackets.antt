@@ -6,8 +6,8 @@ use Rattle.rl_stream.specs.declared.nexts.Next.TheVariants.{Whole, BadBytes, Bad
 use Rattle.rl_stream.specs.Streams.{StreamState}
 use Rattle.hub_machine.specs.declared.steps.Step.{Step}
 use Rattle.sc_script.specs.declared.faults.ScriptFault.{ScriptFault}
-use Rattle.sc_script.specs.Runs.{Running, RunState, goes, stepped, with_stream, with_no_packet, HasRun, IsStopped}
-use Rattle.sc_script.specs.Runs.{RunsAs, StopsAs}
+use Rattle.sc_script.specs.Runs.{Running, goes, stepped, with_stream, with_no_packet}
+use Rattle.sc_script.specs.Keeping.{RunState, HasRun, IsStopped, RunsAs, StopsAs}
 
 pub not_bad : (k : ℕ) (n : Next) (st : StreamState) (r : Running)
     → ((number place : ℕ) → n ≡ BadBytes number place → ⊥) → (n ≡ BadPacket → ⊥)

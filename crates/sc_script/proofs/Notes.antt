@@ -2,7 +2,7 @@
 use Rattle.std.proofs.Common.{◌≡◌, ℕ, ◌+◌, ◌≤◌, min, Option, arith}
 use Rattle.rl_packet.specs.declared.packets.Packet.{Packet}
 use Rattle.hub_outs.specs.Outs.{kept}
-use Rattle.sc_script.specs.Runs.{RunState, noted, size_of}
+use Rattle.sc_script.specs.Keeping.{RunState, noted, size_of}
 
 pub noted_by : (a : Option ℕ) (p : Packet) (s now : RunState) → now.state ≡ s.state → now.outs ≡ kept a p s.outs
     → now.size ≡ s.size + size_of p → now.streams ≡ s.streams → now ≡ noted a p s

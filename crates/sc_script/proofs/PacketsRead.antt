@@ -9,8 +9,8 @@ use Rattle.rl_stream.specs.declared.nexts.Next.TheVariants.{Whole, BadBytes, Bad
 use Rattle.rl_stream.specs.Streams.{StreamState, read_off}
 use Rattle.rl_stream.specs.Lemmas.Wholes.{whole_fits, less_left}
 use Rattle.sc_script.specs.declared.faults.ScriptFault.{ScriptFault}
-use Rattle.sc_script.specs.Runs.{Running, RunState, Course, with_packet, with_next, with_no_packet, all_read, ReadsOn}
-use Rattle.sc_script.specs.Runs.{RunsAs, StopsAs, IsAt, HasRun, IsStopped}
+use Rattle.sc_script.specs.Runs.{Running, Course, with_packet, with_next, with_no_packet, all_read}
+use Rattle.sc_script.specs.Keeping.{RunState, ReadsOn, RunsAs, StopsAs, IsAt, HasRun, IsStopped}
 use Rattle.sc_script.proofs.Nexts.{read_first}
 
 -- ---- courses

@@ -3,7 +3,8 @@ use Rattle.std.proofs.Common.{◌≡◌, Result, IfOk, IfErr, subst}
 use Rattle.std.proofs.lemmas.Result.{IfOk-weaker, IfErr-weaker}
 use Rattle.rl_stream.specs.Nexts.{Decider}
 use Rattle.sc_script.specs.declared.faults.ScriptFault.{ScriptFault}
-use Rattle.sc_script.specs.Runs.{Running, RunState, Course, IsAt, HasRun, IsStopped, RunsAs, StopsAs}
+use Rattle.sc_script.specs.Runs.{Running, Course}
+use Rattle.sc_script.specs.Keeping.{RunState, IsAt, HasRun, IsStopped, RunsAs, StopsAs}
 
 module _ (s : RunState) (part whole : Decider → Running → Course)
     (same : (N : Decider) (r : Running) → IsAt r s → part N r ≡ whole N r) (x : Result RunState ScriptFault) where

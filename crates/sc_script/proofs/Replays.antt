@@ -12,8 +12,8 @@ use Rattle.hub_machine.specs.Lemmas.ReplayLaws.{replay-more, sent_to-more}
 use Rattle.hub_machine.specs.declared.steps.Step.{Step}
 use Rattle.hub_laws.specs.Laws.{AreAllowed}
 use Rattle.hub_outs.specs.Outs.{sent_of}
-use Rattle.sc_script.specs.Runs.{Running, RunState, IsAt, all_sent_from, spelled, sent_size}
-use Rattle.sc_script.specs.Runs.{with_step}
+use Rattle.sc_script.specs.Runs.{Running, all_sent_from, spelled, sent_size, with_step}
+use Rattle.sc_script.specs.Keeping.{RunState, IsAt}
 
 pub allowed_more : (s : State) (es : List Step) (e : Step) → AreAllowed s es → IsAllowed (run_from s es) e
     → AreAllowed s (es ++ e ∷ [])

@@ -1,6 +1,6 @@
 -- A step of a run, by its reply: the run goes on from what is kept behind it, or sends too much.
 use Rattle.std.proofs.Common.{◌≡◌, ℕ, ◌+◌, ◌≤◌, ◌<◌, true, false, [], ◌∷◌, ◌++◌, refl, sym, ap, ◌∙◌, subst}
-use Rattle.std.proofs.Common.{append-nil, arith, nat_lt, length, if◌then◌else◌}
+use Rattle.std.proofs.Common.{append-nil, arith, nat_lt, length, if◌then◌else◌, Option}
 use Rattle.std.proofs.lemmas.Bool.Decides.{nat_tests}
 use Rattle.pv_binary.specs.Written.{written}
 use Rattle.rl_packet.specs.Packets.{packet_value}
@@ -13,9 +13,11 @@ use Rattle.hub_machine.specs.declared.steps.Reply.TheVariants.{Worn, Barred, Hal
 use Rattle.hub_machine.specs.declared.steps.Reply.TheVariants.{Sent, Ran, Taken}
 use Rattle.sc_script.specs.declared.faults.ScriptFault.{ScriptFault}
 use Rattle.sc_script.specs.declared.faults.ScriptFault.TheVariants as fault
-use Rattle.sc_script.specs.Runs.{Running, RunState, Course, goes, stops, limit, by_reply, stepped, with_step}
+use Rattle.sc_script.specs.Runs.{Running, Course, goes, stops, limit, by_reply, stepped, with_step}
+use Rattle.sc_script.specs.Keeping.{RunState}
 use Rattle.hub_outs.specs.Outs.{sent_of, kept, turning}
-use Rattle.sc_script.specs.Runs.{unless_too_much, sent_size, size_of, IsAt, HasRun, IsStopped}
+use Rattle.sc_script.specs.Runs.{unless_too_much, sent_size}
+use Rattle.sc_script.specs.Keeping.{size_of, noted, IsAt, HasRun, IsStopped}
 use Rattle.sc_script.proofs.Replays.{at_more, bytes_of, sent_size-more}
 use Rattle.hub_outs.specs.Lemmas.Sending.{kept_sent, none_sent}
 
@@ -95,6 +97,20 @@ module _ (e : Step) (r : Running) (s now : RunState) (at : IsAt r s) (may : IsAl
       (is_size ∙ ap (λ n. s.size + n) (sym (one_sent p (step s.state e).reply is))) is_streams in
       let by = by_the_reply e r s (Sent p) at (sym is) in
       subst (λ c. HasRun c now) (sym (by ∙ goes_where (with_step e r) now.size there.size few)) there
+
+-- a packet is noted behind the step
+pub goes_noted : (e : Step) (r : Running) (s before now : RunState) (p : Packet) (a : Option ℕ) → IsAt r s
+    → IsAllowed s.state e → now ≡ noted a p before → a ≡ turning e → before.state ≡ (step s.state e).state
+    → before.outs ≡ s.outs → before.size ≡ s.size → before.streams ≡ s.streams → (step s.state e).reply ≡ Sent p
+    → now.size ≤ 268435456 → HasRun (stepped e r) now
+goes_noted e r s before now p a at may is who is_state is_outs is_size is_streams sent few =
+    let state : now.state ≡ (step s.state e).state = ap (λ (x : RunState). x.state) is ∙ is_state in
+    let outs : now.outs ≡ kept (turning e) p s.outs =
+    ap (λ (x : RunState). x.outs) is ∙ (λ i. kept (who i) p (is_outs i)) in
+    let size : now.size ≡ s.size + size_of p =
+    ap (λ (x : RunState). x.size) is ∙ ap (λ n. n + size_of p) is_size in
+    let streams : now.streams ≡ s.streams = ap (λ (x : RunState). x.streams) is ∙ is_streams in
+    goes_sending e r s now at may state p sent outs size streams few
 
 -- ---- what a fault tells
 

@@ -1,3 +1,4 @@
+pub mod Keeping
 pub mod Leavings
 pub mod Runs
 pub mod Scripts

@@ -10,18 +10,16 @@ use Rattle.rl_packet.specs.declared.packets.Packet.{Packet}
 use Rattle.rl_packet.specs.declared.packets.Packet.TheVariants as packet
 use Rattle.rl_stream.specs.declared.nexts.Next.{Next}
 use Rattle.rl_stream.specs.declared.nexts.Next.TheVariants as next
-use Rattle.rl_stream.specs.Nexts.{Decider, Decides}
+use Rattle.rl_stream.specs.Nexts.{Decider}
 use Rattle.rl_stream.specs.Streams.{StreamState, no_stream, with_bytes, read_off}
 use Rattle.hub_machine.specs.declared.faults.Fault.TheVariants as fault
 use Rattle.hub_machine.specs.State.{State, opening, is_there}
 use Rattle.hub_machine.specs.Machine.{step as step_of}
-use Rattle.hub_machine.specs.Replays.{replay, sent_to, lowest, packet_in}
+use Rattle.hub_machine.specs.Replays.{replay, lowest, packet_in}
 use Rattle.hub_machine.specs.declared.steps.Step.{Step}
 use Rattle.hub_machine.specs.declared.steps.Step.TheVariants as step
 use Rattle.hub_machine.specs.declared.steps.Reply.{Reply}
 use Rattle.hub_machine.specs.declared.steps.Reply.TheVariants as reply
-use Rattle.hub_laws.specs.Laws.{AreAllowed}
-use Rattle.hub_outs.specs.Outs.{OutsState, sent_of, kept}
 use Rattle.sc_events.specs.Events.{event_of}
 use Rattle.sc_events.specs.declared.events.ScriptEvent.{ScriptEvent}
 use Rattle.sc_events.specs.declared.events.ScriptEvent.TheVariants.{Open, Bytes, Close, Turn, Drain, LongDrain, Schema}
@@ -188,56 +186,10 @@ ended whole n r = if whole then goes r else stops (bad n)
 abbrev pub course_of : Decider → List Plain → Bool → Course
 course_of N vs whole = goes_on (ended whole (length vs)) (after_values N 0 vs beginning)
 
--- ---- what the code keeps
-
-pub record RunState : Type 0 where
-  pub state : State
-  pub outs : OutsState
-  pub size : ℕ
-  pub streams : List (ℕ × StreamState)
-
--- how many bytes a packet has on the wire
-abbrev pub size_of : Packet → ℕ
-size_of p = length (written (packet_value p))
-
-abbrev pub noted : Option ℕ → Packet → RunState → RunState
-noted a p s = record { state = s.state; outs = kept a p s.outs; size = s.size + size_of p; streams = s.streams }
-
--- each step met its condition; the state, what each connection was sent, how many bytes, and the streams are the run's
-pub record IsAt (r : Running) (s : RunState) : Type 0 where
-  pub allowed : AreAllowed opening r.steps
-  pub state : s.state ≡ state_of r
-  pub sent : (k : ℕ) → sent_of k s.outs ≡ sent_to k r.steps
-  pub size : s.size ≡ sent_size r.steps
-  pub streams : s.streams ≡ r.streams
-
-abbrev pub HasRun : Course → RunState → Type 0
-HasRun (goes r) s = IsAt r s
-HasRun (stops c) s = ⊥
+-- ---- faults
 
 abbrev pub cause_in : ScriptFault → Option Cause
 cause_in (script.Bad n) = Some (bad n)
 cause_in (script.Limit w) = Some (limit w)
 cause_in (script.NotBuilt n) = Some (not_built n)
 cause_in script.NoMemory = None
-
--- the course stops for the cause that a fault tells; where memory ran out, nothing is said
-abbrev pub StopsFor : Course → Option Cause → Type 0
-StopsFor course None = Unit {0}
-StopsFor course (Some c) = course ≡ stops c
-
-abbrev pub IsStopped : Course → ScriptFault → Type 0
-IsStopped course f = StopsFor course (cause_in f)
-
--- what is promised of each part of a run: over every decider, from where the run is
-abbrev pub RunsAs : RunState → (Decider → Running → Course) → RunState → Type 0
-RunsAs s part t = (N : Decider) → Decides N → (r : Running) → IsAt r s → HasRun (part N r) t
-
-abbrev pub StopsAs : RunState → (Decider → Running → Course) → ScriptFault → Type 0
-StopsAs s part f = (N : Decider) → Decides N → (r : Running) → IsAt r s → IsStopped (part N r) f
-
--- behind a packet the run is where the course ends, or more is read from where it is, of the same stream
-abbrev pub ReadsOn : RunState → Option StreamState → StreamState → ((Running → Course) → Course) → Type 0
-ReadsOn t None st part = (more : Running → Course) → HasRun (part more) t
-ReadsOn t (Some left) st part =
-    (left ≡ st) × (r : Running) × IsAt r t × ((more : Running → Course) → part more ≡ more r)

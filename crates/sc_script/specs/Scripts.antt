@@ -9,7 +9,7 @@ use Rattle.sc_report.specs.Reports.{RanState}
 use Rattle.sc_events.specs.declared.inputs.Form.{Form}
 use Rattle.sc_events.specs.Readings.{AreReadAs}
 use Rattle.sc_script.specs.declared.faults.ScriptFault.{ScriptFault}
-use Rattle.sc_script.specs.Runs.{Cause, limit, Course, goes, stops, course_of, Running, RunState, IsAt, cause_in}
+use Rattle.sc_script.specs.Runs.{Cause, limit, Course, goes, stops, course_of, Running, cause_in}
 use Rattle.sc_script.specs.Leavings.{ran_of}
 
 abbrev pub IsCourseOfValues : Decider → Form → List ℕ → Course → Type 0
@@ -21,11 +21,6 @@ abbrev pub IsCourseOf : Decider → Form → List ℕ → Course → Type 0
 IsCourseOf N form bytes c =
     ((67108864 < length bytes) × (c ≡ stops (limit 1)))
     ⊎ ((length bytes ≤ 67108864) × IsCourseOfValues N form bytes c)
-
--- the input runs to where the run is
-abbrev pub RanAs : Form → List ℕ → RunState → Type 0
-RanAs form bytes s =
-    (N : Decider) → Decides N → (r : Running) × IsCourseOf N form bytes (goes r) × IsAt r s
 
 -- the input stops for the cause that a fault tells; where memory ran out, nothing is said
 abbrev pub StopsWith : Form → List ℕ → Option Cause → Type 0

@@ -3,7 +3,6 @@ ghost use Rattle.std.specs.Prelude.{◌≡◌};
 ghost use Rattle.sc_script.specs.declared.faults.ScriptFault.TheVariants as fault;
 
 use pv_value::NoMemory;
-use std::alloc::{AllocError, AllocFailed};
 use thiserror::Error;
 
 /// Why an input has no report: the first cause.
@@ -28,22 +27,6 @@ impl From<NoMemory> for ScriptFault {
     ghost from_gives = { λ _ e. e ≡ fault.NoMemory };
 
     fn from(_: NoMemory) -> ScriptFault {
-        ScriptFault::NoMemory
-    }
-}
-
-impl From<AllocError> for ScriptFault {
-    ghost from_gives = { λ _ e. e ≡ fault.NoMemory };
-
-    fn from(_: AllocError) -> ScriptFault {
-        ScriptFault::NoMemory
-    }
-}
-
-impl<T: Drop> From<AllocFailed<T>> for ScriptFault {
-    ghost from_gives = { λ _ e. e ≡ fault.NoMemory };
-
-    fn from(_: AllocFailed<T>) -> ScriptFault {
         ScriptFault::NoMemory
     }
 }

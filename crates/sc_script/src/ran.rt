@@ -1,6 +1,7 @@
 //! What a run leaves.
 ghost use Rattle.std.specs.Prelude.{◌≡◌, ℕ, IfOk, IfErr};
-ghost use Rattle.sc_script.specs.Runs.{Running, IsAt, spelled as spelled_bytes};
+ghost use Rattle.sc_script.specs.Runs.{Running, spelled as spelled_bytes};
+ghost use Rattle.sc_script.specs.Keeping.{IsAt};
 ghost use Rattle.sc_script.specs.Leavings.{connection_after, connections_after, ran_of};
 ghost use Rattle.sc_script.specs.Scripts.{LeavesAs, StopsAt};
 

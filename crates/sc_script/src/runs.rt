@@ -8,9 +8,8 @@ ghost use Rattle.sc_events.specs.Events.{event_of, NamesASpace};
 ghost use Rattle.sc_script.specs.declared.faults.ScriptFault.TheVariants as fault;
 ghost use Rattle.sc_script.specs.Runs.{Running, Course, goes, beginning, stepped, turned, drained};
 ghost use Rattle.sc_script.specs.Runs.{with_stream, with_no_packet, packets_read, bytes_come};
-ghost use Rattle.sc_script.specs.Runs.{was_opened, may_turn, after_event, after_value};
-ghost use Rattle.sc_script.specs.Runs.{size_of, noted, IsAt, RunsAs, StopsAs};
-ghost use Rattle.sc_script.specs.Runs.{with_packet, ReadsOn};
+ghost use Rattle.sc_script.specs.Runs.{was_opened, may_turn, after_event, after_value, with_packet};
+ghost use Rattle.sc_script.specs.Keeping.{size_of, noted, IsAt, RunsAs, StopsAs, ReadsOn};
 
 use crate::faults::ScriptFault;
 use ds_space::Space;
@@ -43,7 +42,7 @@ pub(crate) struct Run<S: Space + Drop> {
 impl<S: Space + Drop> Model for Run<S> {
     ghost use Rattle.std.specs.Coded.{codes};
     ghost use Rattle.pv_value.specs.Lemmas.Coded.{plain_code};
-    ghost use Rattle.sc_script.specs.Runs.{RunState};
+    ghost use Rattle.sc_script.specs.Keeping.{RunState};
 
     ghost Value = { RunState };
 
@@ -342,7 +341,12 @@ impl<S: Space + Drop> Run<S> {
     }
 
     /// Value `place` of a script.
-    pub(crate) fn value(self, alloc: Global, place: u64, value: &Value) -> Result<Run<S>, ScriptFault>
+    pub(crate) fn value(
+        self,
+        alloc: Global,
+        place: u64,
+        value: &Value,
+    ) -> Result<Run<S>, ScriptFault>
         ensures run { IfOk result
             (RunsAs self (λ N. after_value N place (event_of value.now))) }
         ensures stop { IfErr result

@@ -1,6 +1,7 @@
 //! Scripts, in the binary form or in text: the run of an input.
 ghost use Rattle.std.specs.Prelude.{IfOk, IfErr};
-ghost use Rattle.sc_script.specs.Scripts.{RanAs, StopsAt};
+ghost use Rattle.sc_script.specs.Keeping.{RanAs};
+ghost use Rattle.sc_script.specs.Scripts.{StopsAt};
 
 use crate::faults::ScriptFault;
 use crate::runs::Run;

@@ -1,5 +1,6 @@
 use Rattle.std.proofs.Common.{◌≡◌}
-use Rattle.sc_script.specs.Runs.{Running, IsAt}
+use Rattle.sc_script.specs.Runs.{Running}
+use Rattle.sc_script.specs.Keeping.{IsAt}
 use Rattle.sc_script.specs.Leavings.{connections_after}
 use Rattle.sc_script.proofs.ran.connections.Given as goal
 

@@ -19,8 +19,12 @@ pub overflow_add-place : goal.overflow_add-place
 overflow_add-place g c =
     let l = c.loop-value in
     let next = rw c.in-Ok-Some.field-0-is at c.in-Ok-Some.ensures.next in
-    omega (arith, l.invariant.short, is_few c.args.form c.args.bytes.now l.place l.values c.next.new.self l.run
-    c.in-Ok-Some.value l.invariant.done (λ vs s. next c.args.form c.args.bytes.now vs s))
+    omega (
+      arith,
+      l.invariant.short,
+      is_few c.args.form c.args.bytes.now l.place l.values c.next.new.self l.run
+          c.in-Ok-Some.value l.invariant.done (λ vs s. next c.args.form c.args.bytes.now vs s),
+    )
 
 pub loop-value-preserved : goal.loop-value-preserved
 loop-value-preserved g c =

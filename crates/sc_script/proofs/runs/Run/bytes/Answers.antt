@@ -1,7 +1,7 @@
 -- Bytes of a connection: its stream is taken out with them in it, and its packets are read from there on.
 use Rattle.std.proofs.Common.{◌≡◌, false, sym, ap, ◌∙◌, subst}
 use Rattle.hub_machine.specs.State.{is_there}
-use Rattle.sc_script.specs.Runs.{RunState, HasRun}
+use Rattle.sc_script.specs.Keeping.{RunState, HasRun}
 use Rattle.sc_script.proofs.Coming.{all_dropped, come_runs, come_stops}
 use Rattle.sc_script.proofs.runs.Run.bytes.Goals as goal
 

@@ -1,6 +1,7 @@
 use Rattle.std.proofs.Common.{◌-◌}
 use Rattle.rl_stream.specs.Nexts.{Decider, Decides}
-use Rattle.sc_script.specs.Runs.{Running, drained, IsAt}
+use Rattle.sc_script.specs.Runs.{Running, drained}
+use Rattle.sc_script.specs.Keeping.{IsAt}
 use Rattle.sc_script.proofs.Courses.{GoesOn}
 use Rattle.sc_script.proofs.runs.Run.drain.Given as goal
 

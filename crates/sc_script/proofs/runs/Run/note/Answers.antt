@@ -1,6 +1,6 @@
 use Rattle.std.proofs.Common.{◌≡◌, ◌≤◌, ◌+◌, ap, ◌∙◌, min}
 use Rattle.hub_outs.specs.Outs.{kept}
-use Rattle.sc_script.specs.Runs.{size_of}
+use Rattle.sc_script.specs.Keeping.{size_of}
 use Rattle.sc_script.proofs.Notes.{noted_by, sum_of}
 use Rattle.sc_script.proofs.runs.Run.note.Goals as goal
 

@@ -2,10 +2,10 @@ use Rattle.std.proofs.Common.{◌≡◌, ◌≤◌, ◌<◌, ◌+◌, sym, ap, �
 use Rattle.hub_machine.specs.Lemmas.Allowing.{is_built}
 use Rattle.hub_machine.specs.Machine.{step}
 use Rattle.hub_machine.specs.declared.steps.Reply.TheVariants.{Sent}
-use Rattle.hub_outs.specs.Outs.{kept, turning}
-use Rattle.sc_script.specs.Runs.{stepped, size_of}
+use Rattle.sc_script.specs.Runs.{stepped}
+use Rattle.sc_script.specs.Keeping.{size_of}
 use Rattle.sc_script.proofs.FaultsPassed.{err_so}
-use Rattle.sc_script.proofs.Stepping.{quiet, goes_quietly, goes_sending, stops_sending, stops_for}
+use Rattle.sc_script.proofs.Stepping.{quiet, goes_quietly, goes_noted, stops_sending, stops_for}
 use Rattle.sc_script.proofs.runs.Run.step.Goals as goal
 
 pub returns-in_default-clause-run : goal.returns-in_default-clause-run
@@ -23,22 +23,15 @@ pub returns-in_ok-run-in-Sent-clause-run : goal.returns-in_ok-run-in-Sent-clause
 returns-in_ok-run-in-Sent-clause-run g c = λ N is r at.
     let s = c.args.self in
     let e = c.args.event in
-    let p = c.in-Sent.packet in
     let now = c.in_ok-run-in-Sent.run' in
     let view = c.self.view_is in
     let hub : c.self.inside.hub ≡ s.state = ap (λ x. x.state) view in
-    let noted_so = c.in_ok-run-in-Sent.ensures.run in
-    let state : now.state ≡ (step s.state e).state =
-    ap (λ x. x.state) noted_so ∙ c.in_ok-hub.ensures.state ∙ ap (λ x. (step x e).state) hub in
-    let sent : (step s.state e).reply ≡ Sent p =
+    let sent : (step s.state e).reply ≡ Sent c.in-Sent.packet =
     sym (c.in_ok-hub.ensures.reply ∙ ap (λ x. (step x e).reply) hub) ∙ c.in-Sent.is in
-    let outs : now.outs ≡ kept (turning e) p s.outs =
-    ap (λ x. x.outs) noted_so ∙ ap (λ a. kept a p c.self.inside.outs) c.turning-actor.ensures
-    ∙ ap (λ x. kept (turning e) p x.outs) view in
-    let size : now.size ≡ s.size + size_of p = ap (λ x. x.size) noted_so ∙ ap (λ x. x.size + size_of p) view in
     let few : now.size ≤ 268435456 = subst (λ x. x.size ≤ 268435456) c.run.view_is c.run.invariant in
-    goes_sending e r s now at c.requires state p sent outs size
-    (ap (λ x. x.streams) noted_so ∙ ap (λ x. x.streams) view) few
+    goes_noted e r s _ now c.in-Sent.packet _ at c.requires c.in_ok-run-in-Sent.ensures.run c.turning-actor.ensures
+    (c.in_ok-hub.ensures.state ∙ ap (λ x. (step x e).state) hub) (ap (λ x. x.outs) view) (ap (λ x. x.size) view)
+    (ap (λ x. x.streams) view) sent few
 
 pub returns-in_err-run-in-Sent-clause-stop : goal.returns-in_err-run-in-Sent-clause-stop
 returns-in_err-run-in-Sent-clause-stop g c = err_so _ _ _ c.from_residual-in_err-run-in-Sent.ensures.1 (λ N is r at.

@@ -1,7 +1,8 @@
 use Rattle.std.proofs.Common.{sym, ap, subst, IfOk, IfErr}
 use Rattle.hub_machine.specs.declared.faults.Fault.TheVariants as fault
 use Rattle.hub_machine.specs.declared.steps.Step.TheVariants as step
-use Rattle.sc_script.specs.Runs.{with_no_packet, HasRun, RunsAs, StopsAs}
+use Rattle.sc_script.specs.Runs.{with_no_packet}
+use Rattle.sc_script.specs.Keeping.{HasRun, RunsAs, StopsAs}
 use Rattle.sc_script.proofs.NoPackets.{not_bad, bad_runs, bad_stops}
 use Rattle.sc_script.proofs.runs.Run.stop_reading.Goals as goal
 use Rattle.sc_script.proofs.runs.Run.stop_reading.Goals.{in-BadBytes, in-BadPacket, in_default}

@@ -1,0 +1,67 @@
+-- What the code keeps of a run, and what each part of the code promises of it. What is promised of a script speaks of
+-- none of it.
+use Rattle.std.specs.Prelude.{◌≡◌, ℕ, ◌+◌, List, length, Option, Some, None}
+use Rattle.pv_binary.specs.Written.{written}
+use Rattle.rl_packet.specs.Packets.{packet_value}
+use Rattle.rl_packet.specs.declared.packets.Packet.{Packet}
+use Rattle.rl_stream.specs.Nexts.{Decider, Decides}
+use Rattle.rl_stream.specs.Streams.{StreamState}
+use Rattle.hub_machine.specs.State.{State, opening}
+use Rattle.hub_machine.specs.Replays.{sent_to}
+use Rattle.hub_laws.specs.Laws.{AreAllowed}
+use Rattle.hub_outs.specs.Outs.{OutsState, sent_of, kept}
+use Rattle.sc_events.specs.declared.inputs.Form.{Form}
+use Rattle.sc_script.specs.declared.faults.ScriptFault.{ScriptFault}
+use Rattle.sc_script.specs.Runs.{Running, Cause, Course, goes, stops, state_of, sent_size, cause_in}
+use Rattle.sc_script.specs.Scripts.{IsCourseOf}
+
+pub record RunState : Type 0 where
+  pub state : State
+  pub outs : OutsState
+  pub size : ℕ
+  pub streams : List (ℕ × StreamState)
+
+-- how many bytes a packet has on the wire
+abbrev pub size_of : Packet → ℕ
+size_of p = length (written (packet_value p))
+
+abbrev pub noted : Option ℕ → Packet → RunState → RunState
+noted a p s = record { state = s.state; outs = kept a p s.outs; size = s.size + size_of p; streams = s.streams }
+
+-- each step met its condition; the state, what each connection was sent, how many bytes, and the streams are the run's
+pub record IsAt (r : Running) (s : RunState) : Type 0 where
+  pub allowed : AreAllowed opening r.steps
+  pub state : s.state ≡ state_of r
+  pub sent : (k : ℕ) → sent_of k s.outs ≡ sent_to k r.steps
+  pub size : s.size ≡ sent_size r.steps
+  pub streams : s.streams ≡ r.streams
+
+abbrev pub HasRun : Course → RunState → Type 0
+HasRun (goes r) s = IsAt r s
+HasRun (stops c) s = ⊥
+
+-- the course stops for the cause that a fault tells; where memory ran out, nothing is said
+abbrev pub StopsFor : Course → Option Cause → Type 0
+StopsFor course None = Unit {0}
+StopsFor course (Some c) = course ≡ stops c
+
+abbrev pub IsStopped : Course → ScriptFault → Type 0
+IsStopped course f = StopsFor course (cause_in f)
+
+-- what is promised of each part of a run: over every decider, from where the run is
+abbrev pub RunsAs : RunState → (Decider → Running → Course) → RunState → Type 0
+RunsAs s part t = (N : Decider) → Decides N → (r : Running) → IsAt r s → HasRun (part N r) t
+
+abbrev pub StopsAs : RunState → (Decider → Running → Course) → ScriptFault → Type 0
+StopsAs s part f = (N : Decider) → Decides N → (r : Running) → IsAt r s → IsStopped (part N r) f
+
+-- behind a packet the run is where the course ends, or more is read from where it is, of the same stream
+abbrev pub ReadsOn : RunState → Option StreamState → StreamState → ((Running → Course) → Course) → Type 0
+ReadsOn t None st part = (more : Running → Course) → HasRun (part more) t
+ReadsOn t (Some left) st part =
+    (left ≡ st) × (r : Running) × IsAt r t × ((more : Running → Course) → part more ≡ more r)
+
+-- the input runs to where the run is
+abbrev pub RanAs : Form → List ℕ → RunState → Type 0
+RanAs form bytes s =
+    (N : Decider) → Decides N → (r : Running) × IsCourseOf N form bytes (goes r) × IsAt r s
