@@ -10,8 +10,8 @@ ghost use Rattle.sc_events.specs.declared.inputs.Values.{Values};
 use pv_binary::{one_of_three, spellings_are_unique};
 use pv_text::texts_are_read_one_way;
 
-/// An input is read in one way: it is one list of values, or goes on with none after one list. Behind
-/// the values that are read so far it is read on.
+/// An input is read in one way: it is one list of values, or goes on with none after one list.
+/// Behind the values that are read so far it is read on in some way.
 pub fn one_reading()
     ensures some { (form : Form) (bytes : List ℕ) → AreBytes bytes
         → (vs : List Plain) × (whole : Bool) × AreReadAs form bytes vs whole }
