@@ -1,3 +1,4 @@
 pub mod Blake2s
 pub mod Hmac
 pub mod Hashing
+pub mod Lemmas
