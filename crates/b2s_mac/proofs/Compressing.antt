@@ -4,16 +4,21 @@ use Rattle.b2s_mac.specs.Blake2s.{compress, work_vector}
 
 -- sixteen elements, one by one
 pub map_sixteen : (m row : List ℕ) → length row ≡ 16
-    → slice_index m (slice_index row 0) ∷ slice_index m (slice_index row 1) ∷ slice_index m (slice_index row 2) ∷ slice_index m (slice_index row 3)
-    ∷ slice_index m (slice_index row 4) ∷ slice_index m (slice_index row 5) ∷ slice_index m (slice_index row 6) ∷ slice_index m (slice_index row 7)
-    ∷ slice_index m (slice_index row 8) ∷ slice_index m (slice_index row 9) ∷ slice_index m (slice_index row 10) ∷ slice_index m (slice_index row 11)
-    ∷ slice_index m (slice_index row 12) ∷ slice_index m (slice_index row 13) ∷ slice_index m (slice_index row 14) ∷ slice_index m (slice_index row 15) ∷ []
+    → slice_index m (slice_index row 0) ∷ slice_index m (slice_index row 1) ∷ slice_index m (slice_index row 2)
+    ∷ slice_index m (slice_index row 3)
+    ∷ slice_index m (slice_index row 4) ∷ slice_index m (slice_index row 5) ∷ slice_index m (slice_index row 6)
+    ∷ slice_index m (slice_index row 7)
+    ∷ slice_index m (slice_index row 8) ∷ slice_index m (slice_index row 9) ∷ slice_index m (slice_index row 10)
+    ∷ slice_index m (slice_index row 11)
+    ∷ slice_index m (slice_index row 12) ∷ slice_index m (slice_index row 13) ∷ slice_index m (slice_index row 14)
+    ∷ slice_index m (slice_index row 15) ∷ []
     ≡ map (λ k. slice_index m k) row
 map_sixteen m (a ∷ b ∷ c ∷ d ∷ e ∷ f ∷ g ∷ h ∷ i ∷ j ∷ k ∷ l ∷ n ∷ o ∷ p ∷ q ∷ []) len = refl
 map_sixteen m _ len = absurd (omega arith)
 
 -- the compression reads the count modulo 2 ^ 64
-pub compress_count : (h b : List ℕ) (count t : ℕ) (last : Bool) → count ≡ t % 2 ^ 64 → compress h b count last ≡ compress h b t last
+pub compress_count : (h b : List ℕ) (count t : ℕ) (last : Bool) → count ≡ t % 2 ^ 64
+    → compress h b count last ≡ compress h b t last
 unfolding compress work_vector
 compress_count h b count t last e =
     let low : count % 2 ^ 32 ≡ t % 2 ^ 32 = omega arith in

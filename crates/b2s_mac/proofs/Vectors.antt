@@ -1,7 +1,8 @@
 -- Digests that others computed, so that a wrong constant or step of the definition does not check: that of RFC 7693,
 -- appendix B, and two of Python's.
 use Rattle.std.proofs.Common.{◌≡◌, [], ◌∷◌, codes, refl}
-use Rattle.b2s_mac.specs.Blake2s.{half_mix, mix, round, rounds, words, work_vector, joined, compress, keyed, after_blocks, final_state, word_bytes, blake2s}
+use Rattle.b2s_mac.specs.Blake2s.{half_mix, mix, round, rounds, words, work_vector, joined, compress, keyed}
+use Rattle.b2s_mac.specs.Blake2s.{after_blocks, final_state, word_bytes, blake2s}
 use Rattle.b2s_mac.specs.Hmac.{hmac, key_block}
 
 pub digest_of_abc : blake2s [] 32 (codes "abc")
@@ -12,7 +13,8 @@ unfolding half_mix mix round rounds words work_vector joined compress keyed afte
 digest_of_abc = refl
 
 -- 65 bytes in two blocks, behind the block of the key
-pub digest_under_a_key : blake2s (codes "key") 20 (codes "ABCDEFGHIJKLMNOPQRSTUVWXYZabcdefghijklmnopqrstuvwxyz0123456789+/=")
+pub digest_under_a_key : blake2s (codes "key") 20
+    (codes "ABCDEFGHIJKLMNOPQRSTUVWXYZabcdefghijklmnopqrstuvwxyz0123456789+/=")
     ≡ 72 ∷ 251 ∷ 147 ∷ 59 ∷ 58 ∷ 206 ∷ 159 ∷ 244 ∷ 53 ∷ 96 ∷ 68 ∷ 45 ∷ 23 ∷ 129 ∷ 102 ∷ 238 ∷ 139 ∷ 239 ∷ 2 ∷ 77 ∷ []
 unfolding half_mix mix round rounds words work_vector joined compress keyed after_blocks final_state word_bytes blake2s
 digest_under_a_key = refl

@@ -1,8 +1,10 @@
 //! The compression function of BLAKE2s (RFC 7693, section 3.2), one block of 64 bytes at a time.
 
-ghost use Rattle.std.specs.Prelude.{◌≡◌, ℕ, ◌+◌, ◌*◌, ◌%◌, ◌^◌, ◌<◌, ◌≤◌, length, map, slice_index, nat_lt, IsTrue};
+ghost use Rattle.std.specs.Prelude.{◌≡◌, ℕ, ◌+◌, ◌*◌, ◌%◌, ◌^◌, ◌<◌, ◌≤◌, length, map, slice_index};
+ghost use Rattle.std.specs.Prelude.{nat_lt, IsTrue};
 ghost use Rattle.std.specs.List.{list_all};
-ghost use Rattle.b2s_mac.specs.Blake2s.{compress, half_mix, joined, last_flag, mix, round, rounds, sigma, word_at, words, work_vector};
+ghost use Rattle.b2s_mac.specs.Blake2s.{compress, half_mix, joined, last_flag, mix, round, rounds};
+ghost use Rattle.b2s_mac.specs.Blake2s.{sigma, word_at, words, work_vector};
 
 /// The initialization vector (section 2.6).
 pub(crate) const IV: [u32; 8] = [
@@ -37,7 +39,8 @@ fn half_mix(v: &mut [u32; 16], at: [usize; 4], x: u32, r: u32, s: u32)
     requires b { slice_index at 1 < 16 }
     requires c { slice_index at 2 < 16 }
     requires d { slice_index at 3 < 16 }
-    ensures { v.new ≡ half_mix v.old (slice_index at 0) (slice_index at 1) (slice_index at 2) (slice_index at 3) x r s }
+    ensures { v.new ≡ half_mix v.old (slice_index at 0) (slice_index at 1) (slice_index at 2)
+        (slice_index at 3) x r s }
 {
     let [a, b, c, d] = at;
     v[a] = v[a].wrapping_add(v[b]).wrapping_add(x);
@@ -53,7 +56,8 @@ fn mix(v: &mut [u32; 16], at: [usize; 4], x: u32, y: u32)
     requires b { slice_index at 1 < 16 }
     requires c { slice_index at 2 < 16 }
     requires d { slice_index at 3 < 16 }
-    ensures { v.new ≡ mix v.old (slice_index at 0) (slice_index at 1) (slice_index at 2) (slice_index at 3) x y }
+    ensures { v.new ≡ mix v.old (slice_index at 0) (slice_index at 1) (slice_index at 2)
+        (slice_index at 3) x y }
 {
     half_mix(v, at, x, 16, 12);
     half_mix(v, at, y, 8, 7);

@@ -26,7 +26,11 @@ pub length-blake2s : (key : List ℕ) (n : ℕ) (m : List ℕ) → n ≤ 32 → 
 unfolding blake2s
 length-blake2s key n m fits =
     let state : List ℕ = final_state (first_state (length key) n) (keyed key m) in
-    length-take-le n (word_bytes state) (omega (arith, length-word_bytes state, length-final_state (first_state (length key) n) (keyed key m)))
+    length-take-le n (word_bytes state) (omega (
+      arith,
+      length-word_bytes state,
+      length-final_state (first_state (length key) n) (keyed key m),
+    ))
 
 -- a code has 32 bytes
 pub length-hmac : (key m : List ℕ) → length (hmac key m) ≡ 32

@@ -4,4 +4,13 @@ use Rattle.b2s_mac.proofs.compress.round.Goals as goal
 
 pub returns : goal.returns
 unfolding round
-returns c = rw (c.mix-8.ensures, c.mix-7.ensures, c.mix-6.ensures, c.mix-5.ensures, c.mix-4.ensures, c.mix-3.ensures, c.mix-2.ensures, c.mix.ensures) refl
+returns c = rw (
+  c.mix-8.ensures,
+  c.mix-7.ensures,
+  c.mix-6.ensures,
+  c.mix-5.ensures,
+  c.mix-4.ensures,
+  c.mix-3.ensures,
+  c.mix-2.ensures,
+  c.mix.ensures,
+) refl

@@ -9,6 +9,7 @@ blocks-2-preserved c =
       c.take_block.ensures.held,
       c.take_block.ensures.out_len ∙ c.blocks-2.invariant.1,
       λ h d k old.
-          HoldsAfter_at h c.take_block.new.self _ _ (k + i + 1) _ (c.take_block.ensures.holds h _ _ (c.blocks-2.invariant.2 h d k old))
+          HoldsAfter_at h c.take_block.new.self _ _ (k + i + 1) _ (c.take_block.ensures.holds h _ _
+          (c.blocks-2.invariant.2 h d k old))
           (grown d c.args.blocks.now i _ width) (omega arith),
     )

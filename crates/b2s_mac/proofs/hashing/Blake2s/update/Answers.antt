@@ -16,11 +16,20 @@ returns c = λ key m n old.
     let rest : List ℕ = take (length b - a) (drop a b) in
     let w : ℕ = (length rest - 1) / 64 * 64 in
     Holds-more c.args.self.now c.hold-3.new.self key m b n old
-    (c.hold-3.ensures.out_len ∙ c.take_blocks.ensures.out_len ∙ c.take_buffer.ensures.out_len ∙ c.hold-2.ensures.out_len)
-    (λ none. absurd (omega (arith, c.hold-3.ensures.held, length-take (length rest - w) (drop w rest), length-drop w rest, length-take (length b - a) (drop a b), length-drop a b)))
+    (c.hold-3.ensures.out_len ∙ c.take_blocks.ensures.out_len ∙ c.take_buffer.ensures.out_len
+    ∙ c.hold-2.ensures.out_len)
+    (λ none. absurd (omega (
+      arith,
+      c.hold-3.ensures.held,
+      length-take (length rest - w) (drop w rest),
+      length-drop w rest,
+      length-take (length b - a) (drop a b),
+      length-drop a b,
+    )))
     (λ h d k held. (
       _,
       HoldsAfter_at h c.hold-3.new.self _ _ _ _
-          (c.hold-3.ensures.holds h _ _ (c.take_blocks.ensures.holds h _ _ (c.take_buffer.ensures.holds h _ _ (c.hold-2.ensures.holds h d k held))))
+          (c.hold-3.ensures.holds h _ _ (c.take_blocks.ensures.holds h _ _ (c.take_buffer.ensures.holds h _ _
+          (c.hold-2.ensures.holds h d k held))))
           (pieces d b _ rest _ _ a w refl (take_rest b a) refl (take_rest rest w)) refl,
     ))
