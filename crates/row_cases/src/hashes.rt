@@ -38,8 +38,8 @@ fn digest_in_two(key: &[u8], out_len: u8, first: &[u8], second: &[u8]) -> [u8; 3
     requires key { length key.now ≤ 32 }
     requires some { 1 ≤ out_len }
     requires fits { out_len ≤ 32 }
-    ensures { result ≡ blake2s key.now out_len (first.now ++ second.now) ++ replicate
-        (32 - out_len) 0 }
+    ensures { result ≡ blake2s key.now out_len (first.now ++ second.now)
+        ++ replicate (32 - out_len) 0 }
 {
     let mut hash = Blake2s::new(key, out_len);
     hash.update(first);
