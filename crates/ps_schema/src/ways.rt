@@ -3,10 +3,10 @@ ghost use Rattle.std.specs.Prelude.{◌≡◌, IfOk, OnOk, MatchOption, option_c
 ghost use Rattle.std.specs.Bool.{Decides};
 ghost use Rattle.std.specs.Str.{bytes_eq};
 ghost use Rattle.ps_schema.specs.Patterns.{patterns};
-ghost use Rattle.ps_schema.specs.Schemas.{asks, one_asks, LeadsBack, IsFirstBack};
-ghost use Rattle.ps_schema.specs.Seen.{among, Visited, NoneBack};
+ghost use Rattle.ps_schema.specs.Schemas.{asks, one_asks, leads, LeadsBack, IsFirstBack};
+ghost use Rattle.ps_schema.specs.Seen.{among, Sees, NoneBack};
 
-use crate::names::pattern_under;
+use crate::names::{knows, pattern_under};
 use crate::{Definition, Form, Pattern};
 use pv_value::{NoMemory, Text};
 use std::alloc::Global;
@@ -28,50 +28,64 @@ pub(crate) fn first_back(alloc: Global, defs: &[Definition]) -> Result<Option<&T
 fn leads_back(alloc: Global, defs: &[Definition], name: &Text) -> Result<bool, NoMemory>
     ensures { IfOk result (λ b. Decides b (LeadsBack defs.now name.now)) }
 {
-    let Some(pattern) = pattern_under(defs, name.as_bytes()) else {
-        return Ok(false);
-    };
     let mut seen = Vec::new(alloc);
-    visit(defs, pattern, &mut seen)?;
+    see_behind(defs, name, &mut seen)?;
+    let mut at = 0;
+    'names: while at < seen.len() {
+        let next = seen[at].copy()?;
+        see_behind(defs, &next, &mut seen)?;
+        at += 1;
+    }
     Ok(is_among(&seen, name))
 }
 
-/// Adds to what was seen each name to which the pattern leads.
-#[cycle(visit)]
-fn visit(defs: &[Definition], pattern: &Pattern, seen: &mut Vec<Text>) -> Result<(), NoMemory>
-    ensures { OnOk result (Visited defs.now (asks pattern.now) seen.old.items seen.new.items) }
+/// Adds the names to which a name leads at once.
+fn see_behind(defs: &[Definition], name: &Text, seen: &mut Vec<Text>) -> Result<(), NoMemory>
+    ensures { OnOk result
+        (Sees defs.now (leads defs.now name.now) seen.old.items seen.new.items) }
+{
+    match pattern_under(defs, name.as_bytes()) {
+        Some(pattern) => see(defs, pattern, seen),
+        None => Ok(()),
+    }
+}
+
+/// Adds the names for which the pattern asks at the same value.
+#[cycle(see)]
+fn see(defs: &[Definition], pattern: &Pattern, seen: &mut Vec<Text>) -> Result<(), NoMemory>
+    ensures { OnOk result (Sees defs.now (asks pattern.now) seen.old.items seen.new.items) }
 {
     match &pattern.form {
-        Form::Name(name) => visit_name(defs, name, seen),
-        Form::OneOf(patterns) => visit_all(defs, patterns, seen),
-        Form::AllOf(patterns) => visit_all(defs, patterns, seen),
+        Form::Name(name) => see_name(defs, name, seen),
+        Form::OneOf(patterns) => see_all(defs, patterns, seen),
+        Form::AllOf(patterns) => see_all(defs, patterns, seen),
         _ => Ok(()),
     }
 }
 
-#[cycle(visit)]
-fn visit_all(defs: &[Definition], all: &[Pattern], seen: &mut Vec<Text>) -> Result<(), NoMemory>
+#[cycle(see)]
+fn see_all(defs: &[Definition], all: &[Pattern], seen: &mut Vec<Text>) -> Result<(), NoMemory>
     ensures { OnOk result
-        (Visited defs.now (one_asks (patterns all.now)) seen.old.items seen.new.items) }
+        (Sees defs.now (one_asks (patterns all.now)) seen.old.items seen.new.items) }
 {
     for pattern in all {
-        visit(defs, pattern, seen)?;
+        see(defs, pattern, seen)?;
     }
     Ok(())
 }
 
-#[cycle(visit)]
-fn visit_name(defs: &[Definition], name: &Text, seen: &mut Vec<Text>) -> Result<(), NoMemory>
-    ensures { OnOk result (Visited defs.now (bytes_eq name.now) seen.old.items seen.new.items) }
+/// Adds the name, where it has a definition and was not seen.
+fn see_name(defs: &[Definition], name: &Text, seen: &mut Vec<Text>) -> Result<(), NoMemory>
+    ensures { OnOk result (Sees defs.now (bytes_eq name.now) seen.old.items seen.new.items) }
 {
     if is_among(seen, name) {
         return Ok(());
     }
-    let Some(pattern) = pattern_under(defs, name.as_bytes()) else {
+    if !knows(defs, name.as_bytes()) {
         return Ok(());
-    };
+    }
     seen.push(name.copy()?)?;
-    visit(defs, pattern, seen)
+    Ok(())
 }
 
 fn is_among(seen: &[Text], name: &Text) -> bool

@@ -1,5 +1,5 @@
 -- How many names a walk has not seen, and that each way at one value ends.
-use Rattle.std.specs.Prelude.{◌≡◌, ◌+◌, ◌≤◌, ◌<◌, ℕ, zero, suc, Bool, true, false, ◌||◌, List, [], ◌∷◌, ◌++◌, length}
+use Rattle.std.specs.Prelude.{◌≡◌, ◌≤◌, ◌<◌, ℕ, zero, suc, Bool, true, false, ◌||◌, List, [], ◌∷◌, ◌++◌, length}
 use Rattle.std.specs.Prelude.{Option, Some, None, refl, cond}
 use Rattle.std.proofs.Common.{arith, ap, sym, ◌∙◌}
 use Rattle.std.specs.Str.{bytes_eq}
@@ -8,7 +8,7 @@ use Rattle.ps_schema.specs.Patterns.{PlainPattern, reference}
 use Rattle.ps_schema.specs.Patterns.{one_of, all_of, PlainPatterns, no_patterns, then_pattern}
 use Rattle.ps_schema.specs.Names.{knows, pattern_under, first_of, missing, missing_in_all, missing_from}
 use Rattle.ps_schema.specs.Schemas.{asks, one_asks, asked_by, leads, IsWay, IsSchema}
-use Rattle.ps_schema.specs.Seen.{among}
+use Rattle.ps_schema.specs.Seen.{among, one_unless, unseen}
 use Rattle.ps_schema.specs.Laws.{EndsWithin, WaysEnd}
 use Rattle.ps_schema.specs.declared.Definition.{Definition}
 
@@ -32,14 +32,6 @@ pub its_own_name : (a : List ℕ) → bytes_eq a a ≡ true
 its_own_name a = (bytes_eq-Decides a a).1 refl
 
 -- ---- how many names are not seen
-
-abbrev one_unless : Bool → ℕ
-one_unless true = 0
-one_unless false = 1
-
-abbrev pub unseen : List Definition → List (List ℕ) → ℕ
-unseen [] bs = 0
-unseen (d ∷ ds) bs = one_unless (among bs d.name) + unseen ds bs
 
 no_more_unless : (b c : Bool) → (b ≡ true → c ≡ true) → one_unless c ≤ one_unless b
 no_more_unless true true f = omega arith
