@@ -1,6 +1,6 @@
 -- Who ends in a step.
 use Rattle.std.proofs.Common.{◌≡◌, ◌≢◌, ℕ, ◌-◌, ◌==◌, ◌&&◌, ◌||◌, List, [], ◌∷◌, Bool, true, false, cond, Option}
-use Rattle.std.proofs.Common.{Some, None, ◌⊎◌, inl, inr, refl, ap, sym, ◌∙◌, subst, arith, ◌+◌}
+use Rattle.std.proofs.Common.{Some, None, ◌⊎◌, inl, inr, refl, ap, sym, ◌∙◌, subst, arith, ◌+◌, is_some}
 use Rattle.std.specs.Prelude.{nat_lt}
 use Rattle.std.specs.Option.{option_or}
 use Rattle.std.proofs.lemmas.Bool.Decides.{nat_tests}
@@ -13,13 +13,13 @@ use Rattle.ac_world.specs.declared.turns.Turned.{Turned}
 use Rattle.ac_world.specs.declared.turns.Turned.TheVariants as turned
 use Rattle.ac_world.specs.Sums.{top_load, deliveries}
 use Rattle.ac_world.specs.Turns.{turn}
-use Rattle.ac_world.specs.Worlds.{actor_of, without_entry, is_system}
+use Rattle.ac_world.specs.Worlds.{actor_of, entry_of, without_entry, is_system}
 use Rattle.ac_world.specs.Lemmas.Entries.{put_found, put_other}
 use Rattle.rl_packet.specs.declared.packets.TurnEvent.{TurnEvent}
 use Rattle.rl_ports.specs.Ports.{PortsState}
 use Rattle.hub_machine.specs.declared.faults.Fault.{Fault}
 use Rattle.hub_machine.specs.declared.faults.Fault.TheVariants.{Overrun, Spread}
-use Rattle.hub_machine.specs.State.{State, ports_of}
+use Rattle.hub_machine.specs.State.{State, ports_of, is_there}
 use Rattle.hub_machine.specs.Admission.{Admitted, refused, admitted, admission}
 use Rattle.hub_machine.specs.Endings.{nameless, closed, failed, overrun_by, finished}
 use Rattle.hub_machine.specs.Machine.{After, unchanged, opened, refusal, arrive_unless, accepted, judged, packet_at}
@@ -32,9 +32,11 @@ use Rattle.hub_machine.specs.declared.steps.Reply.TheVariants as reply
 use Rattle.hub_valid.specs.Lemmas.Lasting.{lasts_sent, lasts_turn}
 use Rattle.hub_valid.specs.Lemmas.Lives.{live_ended, stays_placed}
 use Rattle.hub_valid.specs.Lemmas.StepEnds.{finished_keeps_for}
-use Rattle.hub_laws.specs.Laws.{WhoEnds}
+use Rattle.hub_laws.specs.Laws.{WhoEnds, EndsAtOnce}
 use Rattle.hub_laws.specs.Refusals.{whose, IsDismissed, spreads_in, spreads_of, is_named, IsSpread, IsOverrun, HasFailed}
-use Rattle.hub_laws.specs.Refusals.{spreads_by}
+use Rattle.hub_laws.specs.Refusals.{spreads_by, IsOver}
+use Rattle.hub_laws.proofs.Presence.{dead_itself}
+use Rattle.hub_laws.proofs.Uncounted.{endings_spare_others}
 use Rattle.hub_laws.proofs.Leaving.{one_or_not}
 use Rattle.hub_laws.proofs.Staying.{taken_by_connection}
 
@@ -248,3 +250,63 @@ module _ (k : ℕ) where
 
 pub who_ends : WhoEnds
 who_ends s e k live dead = step_left k s e live dead
+
+-- ---- what is counted at a step's end
+
+live_there : (k : ℕ) (s : State) → is_there k s ≡ true → is_live (actor_of k) s.world.table ≡ true
+live_there k s there = by (is_live (actor_of k) s.world.table) refl there
+  where
+    by : (b : Bool) → is_live (actor_of k) s.world.table ≡ b → is_some (cond b (entry_of k s.connections) None) ≡ true
+        → is_live (actor_of k) s.world.table ≡ true
+    by true live there = live
+    by false dead there = absurd cc
+
+module _ (k : ℕ) (xs : List SpreadOf) (s : State) where
+  -- while connection k is live, as much counts of it as in s; and it ends where that is too much, or it spread
+  record IsWeighed (t : State) : Type 0 where
+    same : is_live (actor_of k) t.world.table ≡ true
+        → deliveries (actor_of k) t.world ≡ deliveries (actor_of k) s.world
+    due : is_live (actor_of k) t.world.table ≡ false
+        → (f : Fault) × (entry_of k t.faults ≡ Some f) × (IsSpread xs (actor_of k) f ⊎ IsOver k s f)
+
+  weighed_failed : (j : ℕ) (f : Fault) (t : State) → (k ≡ j → IsSpread xs (actor_of k) f ⊎ IsOver k s f) → IsWeighed t
+      → IsWeighed (failed j f t)
+  weighed_failed j f t why was = record {
+    same = λ live. elim (one_or_not k j) [
+      | inl one ↦
+          absurd (let dead : is_live (actor_of k) (failed j f t).world.table ≡ false =
+          ap (λ i. is_live (actor_of i) (failed j f t).world.table) one ∙ dead_itself (actor_of j) t.world in cc)
+      | inr ne ↦
+          endings_spare_others (actor_of j) (actor_of k) t.world (λ one. ne (omega (arith, one)))
+          ∙ was.same (sym (live_others k j t ne) ∙ live)
+    ];
+    due = λ dead. elim (one_or_not k j) [
+      | inl one ↦ (f, ap (λ i. entry_of i (failed j f t).faults) one ∙ put_found j f t.faults, why one)
+      | inr ne ↦
+          (let before = was.due (sym (live_others k j t ne) ∙ dead) in
+          (before.0, put_other j k f t.faults ne ∙ before.1, before.2))
+    ];
+  }
+
+  weighed : is_live (actor_of k) s.world.table ≡ true → IsWeighed (finished xs s)
+  weighed live =
+      finished_keeps_for IsWeighed (λ x. is_named xs x ≡ true)
+      (λ x j t named at there was.
+      weighed_failed j (Spread x.weight) t (λ one. inl (x.weight, spread_at x j one named at, refl)) was)
+      (λ j f t over there was. weighed_failed j f t (λ one. inr (over_at j f t one over there was)) was)
+      xs s (all_named xs xs (λ x is. is)) (record { same = λ here. refl; due = λ dead. absurd cc })
+    where
+      spread_at : (x : SpreadOf) (j : ℕ) → k ≡ j → is_named xs x ≡ true → actor_of j ≡ x.actor
+          → is_named xs (record { actor = actor_of k; weight = x.weight }) ≡ true
+      spread_at x j one named at =
+          subst (λ a. is_named xs (record { actor = a; weight = x.weight }) ≡ true) (sym (ap actor_of one ∙ at)) named
+
+      over_at : (j : ℕ) (f : Fault) (t : State) → k ≡ j
+          → overrun_by (top_load (deliveries (actor_of j) t.world)) ≡ Some f → is_there j t ≡ true → IsWeighed t
+          → IsOver k s f
+      over_at j f t one over there was =
+          ap (λ d. overrun_by (top_load d)) (sym (was.same (live_there k t (ap (λ i. is_there i t) one ∙ there))))
+          ∙ ap (λ i. overrun_by (top_load (deliveries (actor_of i) t.world))) one ∙ over
+
+pub ends_at_once : EndsAtOnce
+ends_at_once xs s k live dead = (weighed k xs s live).due dead

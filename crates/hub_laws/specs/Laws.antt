@@ -1,9 +1,11 @@
 -- What holds after every list of steps whose callers saw to their conditions.
-use Rattle.std.specs.Prelude.{◌≡◌, ◌≢◌, ℕ, ◌≤◌, ◌⊎◌, List, [], ◌∷◌, true, false}
+use Rattle.std.specs.Prelude.{Some, ◌≡◌, ◌≢◌, ℕ, ◌≤◌, ◌⊎◌, List, [], ◌∷◌, true, false}
 use Rattle.ac_table.specs.Tables.{is_live}
+use Rattle.ac_world.specs.declared.spreads.Spread.{Spread}
 use Rattle.ac_world.specs.Sums.{deliveries}
-use Rattle.ac_world.specs.Worlds.{WorldState, actor_of, ended_of}
+use Rattle.ac_world.specs.Worlds.{WorldState, actor_of, entry_of, ended_of}
 use Rattle.hub_machine.specs.declared.faults.Fault.{Fault}
+use Rattle.hub_machine.specs.Endings.{finished}
 use Rattle.hub_machine.specs.State.{State, opening}
 use Rattle.hub_machine.specs.Machine.{step, IsAllowed}
 use Rattle.hub_machine.specs.Replays.{run_from, replay, IsSettled}
@@ -14,6 +16,7 @@ use Rattle.hub_laws.specs.Wanting.{AreMet}
 use Rattle.hub_laws.specs.Endings.{HaveEnded}
 use Rattle.hub_laws.specs.Presence.{ArePresent}
 use Rattle.hub_laws.specs.Refusals.{whose, IsLeft, IsDismissed, spreads_of, HasFailed}
+use Rattle.hub_laws.specs.Refusals.{IsSpread, IsOver}
 use Rattle.hub_laws.specs.Settled.{HoldsWhatItGot, HoldsFromScratch}
 
 -- each step meets its condition in the state that the steps before it leave
@@ -63,6 +66,13 @@ abbrev pub WhoEnds : Type 0
 WhoEnds = (s : State) (e : Step) (k : ℕ) → is_live (actor_of k) s.world.table ≡ true
     → is_live (actor_of k) (step s e).state.world.table ≡ false
     → IsDismissed k e (step s e).reply ⊎ HasFailed (spreads_of e s) k (step s e).state
+
+-- s is what a step has done before its end: there those end that spread, and those for which in s too much is held and
+-- waits, whoever else ends
+abbrev pub EndsAtOnce : Type 0
+EndsAtOnce = (xs : List Spread) (s : State) (k : ℕ) → is_live (actor_of k) s.world.table ≡ true
+    → is_live (actor_of k) (finished xs s).world.table ≡ false
+    → (f : Fault) × (entry_of k (finished xs s).faults ≡ Some f) × (IsSpread xs (actor_of k) f ⊎ IsOver k s f)
 
 -- an ending ends nobody else: what is counted of others stays
 abbrev pub EndingsSpareOthers : Type 0

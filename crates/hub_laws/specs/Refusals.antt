@@ -7,10 +7,12 @@ use Rattle.ac_table.specs.Tables.{is_live, lowest}
 use Rattle.ac_world.specs.declared.spreads.Spread.{Spread as SpreadOf}
 use Rattle.ac_world.specs.declared.turns.Turned.{Turned}
 use Rattle.ac_world.specs.declared.turns.Turned.TheVariants as turned
+use Rattle.ac_world.specs.Sums.{top_load, deliveries}
 use Rattle.ac_world.specs.Turns.{turn}
 use Rattle.ac_world.specs.Worlds.{actor_of, entry_of, is_system}
 use Rattle.hub_machine.specs.declared.faults.Fault.{Fault}
 use Rattle.hub_machine.specs.declared.faults.Fault.TheVariants.{Overrun, Spread}
+use Rattle.hub_machine.specs.Endings.{overrun_by}
 use Rattle.hub_machine.specs.State.{State}
 use Rattle.hub_machine.specs.declared.steps.Step.{Step}
 use Rattle.hub_machine.specs.declared.steps.Step.TheVariants.{Arrive, Packet, Bad, Close, Turn, Work, Stop}
@@ -84,6 +86,10 @@ IsSpread xs a f = (w : ℕ) × (is_named xs (record { actor = a; weight = w }) �
 -- too much is held and waits
 abbrev pub IsOverrun : Fault → Type 0
 IsOverrun f = (n : ℕ) × (((f ≡ Overrun 1 n) × (65536 < n)) ⊎ ((f ≡ Overrun 2 n) × (16777216 < n)))
+
+-- in s too much is held and waits for connection k: it is told what was counted or weighed
+abbrev pub IsOver : ℕ → State → Fault → Type 0
+IsOver k s f = overrun_by (top_load (deliveries (actor_of k) s.world)) ≡ Some f
 
 -- connection k is told a fault for which a step's end ends it
 abbrev pub HasFailed : List SpreadOf → ℕ → State → Type 0

@@ -1,11 +1,12 @@
 //! Laws of the machine over all its runs: what holds after every list of steps whose callers saw to
-//! their conditions. Each is the contract of a function that does nothing, and is proved of the
-//! definitions alone: `specs/Laws.antt` has them.
+//! their conditions; and of single steps, and of what is posted and said in them, from any state.
+//! Each is the contract of a function that does nothing, and is proved of the definitions alone:
+//! `specs/Laws.antt` has most of them, `specs/Posting.antt` and `specs/Saying.antt` the others.
 #![tactic(auto)]
 
 ghost use Rattle.hub_laws.specs.Laws.{Delivery, SettledDelivery, Wants, Endings};
 ghost use Rattle.hub_laws.specs.Laws.{Holdings, SettledHoldings, Presence, Handles, Refusals};
-ghost use Rattle.hub_laws.specs.Laws.{WhoEnds, EndingsSpareOthers};
+ghost use Rattle.hub_laws.specs.Laws.{WhoEnds, EndsAtOnce, EndingsSpareOthers};
 ghost use Rattle.hub_laws.specs.Posting.{PostedOnce, AreOutboxes};
 ghost use Rattle.hub_laws.specs.Saying.{SaysMessages, AnswersSyncs, MessagesArrive};
 
@@ -59,9 +60,10 @@ pub fn refusals_leave_their_fault()
 {}
 
 /// Who ends: the connection that a step closes or refuses, those that its turn names, and those for
-/// which too much is held and waits.
+/// which too much is held and waits; these are weighed as the step leaves them, whoever else ends.
 pub fn nobody_else_ends()
-    ensures { WhoEnds }
+    ensures ends { WhoEnds }
+    ensures weighed { EndsAtOnce }
 {}
 
 /// An ending ends nobody else: what has come to another actor and waits for it counts as before.
