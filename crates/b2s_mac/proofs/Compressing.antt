@@ -1,18 +1,20 @@
--- A block's words in the order of a row, and the count of bytes as the compression reads it.
+-- A block's words in the order of the schedule, and the count of bytes as the compression reads it.
 use Rattle.std.proofs.Common.{◌≡◌, ℕ, ◌/◌, ◌%◌, ◌^◌, Bool, List, [], ◌∷◌, length, map, slice_index, arith, refl}
 use Rattle.b2s_mac.specs.Blake2s.{compress, work_vector}
 
 -- sixteen elements, one by one
-pub map_sixteen : (m row : List ℕ) → length row ≡ 16
-    → slice_index m (slice_index row 0) ∷ slice_index m (slice_index row 1) ∷ slice_index m (slice_index row 2)
-    ∷ slice_index m (slice_index row 3)
-    ∷ slice_index m (slice_index row 4) ∷ slice_index m (slice_index row 5) ∷ slice_index m (slice_index row 6)
-    ∷ slice_index m (slice_index row 7)
-    ∷ slice_index m (slice_index row 8) ∷ slice_index m (slice_index row 9) ∷ slice_index m (slice_index row 10)
-    ∷ slice_index m (slice_index row 11)
-    ∷ slice_index m (slice_index row 12) ∷ slice_index m (slice_index row 13) ∷ slice_index m (slice_index row 14)
-    ∷ slice_index m (slice_index row 15) ∷ []
-    ≡ map (λ k. slice_index m k) row
+pub map_sixteen : (m places : List ℕ) → length places ≡ 16
+    → slice_index m (slice_index places 0) ∷ slice_index m (slice_index places 1) ∷ slice_index m (slice_index places 2)
+    ∷ slice_index m (slice_index places 3)
+    ∷ slice_index m (slice_index places 4) ∷ slice_index m (slice_index places 5) ∷ slice_index m (slice_index places 6)
+    ∷ slice_index m (slice_index places 7)
+    ∷ slice_index m (slice_index places 8) ∷ slice_index m (slice_index places 9)
+    ∷ slice_index m (slice_index places 10)
+    ∷ slice_index m (slice_index places 11)
+    ∷ slice_index m (slice_index places 12) ∷ slice_index m (slice_index places 13)
+    ∷ slice_index m (slice_index places 14)
+    ∷ slice_index m (slice_index places 15) ∷ []
+    ≡ map (λ k. slice_index m k) places
 map_sixteen m (a ∷ b ∷ c ∷ d ∷ e ∷ f ∷ g ∷ h ∷ i ∷ j ∷ k ∷ l ∷ n ∷ o ∷ p ∷ q ∷ []) len = refl
 map_sixteen m _ len = absurd (omega arith)
 

@@ -22,5 +22,6 @@ digest_under_a_key = refl
 pub code_of_abc : hmac (codes "key") (codes "abc")
     ≡ 0 ∷ 24 ∷ 191 ∷ 221 ∷ 192 ∷ 200 ∷ 120 ∷ 179 ∷ 226 ∷ 112 ∷ 198 ∷ 229 ∷ 155 ∷ 53 ∷ 175 ∷ 1 ∷ 225 ∷ 100 ∷ 164 ∷ 45
     ∷ 137 ∷ 73 ∷ 156 ∷ 148 ∷ 71 ∷ 169 ∷ 11 ∷ 88 ∷ 164 ∷ 214 ∷ 14 ∷ 179 ∷ []
-unfolding half_mix mix round rounds words work_vector joined compress keyed after_blocks final_state word_bytes blake2s key_block hmac
+unfolding half_mix mix round rounds words work_vector joined compress keyed after_blocks final_state word_bytes blake2s
+    key_block hmac
 code_of_abc = refl

@@ -1,5 +1,5 @@
--- What a contract knows of a hash in progress: the key, the length of the digest and the message so far. The blocks that
--- its state has taken in are whole ones, none of which can be the last: the bytes after them are held back.
+-- What a contract knows of a hash in progress: the key, the length of the digest and the message so far. The blocks
+-- that its state has taken in are whole ones, none of which can be the last: the bytes after them are held back.
 use Rattle.std.specs.Prelude.{◌≡◌, ℕ, ◌+◌, ◌*◌, ◌%◌, ◌^◌, List, length, take, drop}
 use Rattle.b2s_mac.specs.Blake2s.{after_blocks, first_state, keyed}
 use Rattle.b2s_mac.specs.declared.hashing.Blake2s.{Blake2s}

@@ -56,8 +56,12 @@ dead_turn k s dead = by (is_live (actor_of k) s.world.table) dead
     none = record { world = s.world; turned = turned.Gone }
 
     by : (c : Bool) → c ≡ false → flat_map events_in (sent_by k (Turn (actor_of k))
-        (after_turn (actor_of k) (cond c (turn_first (actor_of k) (first_batch (actor_of k) s.world.table) s.world) none).turned
-        (record s { world = (cond c (turn_first (actor_of k) (first_batch (actor_of k) s.world.table) s.world) none).world })).reply)
+        (after_turn (actor_of k) (cond c (turn_first (actor_of k) (first_batch (actor_of k) s.world.table) s.world)
+        none).turned
+        (record s {
+          world = (cond c (turn_first (actor_of k) (first_batch (actor_of k) s.world.table) s.world)
+              none).world;
+        })).reply)
         ≡ []
     by true dead = absurd cc
     by false dead = fault_tells k (actor_of k) (fault_for (actor_of k) s) s
@@ -91,7 +95,8 @@ dead_step k s Stop dead = refl
 -- what connection k, which has these exports, is sent by a reply to the turn that takes this batch
 abbrev Sends : ℕ → List Plain → Option Batch → Reply → Type 0
 Sends k exports o r =
-    AreSentAs (all_exported exports (flat_map (foreign_to k) (batch_sent o r))) k (events_of (batch_sent o r)) (events_by r)
+    AreSentAs (all_exported exports (flat_map (foreign_to k) (batch_sent o r))) k (events_of (batch_sent o r))
+    (events_by r)
 
 sends_worn : (k : ℕ) (exports : List Plain) (o : Option Batch) → Sends k exports o Worn
 sends_worn k exports None = tt

@@ -151,7 +151,8 @@ events_say k b w (e ∷ es) x y is =
         ≡ said_to b (plan_of k w x).out ++ messages_asked x.ports.exports k b (e ∷ es)
     by None none is later =
         later is
-        ∙ (λ i. at (cap_at e.oid x.ports) none i ++ messages_asked (exports_after k w (cap_at e.oid x.ports) e.event x i) k b es)
+        ∙ (λ i. at (cap_at e.oid x.ports) none i ++ messages_asked
+        (exports_after k w (cap_at e.oid x.ports) e.event x i) k b es)
         ∙ append_assoc (said_to b (plan_of k w x).out)
         (message_asked x.ports.exports k b (cap_under x.ports.exports e.oid) e.event)
         (messages_asked x.ports.exports k b es)

@@ -1,5 +1,5 @@
--- What a connection is told by name: each reference in what it is sent is an object of its own, or stands under the number
--- of an export, which is the reference that was meant.
+-- What a connection is told by name: each reference in what it is sent is an object of its own, or stands under the
+-- number of an export, which is the reference that was meant.
 use Rattle.std.specs.Prelude.{◌≡◌, ℕ, ◌<◌, ◌⊎◌, List, [], ◌∷◌, length, Some, slice_get}
 use Rattle.std.specs.List.{AllByRecursion}
 use Rattle.pv_value.specs.Plain.{Plain, embedded}

@@ -1,5 +1,6 @@
 //! Valid states of the machine: each reference in one is an object of an actor that is or was live,
-//! of a system actor its object 0, and each event names an object and a handle that a packet can name.
+//! of a system actor its object 0, and each event names an object and a handle that a packet can
+//! name.
 #![tactic(auto)]
 
 ghost use Rattle.hub_valid.specs.Validity.{StaysValid};

@@ -1,6 +1,8 @@
 -- What walks over names see, and what it tells of ways.
-use Rattle.std.proofs.Common.{◌≡◌, ◌+◌, ◌-◌, ◌*◌, ◌≤◌, ◌<◌, ◌⊎◌, ℕ, zero, suc, Bool, true, false, ◌||◌, List, [], ◌∷◌, ◌++◌, length, get_or}
-use Rattle.std.proofs.Common.{take, Result, Ok, Err, OnOk, drop, Option, Some, None, inl, inr, refl, sym, ap, subst, ◌∙◌, arith}
+use Rattle.std.proofs.Common.{◌≡◌, ◌+◌, ◌-◌, ◌*◌, ◌≤◌, ◌<◌, ◌⊎◌, ℕ, zero, suc, Bool, true, false, ◌||◌, List, [], ◌∷◌}
+use Rattle.std.proofs.Common.{◌++◌, length, get_or}
+use Rattle.std.proofs.Common.{take, Result, Ok, Err, OnOk, drop, Option, Some, None, inl, inr, refl, sym, ap, subst}
+use Rattle.std.proofs.Common.{◌∙◌, arith}
 use Rattle.std.proofs.lemmas.List.{drop_more, drop_all, take_more, take_all, take-append-le, length-append}
 use Rattle.std.proofs.lemmas.Slice.Eq.{bytes_eq-Decides}
 use Rattle.std.specs.Bool.{Decides}
@@ -10,7 +12,8 @@ use Rattle.ps_schema.specs.Names.{knows, pattern_under}
 use Rattle.ps_schema.specs.Schemas.{asks, one_asks, asked_by, leads, IsWay, LeadsBack, IsFirstBack}
 use Rattle.ps_schema.specs.Seen.{among, IsReached, Sees, Walked, unseen, NoneBack}
 use Rattle.ps_schema.specs.Laws.{RefusedIsNone}
-use Rattle.ps_schema.specs.Lemmas.Ends.{decide, either_side, no_is_not_yes, same_name, its_own_name, unseen_no_more, way_on}
+use Rattle.ps_schema.specs.Lemmas.Ends.{decide, either_side, no_is_not_yes, same_name, its_own_name, unseen_no_more}
+use Rattle.ps_schema.specs.Lemmas.Ends.{way_on}
 use Rattle.ps_schema.specs.Lemmas.Ends.{unseen_less, known_by_pattern}
 use Rattle.ps_schema.specs.declared.Definition.{Definition}
 use Rattle.ps_schema.specs.declared.faults.SchemaFault.TheVariants.{NoMemory, Unguarded, NoSuchName, NameTwice}

@@ -1,6 +1,7 @@
 //! Laws of the definitions: each is the contract of a function that does nothing.
 ghost use Rattle.rl_wire.specs.Laws.{AttenuatedReferencesAreCaps};
-ghost use Rattle.rl_wire.specs.Laws.{WhatGoesOutIsExported, ReferencesComeBack, ReferencesStayApart};
+ghost use Rattle.rl_wire.specs.Laws.{WhatGoesOutIsExported, ReferencesComeBack};
+ghost use Rattle.rl_wire.specs.Laws.{ReferencesStayApart};
 
 /// A reference with caveats from the wire behind its own is a reference with what was read of
 /// these behind its own.

@@ -1,5 +1,6 @@
 -- What each call of the codecs and the hash answers.
-use Rattle.std.specs.Prelude.{◌≡◌, ℕ, zero, suc, ◌-◌, false, ◌++◌, ◌∷◌, [], List, length, take, drop, replicate, slice_index, codes, ◌⊎◌}
+use Rattle.std.specs.Prelude.{◌≡◌, ℕ, zero, suc, ◌-◌, false, ◌++◌, ◌∷◌, [], List, length, take, drop, replicate}
+use Rattle.std.specs.Prelude.{slice_index, codes, ◌⊎◌}
 use Rattle.std.specs.Prelude.{string_bytes}
 use Rattle.std.specs.Fmt.{decimal}
 use Rattle.pv_value.specs.Plain.{Plain, plains}
@@ -129,7 +130,8 @@ message_behind n given = drop (slice_index given 0) (drop n given)
 abbrev pub GivesDigest : List ℕ → Answer → Type 0
 GivesDigest given (Bytes b) =
     b.items
-    ≡ blake2s (key_behind 3 given) (slice_index given 1) (message_behind 3 given) ++ replicate (32 - slice_index given 1) 0
+    ≡ blake2s (key_behind 3 given) (slice_index given 1) (message_behind 3 given) ++ replicate
+    (32 - slice_index given 1) 0
 GivesDigest given a = ⊥
 
 -- the code of the message under the key

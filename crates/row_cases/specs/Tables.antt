@@ -14,7 +14,8 @@ use Rattle.row_cases.specs.declared.tables.Table.{Table}
 use Rattle.row_cases.specs.declared.tables.Table.TheVariants.{TextFaults, LaterTextFaults}
 use Rattle.row_cases.specs.declared.tables.Table.TheVariants.{Texts, FirstValues, NextValues}
 use Rattle.row_cases.specs.declared.tables.Table.TheVariants.{NextFaults, BinaryFaults, Binary, Printed, Canonical}
-use Rattle.row_cases.specs.declared.tables.Table.TheVariants.{Tokens, TokenFaults, TextFronts, BinaryFronts, Digests, Macs}
+use Rattle.row_cases.specs.declared.tables.Table.TheVariants.{Tokens, TokenFaults, TextFronts, BinaryFronts, Digests}
+use Rattle.row_cases.specs.declared.tables.Table.TheVariants.{Macs}
 
 -- the table of a file's name
 abbrev pub table_named : List ℕ → Option Table

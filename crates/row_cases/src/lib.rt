@@ -1,5 +1,5 @@
-//! Cases of the codecs and the hash in tables, how bytes are written in a file, what differs between two
-//! outcomes, and the count of what passed.
+//! Cases of the codecs and the hash in tables, how bytes are written in a file, what differs
+//! between two outcomes, and the count of what passed.
 #![tactic(auto)]
 
 mod codecs;

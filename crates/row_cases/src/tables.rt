@@ -1,4 +1,5 @@
-//! Tables of cases: a line each, with what a call of the codecs or the hash is given and what it answers.
+//! Tables of cases: a line each, with what a call of the codecs or the hash is given and what it
+//! answers.
 ghost use Rattle.std.specs.Prelude.{◌≡◌, ◌≢◌, ◌+◌, ℕ, List, None, IfOk, IfErr, IfSome, OnOk, All};
 ghost use Rattle.std.specs.Prelude.{count_by};
 ghost use Rattle.std.specs.Prelude.{[], length, string_bytes};

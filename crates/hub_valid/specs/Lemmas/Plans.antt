@@ -1,6 +1,7 @@
 -- What a turn does in the making leaves the live actors and their inboxes as they are, until it is posted; and the next
 -- handle never goes back.
-use Rattle.std.proofs.Common.{◌≡◌, ℕ, ◌≤◌, List, [], ◌∷◌, ◌==◌, Bool, true, false, cond, Option, Some, None, refl, ◌∙◌, arith}
+use Rattle.std.proofs.Common.{◌≡◌, ℕ, ◌≤◌, List, [], ◌∷◌, ◌==◌, Bool, true, false, cond, Option, Some, None, refl, ◌∙◌}
+use Rattle.std.proofs.Common.{arith}
 use Rattle.std.proofs.Common.{nat_lt}
 use Rattle.std.specs.Map.{values_of}
 use Rattle.pv_value.specs.Plain.{Plain, boolean, sequence, plains}
