@@ -69,33 +69,6 @@ pub enum Packet {
     Extension(Value),
 }
 
-impl Event {
-    /// An equal event.
-    pub fn copy(&self) -> Result<Event, NoMemory>
-        ensures { IfOk result (λ e. e ≡ self.now) }
-    {
-        match self {
-            Event::Assert(value, handle) => Ok(Event::Assert(value.copy()?, *handle)),
-            Event::Retract(handle) => Ok(Event::Retract(*handle)),
-            Event::Message(value) => Ok(Event::Message(value.copy()?)),
-            Event::Sync(peer) => Ok(Event::Sync(peer.copy()?)),
-        }
-    }
-}
-
-impl TurnEvent {
-    /// An equal event, aimed at the same object.
-    pub fn copy(&self) -> Result<TurnEvent, NoMemory>
-        ensures { IfOk result (λ e. e ≡ self.now) }
-    {
-        let event = self.event.copy()?;
-        Ok(TurnEvent {
-            oid: self.oid,
-            event,
-        })
-    }
-}
-
 impl Turn {
     /// No events.
     pub fn new(alloc: Global) -> Turn
@@ -139,17 +112,6 @@ impl Turn {
         ensures { result ≡ (length self.now == 0) }
     {
         self.events.is_empty()
-    }
-
-    /// Equal events.
-    pub fn copy(&self, alloc: Global) -> Result<Turn, NoMemory>
-        ensures { IfOk result (λ t. t ≡ self.now) }
-    {
-        let mut events = Vec::new(alloc);
-        for event in self.as_slice() {
-            events.push(event.copy()?)?;
-        }
-        Ok(Turn { events })
     }
 }
 
