@@ -10,3 +10,4 @@ mod words;
 
 pub use once::{dsd_main, dsd_once};
 pub use sc_script::{next_is_decided, one_course, one_reading};
+pub use words::is_serve;

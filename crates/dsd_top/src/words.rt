@@ -91,7 +91,7 @@ pub fn find_request(words: &[String]) -> Option<Request>
     None
 }
 
-/// Whether the first word begins with `serve`.
+/// Whether the first word begins with `serve`, which wants threads.
 pub fn is_serve(words: &[String]) -> bool
     ensures { result ≡ begins_with_serve (texts words.now) }
 {

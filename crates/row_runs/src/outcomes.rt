@@ -7,7 +7,7 @@ ghost use Rattle.row_cases.specs.declared.faults.Fault.TheVariants.{NoMemory};
 ghost use Rattle.row_files.specs.Rows.{row_told};
 ghost use Rattle.row_runs.specs.Outcomes.{Streams, streams_of, IsRun, IsOutcome, IsUnfit};
 
-use dsd_top::dsd_once;
+use dsd_top::{dsd_once, is_serve};
 use out_ports::memory::{MemHost, MemListen, MemSink, MemSource};
 use row_cases::{Fault, Outcome};
 use row_files::Row;
@@ -15,16 +15,6 @@ use std::alloc::{AllocError, Global};
 
 /// How many bytes are kept of what is written to standard error.
 const LINE_ROOM: usize = 4096;
-
-/// Whether the first word begins with `serve`, which wants threads: no row can hold such words.
-fn is_serve(words: &[String]) -> bool
-    ensures { result ≡ begins_with_serve (texts words.now) }
-{
-    match words.first() {
-        Some(word) => word.as_bytes().starts_with(b"serve"),
-        None => false,
-    }
-}
 
 /// What comes of what a row gives. A row whose first word begins with `serve`, or whose pieces have
 /// no byte, is refused by its form.
