@@ -59,7 +59,7 @@ pub record Turning : Type 0 where
 -- a value for the object that a reference names, as the reference's caveats let it pass
 abbrev pub aim_by : Plain → Cap → Option Aim
 aim_by v c =
-    option_map (λ w. record { at = record { at = c.actor; entity = c.entity }; value = w })
+    option_map (λ w. record { at = record { actor = c.actor; entity = c.entity }; value = w })
     (passed no_names c.caveats v)
 
 -- a value that is sent through a reference: none where its caveats refuse the value, or it is no reference
@@ -100,7 +100,7 @@ abbrev pub came_at : ℕ → Plain → Option Aim → Turning → Turning
 came_at a k None t = t
 came_at a k (Some aim) t = record {
   seat = record { got = t.seat.got; met = insert_entry order t.seat.met k t.plan.table.next };
-  plan = put a aim.at.at aim.at.entity aim.value t.plan;
+  plan = put a aim.at.actor aim.at.entity aim.value t.plan;
   spreads = t.spreads;
 }
 
@@ -145,7 +145,7 @@ taken_in a from h v t = if has_row h t.seat.got then t else applied a from (Add 
 -- what gets through is said to the object
 abbrev pub say_at : Option Aim → Plan → Plan
 say_at None p = p
-say_at (Some aim) p = said aim.at.at (Message aim.at.entity aim.value) p
+say_at (Some aim) p = said aim.at.actor (Message aim.at.entity aim.value) p
 
 -- the captures of a message go to each that observes it
 abbrev pub say_all : List Fanned → Plan → Plan

@@ -23,7 +23,7 @@ fn aim_by(alloc: Global, value: &Value, cap: &Cap) -> Result<Option<Aim>, NoMemo
         return Ok(None);
     };
     let at = Reference {
-        at: cap.actor,
+        actor: cap.actor,
         entity: cap.entity,
     };
     Ok(Some(Aim { at, value }))

@@ -101,7 +101,7 @@ impl Plan {
         ensures { OnOk result (self.new ≡ say_at aim self.old) }
     {
         match aim {
-            Some(Aim { at, value }) => self.say(at.at, Event::Message(at.entity, value)),
+            Some(Aim { at, value }) => self.say(at.actor, Event::Message(at.entity, value)),
             None => Ok(()),
         }
     }

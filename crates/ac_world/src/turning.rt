@@ -55,7 +55,7 @@ impl<S: Space + Drop> Turning<S> {
         let Some(Aim { at, value }) = aim_of(alloc, &key)? else {
             return Ok(());
         };
-        let handle = self.plan.put(actor, (at.at, at.entity), value)?;
+        let handle = self.plan.put(actor, (at.actor, at.entity), value)?;
         self.seat.met.insert(key, handle)?;
         Ok(())
     }

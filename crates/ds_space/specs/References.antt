@@ -9,16 +9,16 @@ pub use Rattle.ds_space.specs.declared.references.Reference.{Reference}
 -- `[a e ..]`: an actor's number is below 2 ^ 32, and an object's below 2 ^ 63
 abbrev pub reference_of : Plain → Option Reference
 reference_of (sequence (then_more (integer (pos a)) (then_more (integer (pos e)) caveats))) =
-    if nat_lt a (2 ^ 32) && nat_lt e (2 ^ 63) then Some (record { at = a; entity = e }) else None
+    if nat_lt a (2 ^ 32) && nat_lt e (2 ^ 63) then Some (record { actor = a; entity = e }) else None
 reference_of v = None
 
 -- the value that writes it, without caveats
 abbrev pub reference_value : Reference → Plain
-reference_value r = sequence (plains (number r.at ∷ number r.entity ∷ []))
+reference_value r = sequence (plains (number r.actor ∷ number r.entity ∷ []))
 
 abbrev pub is_observers : Option Reference → Bool
 is_observers None = false
-is_observers (Some r) = nat_le 9 r.at
+is_observers (Some r) = nat_le 9 r.actor
 
 -- an object of an actor numbered 9 or more: of a watcher or of a connection
 abbrev pub names_observer : Plain → Bool

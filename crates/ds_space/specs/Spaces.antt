@@ -4,6 +4,7 @@ use Rattle.std.specs.Ordering.{nat_cmp}
 use Rattle.std.specs.Map.{values_of, lookup, remove_entry}
 use Rattle.std.specs.BTreeMap.{insert_entry, is_at}
 use Rattle.pv_value.specs.Plain.{Plain}
+use Rattle.ds_space.specs.Limits.{most_wanted_weight}
 use Rattle.ds_space.specs.Wants.{wanted_weight}
 use Rattle.ds_space.specs.Changes.{AreChanges}
 use Rattle.ds_space.specs.Fans.{fan_of, fan_weight}
@@ -32,12 +33,12 @@ changed rows (Gone n) = remove_entry (is_at (nat_cmp n)) rows
 
 -- an event after which these are the values is done: what would be wanted weighs no more than 33,554,432
 abbrev pub Fits : List Plain → SpaceEvent → Type 0
-Fits vs (Add n v) = wanted_weight vs ≤ 33554432
+Fits vs (Add n v) = wanted_weight vs ≤ most_wanted_weight
 Fits vs (Gone n) = Unit {0}
 
 -- or it isn't, and w is the weight
 abbrev pub IsOver : List Plain → SpaceEvent → ℕ → Type 0
-IsOver vs (Add n v) w = (33554432 < w) × (w ≡ wanted_weight vs)
+IsOver vs (Add n v) w = (most_wanted_weight < w) × (w ≡ wanted_weight vs)
 IsOver vs (Gone n) w = ⊥
 
 abbrev pub IsApplied : {S : Type 0} → (S → Rows) → Rows → SpaceEvent → Applied S → Type 0
@@ -48,5 +49,5 @@ IsApplied rows_of old e (Over s w) = (rows_of s ≡ old) × IsOver (values_of (c
 
 -- to whom a message goes over these values, or that it would weigh more than 33,554,432
 abbrev pub IsFan : List Plain → Plain → Fan → Type 0
-IsFan vs m (fan.Each list) = (list.items ≡ fan_of vs m) × (fan_weight vs m ≤ 33554432)
-IsFan vs m (fan.Over w) = (33554432 < w) × (w ≡ fan_weight vs m)
+IsFan vs m (fan.Each list) = (list.items ≡ fan_of vs m) × (fan_weight vs m ≤ most_wanted_weight)
+IsFan vs m (fan.Over w) = (most_wanted_weight < w) × (w ≡ fan_weight vs m)

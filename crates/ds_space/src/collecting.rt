@@ -10,7 +10,7 @@ ghost use Rattle.pv_words.specs.Parts.{same};
 ghost use Rattle.dp_pattern.specs.Matching.{matched};
 ghost use Rattle.ds_space.specs.Wants.{key_of, is_one, is_key, gives, wanted, wants};
 
-use crate::observing::observer_of;
+use crate::standing::Standing;
 use dp_pattern::{DPat, captures};
 use pv_value::{Items, NoMemory, Value};
 use std::alloc::Global;
@@ -29,16 +29,16 @@ fn key_of(alloc: Global, observe: &Value, captures: Items) -> Result<Value, NoMe
 /// The key of what the pattern captures of one value, where it does.
 fn key_with(
     alloc: Global,
-    observe: &Value,
+    observe: &Standing,
     pattern: &DPat,
-    value: &Value,
+    value: &Standing,
 ) -> Result<Option<Value>, NoMemory>
     ensures { IfOk result
         (λ found. (q : Plain) → is_one q found
         ≡ is_key q observe.now (matched pattern.now value.now)) }
 {
-    match captures(alloc, pattern, value)? {
-        Some(captures) => Ok(Some(key_of(alloc, observe, captures)?)),
+    match captures(alloc, pattern, value.value())? {
+        Some(captures) => Ok(Some(key_of(alloc, observe.value(), captures)?)),
         None => Ok(None),
     }
 }
@@ -68,8 +68,8 @@ pub(crate) fn put_key(keys: &mut BTreeSet<Value>, key: Value) -> Result<(), NoMe
 fn put_captured(
     alloc: Global,
     keys: &mut BTreeSet<Value>,
-    rows: &BTreeMap<u64, Value>,
-    observe: &Value,
+    rows: &BTreeMap<u64, Standing>,
+    observe: &Standing,
     pattern: &DPat,
 ) -> Result<(), NoMemory>
     ensures { OnOk result ((q : Plain) → sorted.contains order keys.new q
@@ -87,20 +87,20 @@ fn put_captured(
 fn put_wanted(
     alloc: Global,
     keys: &mut BTreeSet<Value>,
-    rows: &BTreeMap<u64, Value>,
-    observe: &Value,
+    rows: &BTreeMap<u64, Standing>,
+    observe: &Standing,
 ) -> Result<(), NoMemory>
     ensures { OnOk result ((q : Plain) → sorted.contains order keys.new q
         ≡ (sorted.contains order keys.old q
         || list_any (gives q observe.now) (tree.values rows.now))) }
 {
-    match observer_of(alloc, observe)? {
-        Some(pattern) => put_captured(alloc, keys, rows, observe, &pattern),
+    match observe.pattern() {
+        Some(pattern) => put_captured(alloc, keys, rows, observe, pattern),
         None => Ok(()),
     }
 }
 
-fn collected(alloc: Global, rows: &BTreeMap<u64, Value>) -> Result<BTreeSet<Value>, NoMemory>
+fn collected(alloc: Global, rows: &BTreeMap<u64, Standing>) -> Result<BTreeSet<Value>, NoMemory>
     ensures { IfOk result
         (λ keys. (q : Plain) → sorted.contains order keys q ≡ wanted (tree.values rows.now) q) }
 {
@@ -111,10 +111,10 @@ fn collected(alloc: Global, rows: &BTreeMap<u64, Value>) -> Result<BTreeSet<Valu
     Ok(keys)
 }
 
-/// The values of a set, in a list.
-pub(crate) fn listed(alloc: Global, keys: BTreeSet<Value>) -> Result<Vec<Value>, NoMemory>
+/// The members of a set, in a list.
+pub(crate) fn listed<K: Ord + Drop>(alloc: Global, keys: BTreeSet<K>) -> Result<Vec<K>, NoMemory>
     ensures same { IfOk result (λ list. list.items ≡ keys.keys) }
-    ensures ascending { IfOk result (λ list. IsStrictlySortedBy order list.items) }
+    ensures ascending { IfOk result (λ list. IsStrictlySortedBy K.cmp list.items) }
 {
     let _ = keys.len();
     let mut list = Vec::new(alloc);
@@ -125,7 +125,10 @@ pub(crate) fn listed(alloc: Global, keys: BTreeSet<Value>) -> Result<Vec<Value>,
 }
 
 /// The keys that are wanted, ascending.
-pub(crate) fn all_wanted(alloc: Global, rows: &BTreeMap<u64, Value>) -> Result<Vec<Value>, NoMemory>
+pub(crate) fn all_wanted(
+    alloc: Global,
+    rows: &BTreeMap<u64, Standing>,
+) -> Result<Vec<Value>, NoMemory>
     ensures { IfOk result (λ keys. keys.items ≡ wants (tree.values rows.now)) }
 {
     let keys = collected(alloc, rows)?;

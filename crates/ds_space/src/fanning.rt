@@ -11,39 +11,51 @@ ghost use Rattle.ds_space.specs.Changes.{among};
 ghost use Rattle.ds_space.specs.Wants.{captured};
 ghost use Rattle.ds_space.specs.Fans.{fan_for, fan_of};
 
-use crate::collecting::{listed, put_key};
-use crate::observing::observer_of;
+use crate::collecting::listed;
 use crate::space::{FanList, Fanned};
+use crate::standing::Standing;
 use dp_pattern::captures;
 use pv_value::{Items, NoMemory, Value};
 use std::alloc::Global;
 use std::collections::{BTreeMap, BTreeSet};
 
-fn value_set(alloc: Global, rows: &BTreeMap<u64, Value>) -> Result<BTreeSet<Value>, NoMemory>
+fn put_standing(set: &mut BTreeSet<Standing>, standing: Standing) -> Result<(), NoMemory>
+    ensures { OnOk result
+        ((q : Plain) → sorted.contains order set.new q
+        ≡ (sorted.contains order set.old q || same q standing)) }
+{
+    set.insert(standing)?;
+    Ok(())
+}
+
+fn standing_set(
+    alloc: Global,
+    rows: &BTreeMap<u64, Standing>,
+) -> Result<BTreeSet<Standing>, NoMemory>
     ensures { IfOk result
         (λ set. (q : Plain) → sorted.contains order set q ≡ among q (tree.values rows.now)) }
 {
     let mut set = BTreeSet::new(alloc);
     for value in rows.values() {
-        put_key(&mut set, value.copy()?)?;
+        put_standing(&mut set, value.copy()?)?;
     }
     Ok(set)
 }
 
 /// The values, ascending, each once.
-fn distinct(alloc: Global, rows: &BTreeMap<u64, Value>) -> Result<Vec<Value>, NoMemory>
+fn distinct(alloc: Global, rows: &BTreeMap<u64, Standing>) -> Result<Vec<Standing>, NoMemory>
     ensures { IfOk result (λ list. list.items ≡ ascending_by order (tree.values rows.now)) }
 {
-    let set = value_set(alloc, rows)?;
+    let set = standing_set(alloc, rows)?;
     listed(alloc, set)
 }
 
 /// What a value captures of the message, where it is an observation that the message matches.
-fn captured(alloc: Global, observe: &Value, message: &Value) -> Result<Option<Items>, NoMemory>
+fn captured(alloc: Global, observe: &Standing, message: &Value) -> Result<Option<Items>, NoMemory>
     ensures { IfOk result (λ found. found ≡ captured observe.now message.now) }
 {
-    match observer_of(alloc, observe)? {
-        Some(pattern) => captures(alloc, &pattern, message),
+    match observe.pattern() {
+        Some(pattern) => captures(alloc, pattern, message),
         None => Ok(None),
     }
 }
@@ -60,7 +72,7 @@ fn push_fanned(list: &mut FanList, observe: Value, captures: Option<Items>) -> R
 
 pub(crate) fn fan_list(
     alloc: Global,
-    rows: &BTreeMap<u64, Value>,
+    rows: &BTreeMap<u64, Standing>,
     message: &Value,
 ) -> Result<FanList, NoMemory>
     ensures { IfOk result (λ list. list.items ≡ fan_of (tree.values rows.now) message.now) }
@@ -68,7 +80,7 @@ pub(crate) fn fan_list(
     let mut list = Vec::new(alloc);
     for observe in distinct(alloc, rows)? {
         let captures = captured(alloc, &observe, message)?;
-        push_fanned(&mut list, observe, captures)?;
+        push_fanned(&mut list, observe.into_value(), captures)?;
     }
     Ok(list)
 }

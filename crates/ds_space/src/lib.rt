@@ -13,9 +13,10 @@ mod observing;
 mod plain;
 mod references;
 mod space;
+mod standing;
 mod weighing;
 
-pub use laws::{changes_are_exact, wants_are_in_order, wants_are_the_rule};
+pub use laws::{changes_are_exact, limit_is_as_defined, wants_are_in_order, wants_are_the_rule};
 pub use plain::PlainSpace;
 pub use references::{Reference, reference_of, reference_value};
 pub use space::{Applied, Change, Changes, Fan, FanList, Fanned, Space, SpaceEvent};

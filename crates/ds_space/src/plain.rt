@@ -1,9 +1,10 @@
-//! The plain space: it scans its rows at each event.
-ghost use Rattle.std.specs.Prelude.{◌≡◌, IfOk, None, nat_lt};
+//! The plain space: it scans its rows at each event. An observation is read when its row comes.
+ghost use Rattle.std.specs.Prelude.{◌≡◌, IfOk, OnOk, None, nat_lt};
 ghost use Rattle.std.specs.Ordering.{nat_cmp};
 ghost use Rattle.std.specs.Map.{lookup};
-ghost use Rattle.std.specs.BTreeMap.{is_at};
+ghost use Rattle.std.specs.BTreeMap.{is_at, insert_entry};
 ghost use Rattle.std.specs.BTreeMap as tree;
+ghost use Rattle.ds_space.specs.Limits.{most_wanted_weight};
 ghost use Rattle.ds_space.specs.Spaces.{IsApplied, IsFan};
 ghost use Rattle.ds_space.specs.declared.space.SpaceEvent.TheVariants.{Add, Gone};
 
@@ -12,6 +13,7 @@ use crate::collecting::all_wanted;
 use crate::comparing::changes;
 use crate::fanning::fan_list;
 use crate::space::{Applied, Fan, Space, SpaceEvent};
+use crate::standing::Standing;
 use crate::weighing::{weigh_fanned, weigh_keys};
 use pv_value::{NoMemory, Value};
 use std::alloc::Global;
@@ -21,7 +23,7 @@ use std::marker::Model;
 /// The rows, and what is wanted over them.
 #[derive(Drop)]
 pub struct PlainSpace {
-    rows: BTreeMap<u64, Value>,
+    rows: BTreeMap<u64, Standing>,
     wanted: Vec<Value>,
 }
 
@@ -42,13 +44,28 @@ impl Model for PlainSpace {
     ghost invariant = { λ a. a.wanted.items ≡ wants (values_of a.rows.entries) };
 }
 
+/// A row more, of a number that none has, or in the place of the one that has it.
+fn put_row(
+    alloc: Global,
+    rows: &mut BTreeMap<u64, Standing>,
+    number: u64,
+    value: Value,
+) -> Result<(), NoMemory>
+    ensures { OnOk result
+        (rows.new.entries ≡ insert_entry nat_cmp rows.old.entries number value) }
+{
+    let standing = Standing::new(alloc, value)?;
+    rows.insert(number, standing)?;
+    Ok(())
+}
+
 impl PlainSpace {
     fn add(self, alloc: Global, number: u64, value: Value) -> Result<Applied<PlainSpace>, NoMemory>
         requires { lookup (is_at (nat_cmp number)) self ≡ None }
         ensures { IfOk result (IsApplied (λ s. s) self (Add number value)) }
     {
         let PlainSpace { mut rows, wanted } = self;
-        rows.insert(number, value)?;
+        put_row(alloc, &mut rows, number, value)?;
         let after = all_wanted(alloc, &rows)?;
         let weight = weigh_keys(&after);
         if is_over(weight) {
@@ -106,13 +123,13 @@ impl Space for PlainSpace {
 
 /// Whether that is more than may be wanted, or sent on.
 fn is_over(weight: u64) -> bool
-    ensures { result ≡ nat_lt 33554432 weight }
+    ensures { result ≡ nat_lt most_wanted_weight weight }
 {
     weight > WANTED_WEIGHT
 }
 
 /// The observations among the values that a message matches.
-fn fan(alloc: Global, rows: &BTreeMap<u64, Value>, message: &Value) -> Result<Fan, NoMemory>
+fn fan(alloc: Global, rows: &BTreeMap<u64, Standing>, message: &Value) -> Result<Fan, NoMemory>
     ensures { IfOk result (IsFan (tree.values rows.now) message.now) }
 {
     let list = fan_list(alloc, rows, message)?;

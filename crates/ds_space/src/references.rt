@@ -9,7 +9,7 @@ use std::alloc::Global;
 /// An object of an actor.
 #[derive(Clone, Copy, Debug, PartialEq, Eq)]
 pub struct Reference {
-    pub at: u32,
+    pub actor: u32,
     pub entity: u64,
 }
 
@@ -28,13 +28,13 @@ pub fn reference_of(value: &Value) -> Option<Reference>
     if items.len() < 2 {
         return None;
     }
-    let at = number_in(&items[0])?;
+    let actor = number_in(&items[0])?;
     let entity = number_in(&items[1])?;
-    if at >= 1 << 32 {
+    if actor >= 1 << 32 {
         return None;
     }
     Some(Reference {
-        at: at as u32,
+        actor: actor as u32,
         entity,
     })
 }
@@ -44,7 +44,7 @@ pub fn reference_value(alloc: Global, reference: Reference) -> Result<Value, NoM
     ensures { IfOk result (λ v. v ≡ reference_value reference) }
 {
     let mut items = Vec::new(alloc);
-    items.push(number(u64::from(reference.at)))?;
+    items.push(number(u64::from(reference.actor)))?;
     items.push(number(reference.entity))?;
     Ok(Value::sequence(Items::from_vec(alloc, items)?))
 }
@@ -54,7 +54,7 @@ pub(crate) fn names_observer(value: &Value) -> bool
     ensures { result ≡ names_observer value.now }
 {
     match reference_of(value) {
-        Some(reference) => reference.at >= FIRST_OBSERVER,
+        Some(reference) => reference.actor >= FIRST_OBSERVER,
         None => false,
     }
 }

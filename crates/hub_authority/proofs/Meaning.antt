@@ -71,7 +71,7 @@ and_both true false is = absurd cc
 and_both false c is = absurd cc
 
 own_cap : (k : ℕ) (x : Plain) (c : Cap) → cap_of x ≡ Some c
-    → is_own (actor_at k) x (record { at = c.actor; entity = c.entity }) ≡ true
+    → is_own (actor_at k) x (record { actor = c.actor; entity = c.entity }) ≡ true
     → c ≡ record { actor = actor_at k; entity = c.entity; caveats = [] }
 own_cap k x c is own =
     let parts = and_both (c.actor == actor_at k) (length (caveats_in x) == 0) own in
@@ -87,7 +87,7 @@ one_means : (n k : ℕ) (exports : List Plain) (x : Plain) → IsObjectValue n x
 one_means n k exports x object there = by (cap_of x) refl object
   where
     at : (c : Cap) → cap_of x ≡ Some c → (b : Bool)
-        → is_own (actor_at k) x (record { at = c.actor; entity = c.entity }) ≡ b
+        → is_own (actor_at k) x (record { actor = c.actor; entity = c.entity }) ≡ b
         → AllByRecursion (IsExported exports) (cond b [] (x ∷ []))
         → Means exports k x (cond b (wire_value 1 c.entity) (wire_value 0 (number_of x exports)))
     at c is true own all = inl (c.entity, is ∙ ap Some (own_cap k x c is own), refl)
@@ -97,7 +97,7 @@ one_means n k exports x object there = by (cap_of x) refl object
         → Means exports k x (reference_out exports (actor_at k) x (reference_of x))
     by None is object = absurd object
     by (Some c) is object =
-        let r : Reference = record { at = c.actor; entity = c.entity } in
+        let r : Reference = record { actor = c.actor; entity = c.entity } in
         let read : reference_of x ≡ Some r = reference_read x c is in
         subst (λ o. Means exports k x (reference_out exports (actor_at k) x o)) (sym read)
         (at c is (is_own (actor_at k) x r) refl

@@ -68,7 +68,7 @@ fn actor_reference(alloc: Global, actor: u32) -> Result<Value, NoMemory>
     ensures { IfOk result (λ v. v ≡ actor_reference actor) }
 {
     let reference = Reference {
-        at: actor,
+        actor,
         entity: 0,
     };
     reference_value(alloc, reference)

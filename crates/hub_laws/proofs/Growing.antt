@@ -182,7 +182,7 @@ deliver_grows a b es w apart =
 
 said_at_moves : (a : ℕ) (t : TableState) (o : Option Aim) (p : Plan) → Moves a t p → Moves a t (say_at o p)
 said_at_moves a t None p m = m
-said_at_moves a t (Some aim) p m = said_moves a t p m aim.at.at (Message aim.at.entity aim.value) tt
+said_at_moves a t (Some aim) p m = said_moves a t p m aim.at.actor (Message aim.at.entity aim.value) tt
 
 answered_moves : (a : ℕ) (t : TableState) (e : Event) (p : Plan) → Moves a t p → Moves a t (answered e p)
 answered_moves a t (Assert h entity v) p m = m

@@ -189,19 +189,19 @@ module _ (n a : ℕ) (t : TableState) (low : a < 9) (live : is_live a t ≡ true
     came_meets : has_key k u ≡ false → Meets n a t (came a k u)
     came_meets new = subst (λ o. Meets n a t (came_at a k o u)) (sym aimed) placed
       where
-        goes : (9 ≤ aim.at.at) × (aim.at.at ≤ n)
+        goes : (9 ≤ aim.at.actor) × (aim.at.actor ≤ n)
         goes = known aim aimed
 
         placed : Meets n a t (came_at a k (Some aim) u)
         placed = record {
-          moves = put_moves a t u.plan m.moves live aim.at.at aim.at.entity aim.value;
+          moves = put_moves a t u.plan m.moves live aim.at.actor aim.at.entity aim.value;
           good =
-              put_good n a t u.plan m.moves m.good aim.at.at aim.at.entity aim.value (λ l. goes.0) goes.1
+              put_good n a t u.plan m.moves m.good aim.at.actor aim.at.entity aim.value (λ l. goes.0) goes.1
               (λ l. absurd (let f = goes.0 in omega arith));
           ascend = insert_entry_ascends order_total order_same k u.plan.table.next u.seat.met m.ascend;
           rows =
               rows_more a u.seat.met u.plan.table.rows m.rows k u.plan.table.next
-              (row_next a 0 aim.at.at aim.at.entity aim.value u.plan.table)
+              (row_next a 0 aim.at.actor aim.at.entity aim.value u.plan.table)
               (none_from (handle_for k u.seat.met) (sym (among_found k u.seat.met) ∙ new))
               (none_from_next u.plan.table.next u.plan.table m.moves.table (omega arith))
               (record {
@@ -213,7 +213,7 @@ module _ (n a : ℕ) (t : TableState) (low : a < 9) (live : is_live a t ≡ true
                 value = refl;
               })
               (came_at a k (Some aim) u).seat.met (came_at a k (Some aim) u).plan.table.rows placed_found
-              (λ h. find_row-asserted h a 0 aim.at.at aim.at.entity aim.value u.plan.table m.moves.table);
+              (λ h. find_row-asserted h a 0 aim.at.actor aim.at.entity aim.value u.plan.table m.moves.table);
         }
 
   -- and all that come, of which those have a row that pass

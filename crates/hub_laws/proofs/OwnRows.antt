@@ -225,9 +225,9 @@ module _ (exports : List Plain) (n d : ℕ) (met : List (Plain × ℕ)) (rows : 
       let m = has.stand k q at in
       let rows_are : Some m.row ≡ Some r = sym m.stands ∙ found in
       let one : m.row ≡ r = cc in
-      let there : m.fits.aim.at.at ≡ actor_of n = sym m.fits.target ∙ ap (λ (z : Row). z.target) one ∙ is.1 in
+      let there : m.fits.aim.at.actor ≡ actor_of n = sym m.fits.target ∙ ap (λ (z : Row). z.target) one ∙ is.1 in
       lookup_passing q (goes_to (actor_of n)) k met at
-      (ap (is_at_actor (actor_of n)) m.fits.aimed ∙ equal_numbers m.fits.aim.at.at (actor_of n) there)
+      (ap (is_at_actor (actor_of n)) m.fits.aimed ∙ equal_numbers m.fits.aim.at.actor (actor_of n) there)
 
   row_own : (q : ℕ) (e : Plain × ℕ) → IsMeant e → q ≡ e.1 → list_any (same_handle q) (handles own) ≡ true
   row_own q e is one =

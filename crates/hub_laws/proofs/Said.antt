@@ -35,7 +35,7 @@ use Rattle.hub_laws.proofs.Posted.{posted_grown, told_outbox, are_outboxes}
 
 say_at_tells : (b : ℕ) (o : Option Aim) (p : Plan) → told_to b (say_at o p).out ≡ told_to b p.out ++ message_aimed b o
 say_at_tells b None p = sym (append-nil (told_to b p.out))
-say_at_tells b (Some aim) p = told_to-told b aim.at.at (Message aim.at.entity aim.value) p.out
+say_at_tells b (Some aim) p = told_to-told b aim.at.actor (Message aim.at.entity aim.value) p.out
 
 -- what one observation is told
 abbrev pub fanned_to : ℕ → Fanned → List Event
@@ -141,7 +141,7 @@ answers_syncs = (λ a from entity peer t. answer_says peer t.plan, λ entity pee
 
 say_at_outbox : (o : Option Aim) (p : Plan) → IsOutbox p.out → IsOutbox (say_at o p).out
 say_at_outbox None p is = is
-say_at_outbox (Some aim) p is = told_outbox aim.at.at (Message aim.at.entity aim.value) p.out is
+say_at_outbox (Some aim) p is = told_outbox aim.at.actor (Message aim.at.entity aim.value) p.out is
 
 say_all_outbox : (fs : List Fanned) (p : Plan) → IsOutbox p.out → IsOutbox (say_all fs p).out
 say_all_outbox [] p is = is

@@ -30,7 +30,7 @@ said_only n a t p target entity v m g = record {
 say_at_only : (n a : ℕ) (t : TableState) (p : Plan) (o : Option Aim) → Moves a t p → AreGood n a p
     → OnlySays n a t p (say_at o p)
 say_at_only n a t p None m g = record { moves = m; good = g; same = refl }
-say_at_only n a t p (Some aim) m g = said_only n a t p aim.at.at aim.at.entity aim.value m g
+say_at_only n a t p (Some aim) m g = said_only n a t p aim.at.actor aim.at.entity aim.value m g
 
 pub answer_only : (n a : ℕ) (t : TableState) (p : Plan) (peer : Plain) → Moves a t p
     → AreGood n a p → OnlySays n a t p (answer_to peer p)

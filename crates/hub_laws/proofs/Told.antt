@@ -29,7 +29,7 @@ use Rattle.hub_laws.proofs.Distinct.{distinct_none, distinct_filter, distinct_ma
 
 abbrev pub is_at_actor : ℕ → Option Aim → Bool
 is_at_actor a None = false
-is_at_actor a (Some aim) = aim.at.at == a
+is_at_actor a (Some aim) = aim.at.actor == a
 
 -- whether what the key wants goes to an object of actor a
 abbrev pub goes_to : ℕ → Plain → Bool
@@ -46,7 +46,7 @@ goes_passing a (k ∷ ks) = by (aim_of k) refl (goes_passing a ks)
     by None is rest = rest
     by (Some aim) is rest =
         ap (λ q. cond (is_at_actor a q) (k ∷ filter (goes_to a) (passing ks)) (filter (goes_to a) (passing ks))) is
-        ∙ ap (λ l. cond (aim.at.at == a) (k ∷ l) l) rest
+        ∙ ap (λ l. cond (aim.at.actor == a) (k ∷ l) l) rest
 
 -- n is the number of a connection, which has these exports
 abbrev pub pair_or : List Plain → ℕ → Plain → Option Aim → Pair
@@ -143,7 +143,7 @@ pairs_told exports n vs o = by (observer_in o) (observer_of o) refl
         (filter (gets_to (actor_of n) r) cs)))
         ≡ pair_aimed exports n q ++ flat_map (λ c. pair_aimed exports n (aim_at c r)) cs
     aimed r c cs None is gets rest = rest
-    aimed r c cs (Some aim) is gets rest = here r c cs aim (aim.at.at == actor_of n) is gets rest
+    aimed r c cs (Some aim) is gets rest = here r c cs aim (aim.at.actor == actor_of n) is gets rest
 
     each : (r : Plain) (cs : List Plain) → observer_in o ≡ Some r → AreTold exports n o r cs
     each r [] is = refl

@@ -32,36 +32,36 @@ use Rattle.hub_laws.proofs.Kept.{IsKnown}
 
 -- what the key wants, where it gets through, goes to an object of an actor numbered 9 or more, and n or less
 abbrev pub IsAimed : ℕ → Plain → Type 0
-IsAimed n k = (aim : Aim) → aim_of k ≡ Some aim → (9 ≤ aim.at.at) × (aim.at.at ≤ n)
+IsAimed n k = (aim : Aim) → aim_of k ≡ Some aim → (9 ≤ aim.at.actor) × (aim.at.actor ≤ n)
 
 -- ---- the aim of each key
 
 -- a reference names the object of its value
 reference_is : (x : Plain) (c : Cap) → cap_of x ≡ Some c
-    → reference_of x ≡ Some (record { at = c.actor; entity = c.entity })
+    → reference_of x ≡ Some (record { actor = c.actor; entity = c.entity })
 reference_is x c is =
     let sound = cap_sound x c is in
     ap reference_of (cap_is x c is) ∙ ap (λ b. cond {A = Option Reference} b
-    (Some (record { at = c.actor; entity = c.entity })) None) (within c.actor c.entity sound.0 sound.1)
+    (Some (record { actor = c.actor; entity = c.entity })) None) (within c.actor c.entity sound.0 sound.1)
   where
     within : (a e : ℕ) → a < 2 ^ 32 → e < 2 ^ 63 → (nat_lt a (2 ^ 32) && nat_lt e (2 ^ 63)) ≡ true
     within a e low small = grind (arith, nat_tests, low, small)
 
 -- what gets through a reference goes to its actor
 aim_from : (v r : Plain) (aim : Aim) → aim_at v r ≡ Some aim
-    → (c : Cap) × (cap_of r ≡ Some c) × (aim.at.at ≡ c.actor)
+    → (c : Cap) × (cap_of r ≡ Some c) × (aim.at.actor ≡ c.actor)
 aim_from v r aim is = by (cap_of r) refl is
   where
     at : (c : Cap) (o : Option Plain) → cap_of r ≡ Some c
-        → option_map (λ w. record { at = record { at = c.actor; entity = c.entity }; value = w }) o ≡ Some aim
-        → (c : Cap) × (cap_of r ≡ Some c) × (aim.at.at ≡ c.actor)
+        → option_map (λ w. record { at = record { actor = c.actor; entity = c.entity }; value = w }) o ≡ Some aim
+        → (c : Cap) × (cap_of r ≡ Some c) × (aim.at.actor ≡ c.actor)
     at c None there is = absurd cc
     at c (Some w) there is =
-        let one : record { at = record { at = c.actor; entity = c.entity }; value = w } ≡ aim = cc in
-        (c, there, ap (λ (a : Aim). a.at.at) (sym one))
+        let one : record { at = record { actor = c.actor; entity = c.entity }; value = w } ≡ aim = cc in
+        (c, there, ap (λ (a : Aim). a.at.actor) (sym one))
 
     by : (o : Option Cap) → cap_of r ≡ o → option_and_then (aim_by v) o ≡ Some aim
-        → (c : Cap) × (cap_of r ≡ Some c) × (aim.at.at ≡ c.actor)
+        → (c : Cap) × (cap_of r ≡ Some c) × (aim.at.actor ≡ c.actor)
     by None there is = absurd cc
     by (Some c) there is = at c (passed no_names c.caveats v) there is
 

@@ -22,7 +22,7 @@ use Rattle.hub_laws.specs.Scratch.{as_sequence}
 -- what gets through to an object, where it is actor b's
 abbrev pub message_aimed : ℕ → Option Aim → List Event
 message_aimed b None = []
-message_aimed b (Some aim) = if aim.at.at == b then Message aim.at.entity aim.value ∷ [] else []
+message_aimed b (Some aim) = if aim.at.actor == b then Message aim.at.entity aim.value ∷ [] else []
 
 -- an observer is told what its pattern captures of the message, as its reference's caveats let it pass
 abbrev pub message_by : ℕ → Plain → Option Plain → Option Pattern → List Event

@@ -47,7 +47,7 @@ pair_at exports k entity v = record { oid = entity; value = crossed_out exports 
 abbrev pub pair_aimed : List Plain → ℕ → Option Aim → List Pair
 pair_aimed exports k None = []
 pair_aimed exports k (Some aim) =
-    if aim.at.at == actor_of k then pair_at exports k aim.at.entity aim.value ∷ [] else []
+    if aim.at.actor == actor_of k then pair_at exports k aim.at.entity aim.value ∷ [] else []
 
 -- an observer holds each distinct list of captures, as its reference's caveats let it pass
 abbrev pub told_by : List Plain → ℕ → List Plain → Option Plain → Option Pattern → List Pair

@@ -15,7 +15,7 @@ pub record IsRowFor (a : ℕ) (key : Plain) (r : Row) : Type 0 where
   pub aim : Aim
   pub aimed : aim_of key ≡ Some aim
   pub owner : r.owner ≡ a
-  pub target : r.target ≡ aim.at.at
+  pub target : r.target ≡ aim.at.actor
   pub entity : r.entity ≡ aim.at.entity
   pub value : r.value ≡ aim.value
 

@@ -48,7 +48,7 @@ ends xs s r = record { state = finished xs s; reply = r }
 
 -- the reference to an actor itself
 abbrev pub actor_reference : ℕ → Plain
-actor_reference a = reference_value (record { at = a; entity = 0 })
+actor_reference a = reference_value (record { actor = a; entity = 0 })
 
 -- a connection comes, with actor `space` as its object 0
 abbrev pub opened : ℕ → State → State

@@ -147,11 +147,11 @@ impl Admitting {
     }
 
     /// The reference that an export of this number is.
-    fn cap_at(&self, alloc: Global, oid: u64) -> Result<Option<Cap>, NoMemory>
+    fn cap_at(&self, oid: u64) -> Result<Option<Cap>, NoMemory>
         ensures { IfOk result (λ c. c ≡ cap_at oid self.now.ports) }
     {
-        match self.ports.cap_of(oid) {
-            Some(value) => Cap::of_value(alloc, value),
+        match self.ports.reference_at(oid) {
+            Some(cap) => Ok(Some(cap.copy()?)),
             None => Ok(None),
         }
     }
@@ -445,7 +445,7 @@ impl Admitting {
             (IsWhyRefused (cause_of connection world.now event.now self.old)) }
         ensures after { OnOk result (self.new ≡ after connection world.now event.now self.old) }
     {
-        match self.cap_at(alloc, event.oid)? {
+        match self.cap_at(event.oid)? {
             Some(to) => self.admit_event(alloc, connection, &to, &event.event, world),
             None => Err(Refusal::Cause(Fault::UnknownOid(event.oid))),
         }

@@ -2,13 +2,14 @@
 -- assertions, by inbound handles. A reference is its value `[actor entity caveat ..]`. Syndicate Protocol, "wire
 -- references"; the limits are this server's own.
 use Rattle.std.specs.Prelude.{◌≡◌, ℕ, zero, suc, ◌+◌, ◌-◌, ◌^◌, min, List, [], ◌∷◌, ◌++◌, length, Bool, is_some, nat_lt}
-use Rattle.std.specs.Prelude.{Option, Some, None, option_map, unwrap_or, slice_get, if◌then◌else◌}
+use Rattle.std.specs.Prelude.{Option, Some, None, option_map, option_and_then, unwrap_or, slice_get, if◌then◌else◌}
 use Rattle.std.specs.Map.{lookup, remove_entry}
 use Rattle.std.specs.BTreeMap.{insert_entry, is_at}
 use Rattle.std.specs.Ordering.{nat_cmp}
 use Rattle.pv_value.specs.Weight.{weight}
 use Rattle.pv_value.specs.Plain.{Plain}
 use Rattle.pv_words.specs.Parts.{same}
+use Rattle.sr_caveat.specs.Caps.{Cap, cap_of}
 use Rattle.rl_ports.specs.Limits.{most_exports, most_exports_weight}
 pub use Rattle.rl_ports.specs.declared.ports.Inbound.{Inbound}
 pub use Rattle.rl_ports.specs.declared.ports.Inbound.TheVariants.{Row, Refused}
@@ -44,6 +45,10 @@ freed h p = record { exports = p.exports; handles = remove_entry (is_at (nat_cmp
 -- the export of this number
 abbrev pub export_of : ℕ → PortsState → Option Plain
 export_of n p = slice_get p.exports n
+
+-- the reference that it is; none where its value isn't one's
+abbrev pub reference_at : ℕ → PortsState → Option Cap
+reference_at n p = option_and_then cap_of (export_of n p)
 
 -- the number of an export, where it is one
 abbrev pub place_of : Plain → List Plain → Option ℕ

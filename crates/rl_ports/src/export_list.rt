@@ -1,17 +1,20 @@
 //! Exports by number, and the number of each.
 ghost use Rattle.std.specs.Prelude.{◌≡◌, ◌-◌, ◌<◌, ◌≤◌, [], ◌∷◌, ◌++◌, length, take, slice_get};
-ghost use Rattle.std.specs.Prelude.{cond};
+ghost use Rattle.std.specs.Prelude.{cond, option_and_then};
 ghost use Rattle.std.specs.Prelude.{None, Some, IfOk, IfErr, OnOk, OnErr, vec_len, vec_capacity};
 ghost use Rattle.std.specs.BTreeMap.{is_at};
 ghost use Rattle.std.specs.Option.{option_copied};
 ghost use Rattle.pv_value.specs.Plain.{Plain};
 ghost use Rattle.pv_value.specs.Order.{order};
+ghost use Rattle.sr_caveat.specs.Caps.{cap_of};
 ghost use Rattle.rl_ports.specs.Limits.{most_exports};
 ghost use Rattle.rl_ports.specs.Ports.{place_of, export_fault, IsWhy};
 ghost use Rattle.rl_ports.specs.Kept.{number_at, fault_of};
 
 use crate::ports::{EXPORTS, EXPORTS_WEIGHT, PortsFault};
+use crate::reading::ReadReference;
 use pv_value::{NoMemory, Value, weight};
+use sr_caveat::Cap;
 use std::alloc::Global;
 use std::collections::BTreeMap;
 use std::marker::Model;
@@ -19,7 +22,7 @@ use std::marker::Model;
 /// An export, and what it weighs.
 #[derive(Drop)]
 struct Export {
-    reference: Value,
+    reference: ReadReference,
     weight: u64,
 }
 
@@ -54,12 +57,10 @@ impl ExportList {
         ensures { IfOk result (λ e. e ≡ first ∷ []) }
     {
         let weight = weight(&first);
+        let reference = ReadReference::new(alloc, first)?;
         let mut list = Vec::new(alloc);
         let mut numbers = BTreeMap::new(alloc);
-        let export = Export {
-            reference: first,
-            weight,
-        };
+        let export = Export { reference, weight };
         put(&mut list, &mut numbers, export)?;
         Ok(ExportList {
             list,
@@ -73,7 +74,15 @@ impl ExportList {
         ensures { option_copied result ≡ slice_get self.now number }
     {
         let export = self.list.get(number)?;
-        Some(&export.reference)
+        Some(export.reference.value())
+    }
+
+    /// What is read of the export of this number.
+    pub(crate) fn read(&self, number: usize) -> Option<&Cap>
+        ensures { option_copied result ≡ option_and_then cap_of (slice_get self.now number) }
+    {
+        let export = self.list.get(number)?;
+        export.reference.cap()
     }
 
     /// How many there are. They are few.
@@ -92,7 +101,7 @@ impl ExportList {
     }
 
     /// One export more, which has the next number. After a fault nothing has changed.
-    pub(crate) fn add(&mut self, reference: &Value) -> Result<u64, PortsFault>
+    pub(crate) fn add(&mut self, alloc: Global, reference: &Value) -> Result<u64, PortsFault>
         requires { place_of reference.now self.old ≡ None }
         ensures number { IfOk result (λ n. n ≡ length self.old) }
         ensures fits { OnOk result (export_fault (self.old ++ reference.now ∷ []) ≡ None) }
@@ -104,7 +113,7 @@ impl ExportList {
         let weight = weight(reference);
         let sum = self.weight.saturating_add(weight);
         check(number + 1, sum)?;
-        let reference = reference.copy()?;
+        let reference = ReadReference::new(alloc, reference.copy()?)?;
         let export = Export { reference, weight };
         put(&mut self.list, &mut self.numbers, export)?;
         self.weight = sum;
@@ -151,7 +160,7 @@ fn take_number(numbers: &mut BTreeMap<Value, u64>, export: Export) -> u64
     ensures numbers { (r : Plain) → number_at r numbers.new.entries
         ≡ cond (is_at (order export.reference) r) None (number_at r numbers.old.entries) }
 {
-    numbers.remove(&export.reference);
+    numbers.remove(export.reference.value());
     export.weight
 }
 
@@ -169,7 +178,7 @@ fn put(
     ensures same_numbers { OnErr result (numbers.new.entries ≡ numbers.old.entries) }
 {
     list.reserve(1)?;
-    numbers.insert(export.reference.copy()?, list.len() as u64)?;
+    numbers.insert(export.reference.value().copy()?, list.len() as u64)?;
     append(list, export);
     Ok(())
 }

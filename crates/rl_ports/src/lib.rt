@@ -6,5 +6,6 @@
 
 mod export_list;
 mod ports;
+mod reading;
 
 pub use ports::{EXPORTS, EXPORTS_WEIGHT, Inbound, Ports, PortsFault};

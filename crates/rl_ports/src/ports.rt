@@ -3,11 +3,13 @@ ghost use Rattle.std.specs.Prelude.{◌≡◌, ◌≤◌, None, IfOk, IfErr, OnO
 ghost use Rattle.std.specs.Option.{option_copied};
 ghost use Rattle.rl_ports.specs.Limits.{most_exports};
 ghost use Rattle.rl_ports.specs.Ports.{ports_to, inbound_of, taken_into_use, freed, export_of};
+ghost use Rattle.rl_ports.specs.Ports.{reference_at};
 ghost use Rattle.rl_ports.specs.Ports.{exported, number_of, fault_at, with_exports, place_of};
 ghost use Rattle.rl_ports.specs.Ports.{IsWhy};
 
 use crate::export_list::ExportList;
 use pv_value::{NoMemory, Value};
+use sr_caveat::Cap;
 use std::alloc::Global;
 use std::collections::BTreeMap;
 use std::marker::Model;
@@ -90,6 +92,14 @@ impl Ports {
         self.exports.get(oid as usize)
     }
 
+    /// What is read of the export of this number, where there is one and its value is a
+    /// reference's. It was read when the export came.
+    pub fn reference_at(&self, oid: u64) -> Option<&Cap>
+        ensures { option_copied result ≡ reference_at oid self.now }
+    {
+        self.exports.read(oid as usize)
+    }
+
     /// The number of a reference, where it is exported.
     pub fn oid_of(&self, cap: &Value) -> Option<u64>
         ensures { result ≡ place_of cap.now self.now.exports }
@@ -139,7 +149,7 @@ impl Ports {
 
     /// The number of a reference, which is exported where it wasn't. After a fault nothing has
     /// changed.
-    pub fn oid_for(&mut self, cap: &Value) -> Result<u64, PortsFault>
+    pub fn oid_for(&mut self, alloc: Global, cap: &Value) -> Result<u64, PortsFault>
         ensures number { IfOk result (λ n. n ≡ number_of cap.now self.old.exports) }
         ensures fits { IfOk result (λ n. fault_at cap.now self.old.exports ≡ None) }
         ensures done { OnOk result
@@ -149,7 +159,7 @@ impl Ports {
     {
         match self.exports.number(cap) {
             Some(number) => Ok(number),
-            None => self.exports.add(cap),
+            None => self.exports.add(alloc, cap),
         }
     }
 

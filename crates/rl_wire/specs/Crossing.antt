@@ -109,7 +109,7 @@ with_caveats ws v = v
 
 -- the reference that an actor's wire reference with these caveats names, where there is one
 abbrev pub named_by : List Plain → ℕ → List Plain → Wire → Option Plain
-named_by exports actor ws (Own e) = Some (reference_value (record { at = actor; entity = e }))
+named_by exports actor ws (Own e) = Some (reference_value (record { actor = actor; entity = e }))
 named_by exports actor ws (ExportedAs n) = option_map (with_caveats ws) (slice_get exports n)
 
 abbrev pub reference_in : List Plain → ℕ → Plain → Option Wire → Plain
@@ -160,7 +160,7 @@ IsWhyNotIn why f = why ≡ Some f
 
 -- whether a reference is to an object of the actor's own, without caveats
 abbrev pub is_own : ℕ → Plain → Reference → Bool
-is_own actor x r = r.at == actor && length (caveats_in x) == 0
+is_own actor x r = r.actor == actor && length (caveats_in x) == 0
 
 -- the reference, where it isn't one to the actor's own object
 abbrev pub foreign_of : ℕ → Plain → Option Reference → List Plain

@@ -46,8 +46,8 @@ impl Inward<'_> {
     {
         match wire {
             Wire::Own(entity) => {
-                let at = self.actor;
-                Ok(Some(reference_value(alloc, Reference { at, entity })?))
+                let actor = self.actor;
+                Ok(Some(reference_value(alloc, Reference { actor, entity })?))
             }
             Wire::ExportedAs(oid) => match self.ports.cap_of(oid) {
                 Some(cap) => Ok(Some(with_caveats(alloc, cap, caveats)?)),

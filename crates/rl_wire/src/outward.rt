@@ -54,7 +54,7 @@ impl Outward<'_> {
 fn is_own(actor: u32, inside: &Value, object: Reference) -> bool
     ensures { result ≡ is_own actor inside.now object }
 {
-    object.at == actor && caveats_in(inside).is_empty()
+    object.actor == actor && caveats_in(inside).is_empty()
 }
 
 /// A value of the server's as connection `connection` is told of it: its own objects without
@@ -108,14 +108,19 @@ fn exported_and_crossed(
         (with_exports (take (length ports.old.exports) ports.new.exports) ports.new ≡ ports.old) }
 {
     let held = held_in(alloc, value)?;
-    export_foreign(ports, actor, &held)?;
+    export_foreign(alloc, ports, actor, &held)?;
     let way = Outward { ports, actor };
     Ok(crossed(alloc, &way, value)?)
 }
 
 /// Exports the references of others among these, from the first one on. After a fault those before
 /// it are exported.
-fn export_foreign(ports: &mut Ports, actor: u32, held: &[Value]) -> Result<(), PortsFault>
+fn export_foreign(
+    alloc: Global,
+    ports: &mut Ports,
+    actor: u32,
+    held: &[Value],
+) -> Result<(), PortsFault>
     ensures exports { OnOk result (ports.new ≡ with_exports
         (all_exported ports.old.exports (others_in actor held.now)) ports.old) }
     ensures fits { OnOk result (fault_out ports.old.exports (others_in actor held.now) ≡ None) }
@@ -125,13 +130,18 @@ fn export_foreign(ports: &mut Ports, actor: u32, held: &[Value]) -> Result<(), P
         (with_exports (take (length ports.old.exports) ports.new.exports) ports.new ≡ ports.old) }
 {
     for x in held {
-        export_if_foreign(ports, actor, x)?;
+        export_if_foreign(alloc, ports, actor, x)?;
     }
     Ok(())
 }
 
 /// Exports the reference, where it isn't one to the actor's own object without caveats.
-fn export_if_foreign(ports: &mut Ports, actor: u32, inside: &Value) -> Result<(), PortsFault>
+fn export_if_foreign(
+    alloc: Global,
+    ports: &mut Ports,
+    actor: u32,
+    inside: &Value,
+) -> Result<(), PortsFault>
     ensures exports { OnOk result (ports.new ≡ with_exports (all_exported ports.old.exports
         (foreign_of actor inside.now (reference_of inside.now))) ports.old) }
     ensures fits { OnOk result (fault_out ports.old.exports
@@ -142,7 +152,7 @@ fn export_if_foreign(ports: &mut Ports, actor: u32, inside: &Value) -> Result<()
 {
     match reference_of(inside) {
         Some(object) if !is_own(actor, inside, object) => {
-            ports.oid_for(inside)?;
+            ports.oid_for(alloc, inside)?;
             Ok(())
         }
         _ => Ok(()),

@@ -13,6 +13,7 @@ use Rattle.sr_caveat.specs.Patterns.{Template, attenuate, binding, constant, rec
 use Rattle.sr_caveat.specs.Patterns.{Templates, no_templates, then_template, Caveat, Caveats, caveats, listed_caveats}
 use Rattle.sr_caveat.specs.Patterns.{no_caveats, then_caveat}
 use Rattle.sr_caveat.specs.Spelled.{caveat_values, paired_with}
+use Rattle.sr_caveat.specs.Limits.{value_weight, value_depth}
 use Rattle.sr_caveat.specs.Caps.{cap_of, cap_value, attenuated}
 use Rattle.sr_caveat.specs.declared.caps.Cap.{Cap}
 use Rattle.sr_caveat.specs.Lemmas.Capped.{cap_is}
@@ -193,22 +194,22 @@ mutual
 -- ---- what is too large is not made, and what is made fits
 
 by_size : (v : Plain) (w d : ℕ) → Sized w d v
-    → (leb (min w most_weight) 1048576 && leb (min d most_depth) 48) ≡ fits v
+    → (leb (min w most_weight) value_weight && leb (min d most_depth) value_depth) ≡ fits v
 unfolding weight
 by_size v w d h =
     let hw = h.0 in let hd = h.1 in
-    (λ i. leb (hw i) 1048576 && leb (hd i) 48)
+    (λ i. leb (hw i) value_weight && leb (hd i) value_depth)
     ∙ (λ i. lighter (size_with 48 v) i && shallower (depth v) i)
   where
-    lighter : (n : ℕ) → leb (min n most_weight) 1048576 ≡ leb n 1048576
+    lighter : (n : ℕ) → leb (min n most_weight) value_weight ≡ leb n value_weight
     lighter n = grind (arith, nat_tests)
 
-    shallower : (n : ℕ) → leb (min n most_depth) 48 ≡ leb n 48
+    shallower : (n : ℕ) → leb (min n most_depth) value_depth ≡ leb n value_depth
     shallower n = grind (arith, nat_tests)
 
 pub made_fits : (t : Template) (bs : List Plain) (w d : ℕ)
     → w ≡ min (filled_weight t (light bs)) most_weight → d ≡ min (filled_depth t (shallow bs)) most_depth
-    → (leb w 1048576 && leb d 48) ≡ true → filled t bs ≡ option_and_then if_fits (filled t bs)
+    → (leb w value_weight && leb d value_depth) ≡ true → filled t bs ≡ option_and_then if_fits (filled t bs)
 made_fits t bs w d ew ed small = by (filled t bs) (sized t bs)
   where
     by : (o : Option Plain) → If o (Sized (filled_weight t (light bs)) (filled_depth t (shallow bs)))
@@ -217,12 +218,12 @@ made_fits t bs w d ew ed small = by (filled t bs) (sized t bs)
     by (Some v) h =
         let e : fits v ≡ true =
         sym (by_size v (filled_weight t (light bs)) (filled_depth t (shallow bs)) h)
-        ∙ (λ i. leb (sym ew i) 1048576 && leb (sym ed i) 48) ∙ small in
+        ∙ (λ i. leb (sym ew i) value_weight && leb (sym ed i) value_depth) ∙ small in
         ap (λ b. cond {A = Option Plain} b (Some v) None) (sym e)
 
 pub large_refused : (t : Template) (bs : List Plain) (w d : ℕ)
     → w ≡ min (filled_weight t (light bs)) most_weight → d ≡ min (filled_depth t (shallow bs)) most_depth
-    → (leb w 1048576 && leb d 48) ≡ false → None ≡ option_and_then if_fits (filled t bs)
+    → (leb w value_weight && leb d value_depth) ≡ false → None ≡ option_and_then if_fits (filled t bs)
 large_refused t bs w d ew ed large = by (filled t bs) (sized t bs)
   where
     by : (o : Option Plain) → If o (Sized (filled_weight t (light bs)) (filled_depth t (shallow bs)))
@@ -231,7 +232,7 @@ large_refused t bs w d ew ed large = by (filled t bs) (sized t bs)
     by (Some v) h =
         let e : fits v ≡ false =
         sym (by_size v (filled_weight t (light bs)) (filled_depth t (shallow bs)) h)
-        ∙ (λ i. leb (sym ew i) 1048576 && leb (sym ed i) 48) ∙ large in
+        ∙ (λ i. leb (sym ew i) value_weight && leb (sym ed i) value_depth) ∙ large in
         ap (λ b. cond {A = Option Plain} b (Some v) None) (sym e)
 
 -- ---- sizes at places

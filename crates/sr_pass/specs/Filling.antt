@@ -7,12 +7,13 @@ use Rattle.sr_caveat.specs.Patterns.{Template, attenuate, binding, constant, rec
 use Rattle.sr_caveat.specs.Patterns.{Templates, no_templates, then_template}
 use Rattle.sr_caveat.specs.Patterns.{Caveat, listed_caveats}
 use Rattle.sr_caveat.specs.Spelled.{paired_with}
+use Rattle.sr_caveat.specs.Limits.{reference_caveats, reference_weight}
 use Rattle.sr_caveat.specs.Caps.{cap_of, cap_value, attenuated}
 use Rattle.sr_caveat.specs.declared.caps.Cap.{Cap}
 
--- a reference has at most 32 caveats and weighs at most 65,536
+-- a reference has no more caveats than it may, and weighs no more
 abbrev pub is_reference : Cap → Bool
-is_reference c = nat_le (length c.caveats) 32 && nat_le (weight (cap_value c)) 65536
+is_reference c = nat_le (length c.caveats) reference_caveats && nat_le (weight (cap_value c)) reference_weight
 
 abbrev pub if_reference : Cap → Option Plain
 if_reference c = if is_reference c then Some (embedded (cap_value c)) else None

@@ -4,14 +4,15 @@ use Rattle.std.specs.Prelude.{if◌then◌else◌}
 use Rattle.pv_value.specs.Plain.{Plain}
 use Rattle.pv_value.specs.Weight.{weight}
 use Rattle.pv_value.specs.Depth.{depth}
+use Rattle.sr_caveat.specs.Limits.{value_weight, value_depth}
 use Rattle.sr_caveat.specs.Patterns.{Template, Caveat, rewrite, one_of, reject, guard}
 use Rattle.sr_caveat.specs.Patterns.{Rewrites, no_rewrites, then_rewrite}
 use Rattle.sr_pass.specs.Binding.{bound}
 use Rattle.sr_pass.specs.Filling.{filled}
 
--- a value that passes weighs at most 1,048,576 and nests at most 48 deep
+-- a value that passes weighs no more than one may, and nests no deeper
 abbrev pub fits : Plain → Bool
-fits v = nat_le (weight v) 1048576 && nat_le (depth v) 48
+fits v = nat_le (weight v) value_weight && nat_le (depth v) value_depth
 
 abbrev pub if_fits : Plain → Option Plain
 if_fits v = if fits v then Some v else None

@@ -8,6 +8,7 @@ ghost use Rattle.pv_value.specs.View.{key_and_value};
 ghost use Rattle.pv_value.specs.Plain.{plains, sequence, record_of};
 ghost use Rattle.pv_value.specs.Weight.{weight, sizes_with};
 ghost use Rattle.pv_value.specs.Depth.{depth, deepest};
+ghost use Rattle.sr_caveat.specs.Limits.{value_weight, value_depth};
 ghost use Rattle.sr_caveat.specs.Caps.{attenuated};
 ghost use Rattle.sr_caveat.specs.Patterns.{caveats};
 ghost use Rattle.sr_caveat.specs.Spelled.{caveat_values};
@@ -40,7 +41,7 @@ pub(crate) fn fits(value: &Value) -> bool
 }
 
 fn is_small(size: Size) -> bool
-    ensures { result ≡ (nat_le size.weight 1048576 && nat_le size.depth 48) }
+    ensures { result ≡ (nat_le size.weight value_weight && nat_le size.depth value_depth) }
 {
     size.weight <= VALUE_WEIGHT && size.depth <= VALUE_DEPTH
 }

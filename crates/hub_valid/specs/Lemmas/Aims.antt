@@ -15,14 +15,14 @@ use Rattle.hub_valid.specs.Lemmas.Passed.{through_holds}
 use Rattle.hub_valid.specs.Lemmas.Values.{observer_is_object}
 
 pub record IsAimed (n : ℕ) (aim : Aim) : Type 0 where
-  pub at : IsObjectAt n aim.at.at aim.at.entity
+  pub at : IsObjectAt n aim.at.actor aim.at.entity
   pub value : HoldsObjects n aim.value
 
 pub sent_aims : (n : ℕ) (v x : Plain) → HoldsObjects n v → IsObjectValue n x → If (aim_at v x) (IsAimed n)
 sent_aims n v x holds object = by (cap_of x) refl object
   where
     passing : (c : Cap) (o : Option Plain) → IsObject n c → If o (HoldsObjects n)
-        → If (option_map (λ w. record { at = record { at = c.actor; entity = c.entity }; value = w }) o) (IsAimed n)
+        → If (option_map (λ w. record { at = record { actor = c.actor; entity = c.entity }; value = w }) o) (IsAimed n)
     passing c None object value = tt
     passing c (Some w) object value = record { at = object; value = value }
 

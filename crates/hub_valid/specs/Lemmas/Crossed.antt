@@ -237,12 +237,12 @@ number_within r xs = by (place_of r xs) (place_within r xs)
 
 -- the object that a reference names
 pub reference_read : (x : Plain) (c : Cap) → cap_of x ≡ Some c
-    → reference_of x ≡ Some (record { at = c.actor; entity = c.entity })
+    → reference_of x ≡ Some (record { actor = c.actor; entity = c.entity })
 reference_read x c is =
     let sound = cap_sound x c is in
     ap reference_of (cap_is x c is)
     ∙ (λ i. cond {A = Option Reference} (lt-ltb c.actor (2 ^ 32) sound.0 i && lt-ltb c.entity (2 ^ 63) sound.1 i)
-    (Some (record { at = c.actor; entity = c.entity })) None)
+    (Some (record { actor = c.actor; entity = c.entity })) None)
 
 object_goes_out : (n k : ℕ) (exports : List Plain) (x : Plain) → length exports ≤ 4096 → IsObjectValue n x
     → IsWireReference (reference_out exports (actor_at k) x (reference_of x))
@@ -258,7 +258,7 @@ object_goes_out n k exports x few h = by (cap_of x) refl h
     by None is h = absurd h
     by (Some c) is h =
         subst (λ o. IsWireReference (reference_out exports (actor_at k) x o)) (sym (reference_read x c is))
-        (at c (is_own (actor_at k) x (record { at = c.actor; entity = c.entity })) h)
+        (at c (is_own (actor_at k) x (record { actor = c.actor; entity = c.entity })) h)
 
 sent_value : (n k : ℕ) (exports : List Plain) (v : Plain) → length exports ≤ 4096 → HoldsObjects n v
     → is_wired (crossed_out exports k v) ≡ true

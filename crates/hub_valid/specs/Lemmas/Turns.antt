@@ -63,7 +63,7 @@ came_valid n a k t holds v = by (aim_of k) (key_aims n k holds)
     by None is = v
     by (Some aim) is = record {
       got = v.got;
-      plan = put_valid n a aim.at.at aim.at.entity aim.value t.plan is.at is.value v.plan;
+      plan = put_valid n a aim.at.actor aim.at.entity aim.value t.plan is.at is.value v.plan;
     }
 
 -- a key that comes holds objects
@@ -149,7 +149,7 @@ taken_in_valid n a from h x t holds v = by (has_row h t.seat.got)
 say_at_valid : (n : ℕ) (o : Option Aim) (p : Plan) → If o (IsAimed n) → IsValidPlan n p → IsValidPlan n (say_at o p)
 say_at_valid n None p is v = v
 say_at_valid n (Some aim) p is v =
-    said_valid n aim.at.at (Message aim.at.entity aim.value) p (is.at.1, is.value) v
+    said_valid n aim.at.actor (Message aim.at.entity aim.value) p (is.at.1, is.value) v
 
 -- an observation and what it captures hold objects
 abbrev IsValidFanned : ℕ → Fanned → Type 0

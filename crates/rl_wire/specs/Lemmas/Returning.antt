@@ -25,7 +25,7 @@ use Rattle.rl_wire.specs.Lemmas.Later.{all_of_front, all_of_rest}
 -- ---- what a reference is written as
 
 record IsWrittenAs (x : Plain) (r : Reference) (caveats : Plains) : Type 0 where
-  is : x ≡ sequence (then_more (number r.at) (then_more (number r.entity) caveats))
+  is : x ≡ sequence (then_more (number r.actor) (then_more (number r.entity) caveats))
   small : r.entity < 2 ^ 63
 
 written_as : (x : Plain) (r : Reference) → reference_of x ≡ Some r → (cs : Plains) × IsWrittenAs x r cs
@@ -33,10 +33,10 @@ written_as (sequence (then_more (integer (pos a)) (then_more (integer (pos e)) c
     by (nat_lt a (2 ^ 32)) (nat_lt e (2 ^ 63)) refl is
   where
     by : (b c : Bool) → nat_lt e (2 ^ 63) ≡ c
-        → (if b && c then Some (record { at = a; entity = e }) else None) ≡ Some r
+        → (if b && c then Some (record { actor = a; entity = e }) else None) ≡ Some r
         → (ds : Plains) × IsWrittenAs (sequence (then_more (integer (pos a)) (then_more (integer (pos e)) cs))) r ds
     by true true test same =
-        let at : a ≡ r.at = cc in
+        let at : a ≡ r.actor = cc in
         let entity : e ≡ r.entity = cc in
         let small : e < 2 ^ 63 = grind (arith, nat_tests) in (
           cs,
@@ -62,7 +62,7 @@ small_number n small = by (nat_lt n (2 ^ 63)) refl
 
 -- ---- one of the connection's own
 
-is_at : (a : ℕ) (x : Plain) (r : Reference) → is_own a x r ≡ true → (r.at ≡ a) × (length (caveats_in x) ≡ 0)
+is_at : (a : ℕ) (x : Plain) (r : Reference) → is_own a x r ≡ true → (r.actor ≡ a) × (length (caveats_in x) ≡ 0)
 is_at a x r own = (grind (arith, nat_tests, own), grind (arith, nat_tests, own))
 
 own_back : (exports : List Plain) (a : ℕ) (x : Plain) (r : Reference) → reference_of x ≡ Some r → is_own a x r ≡ true
@@ -72,7 +72,7 @@ own_back exports a x r is own =
     let at = is_at a x r own in
     let none = no_caveats w.0 (sym (ap (λ y. length (caveats_in y)) w.1.is) ∙ at.1) in
     ap (λ o. reference_in exports a (wire_value 0 r.entity) (wire_where Own o)) (small_number r.entity w.1.small)
-    ∙ sym (w.1.is ∙ ap (λ cs. sequence (then_more (number r.at) (then_more (number r.entity) cs))) none
+    ∙ sym (w.1.is ∙ ap (λ cs. sequence (then_more (number r.actor) (then_more (number r.entity) cs))) none
     ∙ ap (λ n. sequence (then_more (number n) (then_more (number r.entity) no_more))) at.0)
 
 -- ---- an export

@@ -1,4 +1,4 @@
-use Rattle.std.proofs.Common.{◌≡◌, ◌||◌, Bool, Option, Some, None, OnOk, subst, sym, ap, ◌∙◌}
+use Rattle.std.proofs.Common.{◌≡◌, ◌||◌, Bool, Option, Some, None, option_copied, OnOk, subst, sym, ap, ◌∙◌}
 use Rattle.std.specs.Prelude.{option_and_then}
 use Rattle.std.specs.List.{list_any}
 use Rattle.std.specs.BTreeMap as tree
@@ -13,7 +13,8 @@ use Rattle.ds_space.proofs.collecting.put_wanted.Goals as goal
 
 pub returns-in-Some : goal.returns-in-Some
 returns-in-Some c =
-    let found : Some c.in-Some.pattern ≡ observer_of c.args.observe.now = sym c.in-Some.is ∙ c.in_ok-pattern.ensures in
+    let found : Some c.in-Some.pattern.now ≡ observer_of c.args.observe.now =
+    ap option_copied (sym c.in-Some.is) ∙ c.pattern.ensures in
     subst (λ (x : Option Pattern). OnOk c.put_captured.result
     ((q : Plain) → sorted.contains order c.put_captured.new.keys q
     ≡ (sorted.contains order c.args.keys.now q
@@ -23,7 +24,7 @@ returns-in-Some c =
 
 pub returns-in-None : goal.returns-in-None
 returns-in-None c q =
-    let none : observer_of c.args.observe.now ≡ None = sym c.in_ok-pattern.ensures ∙ c.in-None.is in
+    let none : observer_of c.args.observe.now ≡ None = sym c.pattern.ensures ∙ ap option_copied c.in-None.is in
     let old : Bool = sorted.contains order c.args.keys.now q in
     sym (ap (λ b. old || b)
     (any_none (gives q c.args.observe.now) (tree.values c.args.rows.now)

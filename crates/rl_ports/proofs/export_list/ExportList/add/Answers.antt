@@ -19,7 +19,7 @@ returns-in_err-check-clause-fault c = let i = c.self.inside in
 pub invariant_of-self-2 : goal.invariant_of-self-2
 invariant_of-self-2 c = let i = c.self.inside in
     let copied = c.in_ok-reference.reference in
-    let same : copied ≡ c.args.reference.now = c.in_ok-reference.ensures in
+    let same : copied ≡ c.args.reference.now = c.in_ok-reference.ensures ∙ c.in_ok-copy.ensures in
     let e : Export = record { reference = copied; weight = c.weight-weight.result } in
     let few = within (c.len-number.result + 1) c.saturating_add-sum.result c.in_ok-check.ensures.fits in
     kept_push i.list.items c.put.new.list.items i.numbers.entries c.put.new.numbers.entries i.weight
