@@ -1,0 +1,3 @@
+mod Alike
+mod Places
+mod Reading
