@@ -1,5 +1,6 @@
 pub mod Lemmas
 pub mod Patterns
+pub mod Conforms
 pub mod Laws
 pub mod Names
 pub mod Schemas

@@ -1,0 +1,5 @@
+pub mod Drops
+pub mod Heights
+pub mod Inside
+pub mod Judged
+pub mod Meanings

@@ -1,0 +1,3 @@
+pub mod Laws
+pub mod Subjects
+pub mod Verdicts

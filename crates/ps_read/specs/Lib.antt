@@ -1,0 +1,6 @@
+pub mod Answers
+pub mod Clauses
+pub mod Laws
+pub mod Names
+pub mod Pieces
+pub mod Written
