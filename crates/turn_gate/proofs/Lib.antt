@@ -1,0 +1,5 @@
+pub mod Histories
+pub mod Moves
+pub mod Family
+pub mod Passing
+pub mod Standing

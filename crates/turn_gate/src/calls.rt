@@ -1,0 +1,137 @@
+//! The calls of a gate.
+ghost use Rattle.std.specs.Prelude.{◌≡◌, ◌≢◌, ◌≤◌, ◌++◌, ◌∷◌, [], true, false, length, IfOk};
+ghost use Rattle.std.specs.Prelude.{IfErr, IsOk, MatchOption, MatchResult};
+ghost use Rattle.turn_gate.specs.History.{after, IsLegal};
+ghost use Rattle.turn_gate.specs.Passes.{IsFirst, Stood, Failed, Committed, HasOneMore, IsChild};
+ghost use Rattle.turn_gate.specs.Passes.{IsUnion, HasAll, IsWhole, own_pairs};
+ghost use Rattle.turn_gate.specs.Gates.{opening_of, view, IsPassOf};
+
+use crate::gate::{Gate, GateFault, MOST, Pass};
+use crate::replayed::{NoMemory, Replayed};
+use std::alloc::Global;
+use std::sync::Wait;
+
+impl<T: Replayed> Gate<T> {
+    /// A gate that holds `t`, and its first pass.
+    ///
+    /// `seats` is for how many callers room to wait may be taken. This gate takes none, since its
+    /// callers wait on words of the gate, and any number of passes may be split from the first.
+    pub fn begin(alloc: Global, t: T, seats: u32) -> Result<(Gate<T>, Pass<T>), NoMemory>
+        requires { (1 ≤ seats) × (seats ≤ 256) }
+        ensures gate { IfOk result (λ r. IsPassOf r.0 r.1 × (opening_of r.0 ≡ t)) }
+        ensures first { IfOk result (λ r. IsFirst (view r.1)) }
+    {
+        let _ = seats;
+        match Gate::begin_at(alloc, t) {
+            Ok((gate, seat)) => Ok((gate, Pass { seat, floor: 0 })),
+            Err(failed) => Err(failed),
+        }
+    }
+
+    /// Does the step `s`, adds it with its reply to the history, and answers the reply.
+    ///
+    /// While another caller does a step this one waits, first by turns that give way and then
+    /// asleep. After [`GateFault::NoMemory`] the value is gone, and each later commit of any pass
+    /// answers so too.
+    pub fn commit<R: Wait>(
+        &self,
+        rt: &R,
+        pass: &mut Pass<T>,
+        s: T::Step,
+    ) -> Result<T::Reply, GateFault>
+        requires gate { IsPassOf self.now pass.old }
+        ensures gate { IsPassOf self.now pass.new }
+        ensures ok { IfOk result
+            (λ r. Committed T.next (opening_of self.now) (view pass.old) s r (view pass.new)) }
+        ensures err { IfErr result (λ e. Failed (view pass.old) e (view pass.new)) }
+        ensures own { MatchResult result
+            (λ r. own_pairs (view pass.new) ≡ own_pairs (view pass.old) ++ (s, r) ∷ [])
+            (λ e. own_pairs (view pass.new) ≡ own_pairs (view pass.old)) }
+    {
+        match self.commit_at(rt, &mut pass.seat, s) {
+            Ok((reply, n)) => {
+                pass.floor = n;
+                Ok(reply)
+            }
+            Err(GateFault::Spent) => {
+                pass.floor = MOST;
+                Err(GateFault::Spent)
+            }
+            Err(GateFault::NoMemory) => Err(GateFault::NoMemory),
+        }
+    }
+
+    /// How many steps stand now, at least. It never waits.
+    pub fn seen(&self, pass: &mut Pass<T>) -> u64
+        requires gate { IsPassOf self.now pass.old }
+        ensures gate { IsPassOf self.now pass.new }
+        ensures least { ((view pass.old).floor ≤ result)
+            × (length (view pass.old).seen ≤ result) }
+        ensures floor { (view pass.new).floor ≡ result }
+        ensures same { Stood (view pass.old) (view pass.new)
+            × ((view pass.new).lost ≡ (view pass.old).lost) }
+    {
+        let n = self.seen_at(&mut pass.seat);
+        pass.floor = n;
+        n
+    }
+
+    /// Sleeps until a step stands that the pass was not told of, or the value was given up.
+    pub fn rest<R: Wait>(&self, rt: &R, pass: &Pass<T>)
+        requires gate { IsPassOf self.now pass.now }
+    {
+        self.rest_at(rt, pass.floor);
+    }
+
+    /// A new pass, for another caller, which has seen as much as the first one.
+    ///
+    /// It takes no memory and always succeeds.
+    pub fn split(&self, pass: &mut Pass<T>) -> Result<Pass<T>, NoMemory>
+        requires gate { IsPassOf self.now pass.old }
+        requires first { (view pass.old).name ≡ 0 }
+        ensures always { IsOk result }
+        ensures gate { IsPassOf self.now pass.new × IfOk result (λ r. IsPassOf self.now r) }
+        ensures same { HasOneMore (view pass.old) (view pass.new) }
+        ensures new { IfOk result (λ r. IsChild (view pass.old) (view r)) }
+    {
+        let seat = self.split_at(&mut pass.seat);
+        Ok(Pass {
+            seat,
+            floor: pass.floor,
+        })
+    }
+
+    /// Takes in what another pass has seen, a pass that was split from this one.
+    pub fn join(&self, pass: &mut Pass<T>, other: Pass<T>)
+        requires gate { IsPassOf self.now pass.old × IsPassOf self.now other }
+        requires first { (view pass.old).name ≡ 0 }
+        requires other { (view other).name ≢ 0 }
+        ensures gate { IsPassOf self.now pass.new }
+        ensures both { IsUnion (view pass.old) (view other) (view pass.new) }
+    {
+        let Pass { seat, floor } = other;
+        self.join_at(&mut pass.seat, seat);
+        if pass.floor < floor {
+            pass.floor = floor;
+        }
+    }
+
+    /// The value that all steps left, or none where a step found no memory.
+    ///
+    /// The pass is the first one, and each pass that was split from it was joined into it. What it
+    /// has seen is then the whole history: one legal list of steps, in which each caller's steps
+    /// stand with the replies that it got, in its order, and nothing else stands.
+    pub fn close(self, pass: Pass<T>) -> Option<T>
+        requires gate { IsPassOf self pass }
+        requires first { ((view pass).name ≡ 0) × HasAll (view pass) }
+        ensures value { MatchOption result
+            ((view pass).lost ≡ true)
+            (λ t. (t ≡ after T.next (opening_of self) (view pass).seen)
+            × ((view pass).lost ≡ false)) }
+        ensures legal { IsLegal T.next (opening_of self) (view pass).seen }
+        ensures whole { IsWhole (view pass) }
+    {
+        let Pass { seat, floor: _ } = pass;
+        self.close_at(seat)
+    }
+}

@@ -1,0 +1,338 @@
+//! The gate and its passes, and its calls as the table sees them.
+ghost use Rattle.std.specs.Prelude.{◌≡◌, ℕ, ◌≤◌, ◌<◌, ◌^◌, [], ◌∷◌, true, false, ◌≢◌, length};
+ghost use Rattle.std.specs.Prelude.{IfOk, MatchResult, MatchOption};
+ghost use Rattle.turn_gate.specs.declared.view.Has.TheVariants.{Nothing};
+ghost use Rattle.turn_gate.specs.History.{places};
+
+use crate::plays::{Compare, Family, Give, Law, Look, Note, Take, Touch, Visit};
+use crate::replayed::{NoMemory, Replayed};
+use crate::view::{Held, View};
+use atomic_table::{Seat, Table};
+use crossbeam_utils::Backoff;
+use std::alloc::Global;
+use std::snapshot::Snapshot;
+use std::sync::Wait;
+use thiserror::Error;
+
+/// Why a commit did no step.
+#[derive(Debug, Drop, Error)]
+pub enum GateFault {
+    /// As many steps stand as a gate takes.
+    #[error("the gate is spent")]
+    Spent,
+    /// This step or an earlier one found no memory, and the value was given up.
+    #[error("out of memory")]
+    NoMemory,
+}
+
+/// The most steps that a gate takes.
+pub const MOST: u64 = 1 << 62;
+
+// How many steps stand.
+const COUNT: usize = 0;
+
+// 1 while a pass has the slot, and else 0.
+const LOCK: usize = 1;
+
+// How many callers sleep until the lock is free.
+const WAITERS: usize = 2;
+
+// How many callers sleep until a further step stands.
+const RESTERS: usize = 3;
+
+// Changes for those who rest, each time when they have to look again.
+const NEWS: usize = 4;
+
+// 1 once the value was given up.
+const ENDED: usize = 5;
+
+/// A value that callers change in steps, each through a pass of its own.
+///
+/// It is shared by reference between threads. Of its words the first two are under a rule; by the
+/// others callers wake one another, and no clause speaks of them.
+#[derive(Drop)]
+pub struct Gate<T: Replayed> {
+    pub(crate) table: Table<Held<T, T::Step>, View<T, T::Step, T::Reply>, Snapshot<T>, Law, Global>,
+    ghost sized: { (table.shared.table_id.words ≡ 6) × (table.shared.table_id.slots ≡ 1) },
+}
+
+// What a pass is to the table.
+pub(crate) type Place<T> = Seat<
+    Held<T, <T as Replayed>::Step>,
+    View<T, <T as Replayed>::Step, <T as Replayed>::Reply>,
+>;
+
+/// One caller's token of one gate, with what the caller has seen of the gate.
+///
+/// It may be dropped. The gate then can't be closed any more, and goes on.
+#[derive(Drop)]
+pub struct Pass<T: Replayed> {
+    pub(crate) seat: Seat<Held<T, T::Step>, View<T, T::Step, T::Reply>>,
+    pub(crate) floor: u64,
+    ghost empty: { seat.me.1 ≡ [] },
+    ghost idle: { seat.me.0.has ≡ Nothing },
+    ghost named: { seat.me.0.named ≡ true },
+    ghost low: { floor ≤ seat.me.0.floor },
+    pub ghost own: { seat.me.0.mine ≡ places seat.me.0.name seat.me.0.seen },
+}
+
+impl<T: Replayed> Gate<T> {
+    ghost use Rattle.turn_gate.specs.Passes.{IsFirst, Stood, Failed, Committed, IsChild, IsUnion};
+    ghost use Rattle.turn_gate.specs.Passes.{HasAll, IsWhole};
+    ghost use Rattle.turn_gate.specs.Places.{place_view, IsFreeAt, Holds};
+    ghost use Rattle.turn_gate.specs.Table.{Took, Ready, gave, parent};
+    ghost use Rattle.turn_gate.specs.History.{after, IsLegal};
+    ghost use Rattle.turn_gate.specs.declared.view.Held.TheVariants.{Value, Mark, Ask};
+    ghost use mathlib.Core.Option.{some};
+
+    // How many steps stand now.
+    pub(crate) fn seen_at(&self, pass: &mut Place<T>) -> u64
+        requires gate { (pass.old.table_id ≡ self.now.table.shared.table_id)
+            × IsFreeAt self.now.table.shared.key.value pass.old }
+        ensures gate { (pass.new.table_id ≡ pass.old.table_id)
+            × IsFreeAt self.now.table.shared.key.value pass.new }
+        ensures seen { (place_view pass.old).floor ≤ result
+            × (length (place_view pass.old).seen ≤ result) }
+        ensures floor { (place_view pass.new).floor ≡ result }
+        ensures same { Stood (place_view pass.old) (place_view pass.new)
+            × ((place_view pass.new).lost ≡ (place_view pass.old).lost) }
+    {
+        self.table.shared.load::<Look>(pass, COUNT)
+    }
+
+    // Sleeps while the lock is taken. It counts itself first, so that who gives back wakes it.
+    fn wait<R: Wait>(&self, rt: &R, pass: &mut Place<T>)
+        requires gate { pass.old.table_id ≡ self.now.table.shared.table_id }
+        ensures gate { (pass.new.table_id ≡ pass.old.table_id) × (pass.new.id ≡ pass.old.id) }
+        ensures same { pass.new.me ≡ pass.old.me }
+    {
+        self.table.shared.fetch_add::<Touch>(pass, WAITERS, 1);
+        self.table.shared.park(rt, LOCK, 1);
+        self.table.shared.fetch_sub::<Touch>(pass, WAITERS, 1);
+    }
+
+    // Wakes those who rest, if any do.
+    fn tell(&self, pass: &mut Place<T>)
+        requires gate { pass.old.table_id ≡ self.now.table.shared.table_id }
+        ensures gate { pass.new.table_id ≡ pass.old.table_id }
+        ensures same { pass.new.me ≡ pass.old.me }
+    {
+        if self.table.shared.peek(RESTERS) != 0 {
+            self.table.shared.fetch_add::<Touch>(pass, NEWS, 1);
+            self.table.shared.wake_all(NEWS);
+        }
+    }
+
+    // Sleeps until more than so many steps stand, or the value was given up.
+    pub(crate) fn rest_at<R: Wait>(&self, rt: &R, floor: u64) {
+        let (count, mut seat) = self.table.shared.load_new_seat::<Visit>(COUNT);
+        if count > floor {
+            return;
+        }
+        self.table.shared.fetch_add::<Touch>(&mut seat, RESTERS, 1);
+        for _ in rt.forever() {
+            let news = self.table.shared.peek(NEWS);
+            if self.table.shared.peek(COUNT) > floor || self.table.shared.peek(ENDED) != 0 {
+                break;
+            }
+            self.table
+                .shared
+                .park(rt, NEWS, (news & 0xffff_ffff) as u32);
+        }
+        self.table.shared.fetch_sub::<Touch>(&mut seat, RESTERS, 1);
+    }
+
+    // Takes the slot, and leaves in the view which step is to be done.
+    fn take<R: Wait>(&self, rt: &R, pass: &mut Place<T>, s: T::Step) -> T::Step
+        requires gate { (pass.old.table_id ≡ self.now.table.shared.table_id)
+            × (pass.old.me.1 ≡ []) × ((place_view pass.old).named ≡ true) }
+        ensures gate { (pass.new.table_id ≡ pass.old.table_id) × (pass.new.id ≡ pass.old.id) }
+        ensures same { result ≡ s }
+        ensures took { Took T.next pass.old.me (some (Ask s)) pass.new.me }
+    {
+        let backoff = Backoff::new();
+        let ask: Held<T, T::Step> = Held::Ask(s);
+        for _ in rt.forever() {
+            let found = self
+                .table
+                .shared
+                .compare_exchange_with::<Take>(pass, LOCK, 0, 1, &ask);
+            if found == 0 {
+                return match ask {
+                    Held::Ask(s) => s,
+                    Held::Value(_t) => unreachable!(),
+                    Held::Mark => unreachable!(),
+                };
+            }
+            if backoff.is_completed() {
+                self.wait(rt, pass);
+            } else {
+                backoff.snooze();
+            }
+        }
+        unreachable!()
+    }
+
+    // Gives the slot back with what is in it.
+    fn give(&self, pass: &mut Place<T>)
+        requires gate { pass.old.table_id ≡ self.now.table.shared.table_id }
+        requires ready { ((place_view pass.old).named ≡ true)
+            × ((x : _) × (pass.old.me.1 ≡ (0, x) ∷ [])
+            × Ready T.next self.now.table.shared.key.value (place_view pass.old) x) }
+        ensures gate { pass.new.table_id ≡ pass.old.table_id }
+        ensures gave { gave pass.old.me pass.new.me }
+    {
+        self.table.shared.store::<Give>(pass, LOCK, 0);
+        if self.table.shared.peek(WAITERS) != 0 {
+            self.table.shared.wake_one(LOCK);
+        }
+        self.tell(pass);
+    }
+
+    // Puts the value into the slot, which holds the mark.
+    fn put(&self, pass: &mut Place<T>, t: T)
+        requires gate { pass.old.table_id ≡ self.now.table.shared.table_id }
+        requires slot { pass.old.me.1 ≡ (0, Mark) ∷ [] }
+        ensures gate { pass.new.table_id ≡ pass.old.table_id }
+        ensures put { pass.new.me ≡ (place_view pass.old, (0, Value t) ∷ []) }
+    {
+        match self.table.shared.exchange(pass, 0, Held::Value(t)) {
+            Held::Mark => {}
+            Held::Value(_t) => unreachable!(),
+            Held::Ask(_s) => unreachable!(),
+        }
+    }
+
+    // Does the step with the value that was taken out, and gives the slot back.
+    fn advance(&self, pass: &mut Place<T>, t: T, s: T::Step) -> Result<(T::Reply, u64), GateFault>
+        requires gate { pass.old.table_id ≡ self.now.table.shared.table_id }
+        requires holds { Holds T.next self.now.table.shared.key.value pass.old t s }
+        ensures gate { (pass.new.table_id ≡ pass.old.table_id)
+            × IsFreeAt self.now.table.shared.key.value pass.new }
+        ensures reply { MatchResult result (λ r. Committed T.next self.now.table.shared.key.value
+            (place_view pass.old) s r.0 (place_view pass.new)
+            × (r.1 ≡ (place_view pass.new).floor)) (λ e. Failed (place_view pass.old) e
+            (place_view pass.new)) }
+    {
+        let n = self.table.shared.load::<Look>(pass, COUNT);
+        if n >= MOST {
+            self.put(pass, t);
+            self.give(pass);
+            return Err(GateFault::Spent);
+        }
+        match t.step(s) {
+            Ok((t, reply)) => {
+                self.table.shared.fetch_add::<Note>(pass, COUNT, 1);
+                self.put(pass, t);
+                self.give(pass);
+                Ok((reply, n + 1))
+            }
+            Err(NoMemory) => {
+                self.table.shared.store::<Touch>(pass, ENDED, 1);
+                self.give(pass);
+                Err(GateFault::NoMemory)
+            }
+        }
+    }
+
+    // Adds one step to the history, and answers its reply.
+    pub(crate) fn commit_at<R: Wait>(
+        &self,
+        rt: &R,
+        pass: &mut Place<T>,
+        s: T::Step,
+    ) -> Result<(T::Reply, u64), GateFault>
+        requires gate { (pass.old.table_id ≡ self.now.table.shared.table_id)
+            × IsFreeAt self.now.table.shared.key.value pass.old }
+        ensures gate { (pass.new.table_id ≡ pass.old.table_id)
+            × IsFreeAt self.now.table.shared.key.value pass.new }
+        ensures reply { MatchResult result (λ r. Committed T.next self.now.table.shared.key.value
+            (place_view pass.old) s r.0 (place_view pass.new)
+            × (r.1 ≡ (place_view pass.new).floor)) (λ e. Failed (place_view pass.old) e
+            (place_view pass.new)) }
+    {
+        let s = self.take(rt, pass, s);
+        match self.table.shared.exchange(pass, 0, Held::Mark) {
+            Held::Value(t) => self.advance(pass, t, s),
+            Held::Mark => {
+                self.give(pass);
+                Err(GateFault::NoMemory)
+            }
+            Held::Ask(_s) => unreachable!(),
+        }
+    }
+
+    // A gate with this value, and its first pass.
+    pub(crate) fn begin_at(alloc: Global, t: T) -> Result<(Gate<T>, Place<T>), NoMemory>
+        ensures gate { IfOk result (λ r. (r.1.table_id ≡ r.0.table.shared.table_id)
+            × IsFreeAt t r.1) }
+        ensures first { IfOk result (λ r. IsFirst (place_view r.1)) }
+        ensures opening { IfOk result (λ r. r.0.table.shared.key.value ≡ t) }
+    {
+        let opening = Snapshot::of(&t);
+        let mut slots = Vec::new(alloc);
+        let Ok(()) = slots.push(Held::Value(t)) else {
+            return Err(NoMemory);
+        };
+        match Table::new(alloc, &[0, 0, 0, 0, 0, 0], slots, &opening) {
+            Ok((table, pass)) => Ok((Gate { table }, pass)),
+            Err(_refused) => Err(NoMemory),
+        }
+    }
+
+    // A new pass, for another caller, which has seen as much as the first one.
+    pub(crate) fn split_at(&self, pass: &mut Place<T>) -> Place<T>
+        requires gate { (pass.old.table_id ≡ self.now.table.shared.table_id)
+            × IsFreeAt self.now.table.shared.key.value pass.old }
+        requires first { (place_view pass.old).name ≡ 0 }
+        ensures gate { (pass.new.table_id ≡ pass.old.table_id)
+            × IsFreeAt self.now.table.shared.key.value pass.new }
+        ensures same { place_view pass.new ≡ parent (place_view pass.old) }
+        ensures new { (result.table_id ≡ pass.old.table_id)
+            × IsFreeAt self.now.table.shared.key.value result
+            × IsChild (place_view pass.old) (place_view result) }
+    {
+        let mut new = self.table.shared.split_seat::<Family>(pass);
+        self.table.shared.load::<Compare>(&mut new, COUNT);
+        new
+    }
+
+    // Takes in what another pass has seen.
+    pub(crate) fn join_at(&self, pass: &mut Place<T>, other: Place<T>)
+        requires gate { (pass.old.table_id ≡ self.now.table.shared.table_id)
+            × IsFreeAt self.now.table.shared.key.value pass.old }
+        requires first { (place_view pass.old).name ≡ 0 }
+        requires other { (other.table_id ≡ self.now.table.shared.table_id)
+            × IsFreeAt self.now.table.shared.key.value other × ((place_view other).name ≢ 0) }
+        requires own { (place_view other).mine ≡ places (place_view other).name
+            (place_view other).seen }
+        ensures gate { (pass.new.table_id ≡ pass.old.table_id)
+            × IsFreeAt self.now.table.shared.key.value pass.new }
+        ensures both { IsUnion (place_view pass.old) (place_view other) (place_view pass.new) }
+    {
+        self.table.shared.join_seat::<Family>(pass, other);
+        self.table.shared.load::<Compare>(pass, COUNT);
+    }
+
+    // The value that all steps left, or none where a step found no memory.
+    pub(crate) fn close_at(self, pass: Place<T>) -> Option<T>
+        requires gate { (pass.table_id ≡ self.table.shared.table_id)
+            × IsFreeAt self.table.shared.key.value pass }
+        requires first { ((place_view pass).name ≡ 0) × HasAll (place_view pass) }
+        ensures value { MatchOption result ((place_view pass).lost ≡ true)
+            (λ t. (t ≡ after T.next self.table.shared.key.value (place_view pass).seen)
+            × ((place_view pass).lost ≡ false)) }
+        ensures legal { IsLegal T.next self.table.shared.key.value (place_view pass).seen }
+        ensures whole { IsWhole (place_view pass) }
+    {
+        let Gate { table } = self;
+        let mut closed = table.close_with(pass);
+        let held = closed.take(0);
+        closed.free();
+        match held {
+            Held::Value(t) => Some(t),
+            Held::Mark => None,
+            Held::Ask(_s) => unreachable!(),
+        }
+    }
+}
