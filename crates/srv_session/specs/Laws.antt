@@ -1,0 +1,32 @@
+-- What a gate's history over the hub is: a run of the machine.
+use Rattle.std.specs.Prelude.{◌≡◌, List, [], ◌∷◌, map}
+use Rattle.turn_gate.specs.declared.view.Entry.{Entry}
+use Rattle.turn_gate.specs.History.{after, IsLegal, replies_of}
+use Rattle.hub_machine.specs.State.{State, opening}
+use Rattle.hub_machine.specs.Machine.{step}
+use Rattle.hub_machine.specs.Replays.{replay}
+use Rattle.hub_machine.specs.declared.steps.Step.{Step}
+use Rattle.hub_machine.specs.declared.steps.Reply.{Reply}
+use Rattle.hub_laws.specs.Laws.{AreAllowed}
+use Rattle.srv_session.specs.Served.{served_next}
+use Rattle.srv_session.specs.declared.served.Served.{Served}
+use Rattle.srv_session.specs.declared.served.ServedStep.{ServedStep}
+
+-- the machine's steps of a history
+abbrev pub machine_steps : List (Entry ServedStep Reply) → List Step
+machine_steps es = map (λ (e : Entry ServedStep Reply). e.step.step) es
+
+-- the replies that the machine gives to these steps, one after another
+abbrev pub replies_from : State → List Step → List Reply
+replies_from s [] = []
+replies_from s (e ∷ es) = (step s e).reply ∷ replies_from (step s e).state es
+
+-- a history is a run of the machine from its beginning
+pub record IsRun {X : Type 0} (h : Served X) (es : List (Entry ServedStep Reply)) : Type 0 where
+  pub state : (after served_next h es).hub ≡ replay (machine_steps es)
+  pub allowed : AreAllowed opening (machine_steps es)
+  pub replies : replies_of es ≡ replies_from opening (machine_steps es)
+
+abbrev pub HistoriesAreTheMachines : Type 0 → Type 0
+HistoriesAreTheMachines X = (h : Served X) (es : List (Entry ServedStep Reply)) → h.hub ≡ opening
+    → IsLegal served_next h es → IsRun h es

@@ -1,0 +1,11 @@
+//! What a gate's history over the hub is.
+ghost use Rattle.srv_session.specs.Laws.{HistoriesAreTheMachines};
+
+use ds_space::Space;
+
+/// A legal history over a hub at its beginning is a run of the machine: the state that it leaves is
+/// the machine's after the history's steps, each of them was allowed, and the replies are the
+/// machine's. What a closing gate answers, and what a pass has seen at any time, is one.
+pub fn histories_are_the_machines<S: Space + Drop>()
+    ensures { HistoriesAreTheMachines S }
+{}

@@ -1,0 +1,13 @@
+//! The hub behind a gate: the machine's steps, done by many threads as if by one.
+//!
+//! [`Served`] is the hub as a value that a [`turn_gate::Gate`] holds.
+//! [`histories_are_the_machines`] says what a gate's history is then: a run of the machine.
+#![tactic(auto)]
+
+mod laws;
+mod served;
+#[cfg(test)]
+mod tests;
+
+pub use laws::histories_are_the_machines;
+pub use served::{Served, ServedStep};

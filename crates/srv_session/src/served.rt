@@ -1,0 +1,68 @@
+//! The hub as a value that a gate holds.
+ghost use Rattle.std.specs.Prelude.{◌≡◌, IfOk};
+ghost use Rattle.hub_machine.specs.State.{opening};
+ghost use Rattle.hub_machine.specs.Machine.{IsAllowed, IsBuilt};
+ghost use Rattle.srv_session.specs.Allowed.{allowed_once};
+
+use ds_space::Space;
+use hub_core::{Hub, Reply, Step};
+use std::alloc::Global;
+use turn_gate::{NoMemory, Replayed};
+
+/// A step that may come: one that is built, and of a packet's events only such as may stand on the
+/// wire.
+#[derive(Drop)]
+pub struct ServedStep {
+    pub step: Step,
+    pub ghost allowed: { IsAllowed opening step } by { allowed_once opening step },
+}
+
+impl ServedStep {
+    /// The step, of which the type `Step` keeps the rest.
+    pub fn new(step: Step) -> ServedStep
+        requires { IsBuilt step }
+        ensures { result.step ≡ step }
+    {
+        match step {
+            Step::Packet(connection, turn) => ServedStep {
+                step: Step::Packet(connection, turn),
+            },
+            step => ServedStep { step },
+        }
+    }
+}
+
+/// The hub, with the memory that its steps take.
+#[derive(Drop)]
+pub struct Served<S: Space + Drop> {
+    pub hub: Hub<S>,
+    pub alloc: Global,
+}
+
+impl<S: Space + Drop> Served<S> {
+    /// The hub at its beginning.
+    pub fn begin(alloc: Global) -> Result<Served<S>, pv_value::NoMemory>
+        ensures { IfOk result (λ s. s.hub ≡ opening) }
+    {
+        let hub = Hub::begin(alloc)?;
+        Ok(Served { hub, alloc })
+    }
+}
+
+impl<S: Space + Drop> Replayed for Served<S> {
+    ghost use Rattle.srv_session.specs.Served.{served_next};
+
+    type Step = ServedStep;
+
+    type Reply = Reply;
+
+    ghost next = { served_next };
+
+    fn step(self, s: ServedStep) -> Result<(Served<S>, Reply), NoMemory> {
+        let Served { hub, alloc } = self;
+        match hub.step(alloc, s.step) {
+            Ok((hub, reply)) => Ok((Served { hub, alloc }, reply)),
+            Err(_no_memory) => Err(NoMemory),
+        }
+    }
+}
