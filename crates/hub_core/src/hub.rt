@@ -67,10 +67,7 @@ fn least(first: Option<u32>, second: Option<u32>) -> Option<u32>
 fn actor_reference(alloc: Global, actor: u32) -> Result<Value, NoMemory>
     ensures { IfOk result (λ v. v ≡ actor_reference actor) }
 {
-    let reference = Reference {
-        actor,
-        entity: 0,
-    };
+    let reference = Reference { actor, entity: 0 };
     reference_value(alloc, reference)
 }
 
