@@ -10,8 +10,8 @@ use std::test::Fail;
 pub(crate) const LEVELS: u32 = 10_000;
 
 /// The reference to an object of the actor, without caveats.
-fn object(alloc: Global, at: u32, entity: u64) -> Result<Value, Fail> {
-    Ok(reference_value(alloc, Reference { at, entity })?)
+fn object(alloc: Global, actor: u32, entity: u64) -> Result<Value, Fail> {
+    Ok(reference_value(alloc, Reference { actor, entity })?)
 }
 
 /// The ports of a connection that knows object 0 of actor 1.
