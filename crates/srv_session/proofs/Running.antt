@@ -24,7 +24,8 @@ anywhere s t (Turn a) may = may
 anywhere s t Work may = may
 anywhere s t Stop may = may
 
-pub runs : {X : Type 0} (h : Served X) (s : State) (es : List (Entry ServedStep Reply)) → h.hub ≡ s → IsLegal served_next h es
+pub runs : {X : Type 0} (h : Served X) (s : State) (es : List (Entry ServedStep Reply)) → h.hub ≡ s
+    → IsLegal served_next h es
     → ((after served_next h es).hub ≡ run_from s (machine_steps es))
     × AreAllowed s (machine_steps es)
     × (replies_of es ≡ replies_from s (machine_steps es))
