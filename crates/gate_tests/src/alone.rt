@@ -11,7 +11,7 @@ use turn_gate::{Gate, GateFault, Pass};
 
 /// What a commit of this step answers: its reply, or 1 for a gate that is spent and 2 for want of
 /// memory.
-fn answer<R: Wait>(rt: &R, gate: &Gate<Sum>, pass: &mut Pass<Sum>, step: u64) -> u64
+pub(crate) fn answer<R: Wait>(rt: &R, gate: &Gate<Sum>, pass: &mut Pass<Sum>, step: u64) -> u64
     requires { IsPassOf gate.now pass.old }
     ensures gate { IsPassOf gate.now pass.new }
     ensures same { IsSame (view pass.old) (view pass.new) }

@@ -10,4 +10,6 @@ pub use sums::Sum;
 #[cfg(test)]
 mod alone;
 #[cfg(test)]
+mod orders;
+#[cfg(test)]
 mod together;

@@ -153,11 +153,14 @@ impl<T: Replayed> Gate<T> {
         let backoff = Backoff::new();
         let ask: Held<T, T::Step> = Held::Ask(s);
         for _ in rt.forever() {
-            let found = self
-                .table
-                .shared
-                .compare_exchange_with::<Take>(pass, LOCK, 0, 1, &ask);
-            if found == 0 {
+            // A look first: who only looks takes the word from nobody.
+            if self.table.shared.peek(LOCK) == 0
+                && self
+                    .table
+                    .shared
+                    .compare_exchange_with::<Take>(pass, LOCK, 0, 1, &ask)
+                    == 0
+            {
                 return match ask {
                     Held::Ask(s) => s,
                     Held::Value(_t) => unreachable!(),

@@ -3,8 +3,8 @@ use mathlib.Core.Option.{some}
 use Rattle.turn_gate.proofs.Moves.{takes_slot}
 use Rattle.turn_gate.proofs.gate.Gate.take.Goals as goal
 
-pub compare_exchange_with-found-requires : goal.compare_exchange_with-found-requires
-compare_exchange_with-found-requires g c = (
+pub compare_exchange_with-requires : goal.compare_exchange_with-requires
+compare_exchange_with-requires g c = (
   search rules,
   search rules,
   takes_slot g.T.Replayed.next _ _ _ _ (some c.loop.ask-1) (search rules) (search rules),
