@@ -1,75 +1,106 @@
--- A dataspace's turn, one change and one event at a time; and an event that its space has done.
-use Rattle.std.proofs.Common.{◌≡◌, ◌≤◌, ℕ, List, [], ◌∷◌, ◌++◌, true, false, cond, nat_lt, refl, ap, sym, ◌∙◌, arith}
+-- A system actor's turn, one change and one event at a time; and an event that the actor has done.
+use Rattle.std.proofs.Common.{◌≡◌, ◌<◌, ◌≤◌, ℕ, List, [], ◌∷◌, ◌++◌, true, false, cond, nat_lt, refl, ap, sym, ◌∙◌}
+use Rattle.std.proofs.Common.{arith}
 use Rattle.std.proofs.lemmas.Bool.Decides.{nat_tests}
 use Rattle.std.specs.Map.{values_of}
 use Rattle.ac_table.specs.declared.batches.Event.{Event}
 use Rattle.ac_table.specs.Tables.{is_live}
-use Rattle.ds_space.specs.Spaces.{Rows, changed, Fits}
+use Rattle.ds_space.specs.Limits.{most_wanted_weight}
+use Rattle.ds_space.specs.Spaces.{Rows, changed}
 use Rattle.ds_space.specs.declared.space.SpaceEvent.{SpaceEvent}
 use Rattle.ds_space.specs.declared.space.SpaceEvent.TheVariants.{Add, Gone}
 use Rattle.ds_space.specs.declared.space.Change.{Change}
-use Rattle.ds_space.specs.Changes.{AreChanges}
-use Rattle.ds_space.specs.Lemmas.Exact.{changes_exact}
-use Rattle.ds_space.specs.Wants.{wanted_weight}
+use Rattle.ac_world.specs.declared.turning.Turning.{Turning as TurningBy}
+use Rattle.ac_world.specs.Behaviours.{Behaviour}
+use Rattle.ac_world.specs.Keeping.{turning_by, TurnsBy}
+use Rattle.ac_world.specs.Systems.{changes, FitsBy, IsOverBy}
 use Rattle.ac_world.specs.Turns.{Turning, changed_by, all_changed, with_rows, regot, spreading, by_assertion, applied}
 use Rattle.ac_world.specs.Turns.{turned_by, all_turned}
 use Rattle.ac_world.proofs.Lives.{live_from_numbers}
 use Rattle.ac_world.proofs.Numbers.{numbers-changed_by, numbers-turned_by}
 
+-- ---- one part of a turn after another
+
+pub turns_then : {S : Type 0} (rows_of : S → Rows) (behaviour : S → Behaviour) (t u v : TurningBy S)
+    (f g h : Behaviour → Turning → Turning) → ((y : Behaviour) (x : Turning) → h y x ≡ g y (f y x))
+    → TurnsBy rows_of behaviour t f u → TurnsBy rows_of behaviour u g v → TurnsBy rows_of behaviour t h v
+turns_then rows_of behaviour t u v f g h both first later = (
+  later.0 ∙ (λ i. g (first.1 i) (first.0 i)) ∙ sym (both (behaviour t.resident.system) (turning_by rows_of t)),
+  later.1 ∙ first.1,
+)
+
+pub turns_not : {S : Type 0} (rows_of : S → Rows) (behaviour : S → Behaviour) (t : TurningBy S)
+    → TurnsBy rows_of behaviour t (λ y x. x) t
+turns_not rows_of behaviour t = (refl, refl)
+
 -- ---- one more change
 
-all_changed-push : (a : ℕ) (cs : List Change) (c : Change) (t : Turning)
-    → all_changed a (cs ++ c ∷ []) t ≡ changed_by a c (all_changed a cs t)
-all_changed-push a [] c t = refl
-all_changed-push a (x ∷ xs) c t = all_changed-push a xs c (changed_by a x t)
+pub all_changed-push : (y : Behaviour) (a : ℕ) (cs : List Change) (c : Change) (t : Turning)
+    → all_changed y a (cs ++ c ∷ []) t ≡ changed_by y a c (all_changed y a cs t)
+all_changed-push y a [] c t = refl
+all_changed-push y a (x ∷ xs) c t = all_changed-push y a xs c (changed_by y a x t)
 
-pub one_changed : (a : ℕ) (cs : List Change) (c : Change) (first t u : Turning) → t ≡ all_changed a cs first
-    → u ≡ changed_by a c t → u ≡ all_changed a (cs ++ c ∷ []) first
-one_changed a cs c first t u so_far now = now ∙ ap (changed_by a c) so_far ∙ sym (all_changed-push a cs c first)
-
-pub live_changed : (b a : ℕ) (c : Change) (t u : Turning) → is_live b t.plan.table ≡ true → u ≡ changed_by a c t
+pub live_changed : {S : Type 0} (rows_of : S → Rows) (behaviour : S → Behaviour) (b a : ℕ) (c : Change)
+    (t u : TurningBy S) → is_live b t.plan.table ≡ true → TurnsBy rows_of behaviour t (λ y. changed_by y a c) u
     → is_live b u.plan.table ≡ true
-live_changed b a c t u live now =
-    ap (λ s. is_live b s.plan.table) now
-    ∙ live_from_numbers b (changed_by a c t).plan.table t.plan.table (numbers-changed_by a c t) ∙ live
+live_changed rows_of behaviour b a c t u live now =
+    let y = behaviour t.resident.system in
+    let x = turning_by rows_of t in
+    ap (λ (s : Turning). is_live b s.plan.table) now.0
+    ∙ live_from_numbers b (changed_by y a c x).plan.table t.plan.table (numbers-changed_by y a c x) ∙ live
 
 -- ---- one more event
 
-all_turned-push : (a from : ℕ) (es : List Event) (e : Event) (t : Turning)
-    → all_turned a from (es ++ e ∷ []) t ≡ turned_by a from e (all_turned a from es t)
-all_turned-push a from [] e t = refl
-all_turned-push a from (x ∷ xs) e t = all_turned-push a from xs e (turned_by a from x t)
+pub all_turned-push : (y : Behaviour) (a from : ℕ) (es : List Event) (e : Event) (t : Turning)
+    → all_turned y a from (es ++ e ∷ []) t ≡ turned_by y a from e (all_turned y a from es t)
+all_turned-push y a from [] e t = refl
+all_turned-push y a from (x ∷ xs) e t = all_turned-push y a from xs e (turned_by y a from x t)
 
-pub one_turned : (a from : ℕ) (es : List Event) (e : Event) (first t u : Turning) → t ≡ all_turned a from es first
-    → u ≡ turned_by a from e t → u ≡ all_turned a from (es ++ e ∷ []) first
-one_turned a from es e first t u so_far now =
-    now ∙ ap (turned_by a from e) so_far ∙ sym (all_turned-push a from es e first)
-
-pub live_turned : (b a from : ℕ) (e : Event) (t u : Turning) → is_live b t.plan.table ≡ true → u ≡ turned_by a from e t
+pub live_turned : {S : Type 0} (rows_of : S → Rows) (behaviour : S → Behaviour) (b a from : ℕ) (e : Event)
+    (t u : TurningBy S) → is_live b t.plan.table ≡ true → TurnsBy rows_of behaviour t (λ y. turned_by y a from e) u
     → is_live b u.plan.table ≡ true
-live_turned b a from e t u live now =
-    ap (λ s. is_live b s.plan.table) now
-    ∙ live_from_numbers b (turned_by a from e t).plan.table t.plan.table (numbers-turned_by a from e t) ∙ live
+live_turned rows_of behaviour b a from e t u live now =
+    let y = behaviour t.resident.system in
+    let x = turning_by rows_of t in
+    ap (λ (s : Turning). is_live b s.plan.table) now.0
+    ∙ live_from_numbers b (turned_by y a from e x).plan.table t.plan.table (numbers-turned_by y a from e x) ∙ live
 
--- ---- an event that the space has done
+-- ---- an event that the actor has done
 
 not_above : (n m : ℕ) → m ≤ n → nat_lt n m ≡ false
 not_above n m h = grind (arith, nat_tests)
 
-regot-fits : (a from : ℕ) (e : SpaceEvent) (t : Turning) → Fits (values_of (changed t.seat.got e)) e
-    → regot a (changed t.seat.got e) t ≡ applied a from e t
-regot-fits a from (Add h v) t fits =
+is_above : (n m : ℕ) → n < m → nat_lt n m ≡ true
+is_above n m h = grind (arith, nat_tests)
+
+regot-fits : (y : Behaviour) (a from : ℕ) (e : SpaceEvent) (t : Turning)
+    → FitsBy y (values_of (changed t.resident.got e)) e
+    → regot y a (changed t.resident.got e) t ≡ applied y a from e t
+regot-fits y a from (Add h v) t fits =
     sym (ap (λ b. cond b
-    (spreading (by_assertion t.plan.table from (wanted_weight (values_of (changed t.seat.got (Add h v))))) t)
-    (regot a (changed t.seat.got (Add h v)) t)) (not_above _ _ fits))
-regot-fits a from (Gone h) t fits = refl
+    (spreading (by_assertion t.plan.table from (y.weight (values_of (changed t.resident.got (Add h v))))) t)
+    (regot y a (changed t.resident.got (Add h v)) t)) (not_above _ _ fits))
+regot-fits y a from (Gone h) t fits = refl
 
 -- its rows are those after the event, and its changes are what the turn does
-pub applied-done : (a from : ℕ) (e : SpaceEvent) (t : Turning) (rows : Rows) (cs : List Change)
-    → rows ≡ changed t.seat.got e → AreChanges (values_of t.seat.got) (values_of (changed t.seat.got e)) cs
-    → Fits (values_of (changed t.seat.got e)) e → all_changed a cs (with_rows rows t) ≡ applied a from e t
-applied-done a from e t rows cs is are fits =
-    ap (λ r. all_changed a cs (with_rows r t)) is
-    ∙ ap (λ ds. all_changed a ds (with_rows (changed t.seat.got e) t))
-    (changes_exact (values_of t.seat.got) (values_of (changed t.seat.got e)) cs are)
-    ∙ regot-fits a from e t fits
+pub applied-done : (y : Behaviour) (a from : ℕ) (e : SpaceEvent) (t : Turning) (rows : Rows) (cs : List Change)
+    → rows ≡ changed t.resident.got e
+    → cs ≡ changes (y.keys (values_of t.resident.got)) (y.keys (values_of (changed t.resident.got e)))
+    → FitsBy y (values_of (changed t.resident.got e)) e
+    → all_changed y a cs (with_rows rows t) ≡ applied y a from e t
+applied-done y a from e t rows cs is are fits =
+    ap (λ r. all_changed y a cs (with_rows r t)) is
+    ∙ ap (λ ds. all_changed y a ds (with_rows (changed t.resident.got e) t)) are
+    ∙ regot-fits y a from e t fits
+
+-- or it is passed over
+pub applied-over : (y : Behaviour) (a from : ℕ) (e : SpaceEvent) (t : Turning) (w : ℕ)
+    → IsOverBy y (values_of (changed t.resident.got e)) e w
+    → spreading (by_assertion t.plan.table from w) t ≡ applied y a from e t
+applied-over y a from (Add h v) t w over =
+    let weight : ℕ = y.weight (values_of (changed t.resident.got (Add h v))) in
+    ap (λ n. spreading (by_assertion t.plan.table from n) t) over.1
+    ∙ sym (ap (λ b. cond b (spreading (by_assertion t.plan.table from weight) t)
+    (regot y a (changed t.resident.got (Add h v)) t))
+    (ap (nat_lt most_wanted_weight) (sym over.1) ∙ is_above _ _ over.0))
+applied-over y a from (Gone h) t w over = absurd over

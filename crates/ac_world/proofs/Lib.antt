@@ -6,4 +6,5 @@ pub mod Lives
 pub mod Numbers
 pub mod Pushes
 pub mod Shapes
+pub mod Spaces
 pub mod Taken

@@ -14,7 +14,9 @@ use Rattle.ac_world.specs.declared.acts.Act.{Act}
 use Rattle.ac_world.specs.declared.acts.Act.TheVariants as act
 use Rattle.ac_world.specs.Outboxes.{Outbox, Plan, posted, put, drop_own, dropped, said, committed, acted}
 use Rattle.ac_world.specs.Outboxes.{all_acted}
-use Rattle.ac_world.specs.Turns.{Aim, aim_at, aim_for, say_at, say_all, answer_to, answered, all_answered}
+use Rattle.ac_world.specs.declared.aims.Aim.{Aim}
+use Rattle.ac_world.specs.Aims.{aim_at, aim_for}
+use Rattle.ac_world.specs.Turns.{say_at, say_all, answer_to}
 use Rattle.ac_world.specs.Worlds.{IsWorld}
 
 abbrev pub numbers_in : List Actor → List ℕ
@@ -111,16 +113,6 @@ numbers-say_all (f ∷ fs) p =
 
 pub numbers-answer_to : (peer : Plain) (p : Plan) → numbers (answer_to peer p).table ≡ numbers p.table
 numbers-answer_to peer p = numbers-say_at (aim_at (boolean true) peer) p
-
-pub numbers-answered : (e : Event) (p : Plan) → numbers (answered e p).table ≡ numbers p.table
-numbers-answered (event.Assert h entity v) p = refl
-numbers-answered (event.Retract h entity) p = refl
-numbers-answered (event.Message entity v) p = refl
-numbers-answered (event.Sync entity peer) p = numbers-answer_to peer p
-
-pub numbers-all_answered : (es : List Event) (p : Plan) → numbers (all_answered es p).table ≡ numbers p.table
-numbers-all_answered [] p = refl
-numbers-all_answered (e ∷ es) p = numbers-all_answered es (answered e p) ∙ numbers-answered e p
 
 -- ---- who is live stays live, and nobody else is
 

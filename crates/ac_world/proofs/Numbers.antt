@@ -5,22 +5,24 @@ use Rattle.std.specs.List.{AllByRecursion}
 use Rattle.std.specs.Map.{values_of}
 use Rattle.pv_value.specs.Plain.{Plain}
 use Rattle.ds_space.specs.Spaces.{Rows, changed, has_row}
-use Rattle.ds_space.specs.Wants.{wants}
 use Rattle.ds_space.specs.declared.space.SpaceEvent.{SpaceEvent}
 use Rattle.ds_space.specs.declared.space.SpaceEvent.TheVariants.{Add, Gone}
 use Rattle.ds_space.specs.declared.space.Change.{Change}
 use Rattle.ds_space.specs.declared.space.Change.TheVariants.{Left, Came}
-use Rattle.ds_space.specs.Fans.{fan_of}
+use Rattle.ds_space.specs.declared.space.Fanned.{Fanned}
 use Rattle.ac_table.specs.declared.batches.Event.{Event}
 use Rattle.ac_table.specs.declared.batches.Event.TheVariants.{Assert, Retract, Message, Sync}
 use Rattle.ac_table.specs.Tables.{Actor, TableState, find_actor, is_live, placed, joined, ended, popped}
 use Rattle.ac_table.specs.Faults.{actor_fault}
 use Rattle.ac_table.specs.declared.TableFault.{TableFault}
 use Rattle.ac_table.specs.declared.TableFault.TheVariants.{NoActor}
-use Rattle.ac_world.specs.Outboxes.{Outbox, Plan, committed, posted}
-use Rattle.ac_world.specs.Worlds.{IsWorld, first_actors}
-use Rattle.ac_world.specs.Turns.{Turning, Aim, drop_met, handle_for, came_at, aim_of}
-use Rattle.ac_world.specs.Turns.{changed_by, all_changed, with_rows, changes, regot, applied, taken_in}
+use Rattle.ac_world.specs.Outboxes.{Outbox, Plan, plan_over, committed, posted}
+use Rattle.ac_world.specs.Worlds.{IsWorld, Resident, first_actors}
+use Rattle.ac_world.specs.declared.aims.Aim.{Aim}
+use Rattle.ac_world.specs.Behaviours.{Behaviour}
+use Rattle.ac_world.specs.Systems.{changes}
+use Rattle.ac_world.specs.Turns.{Turning, drop_met, handle_for, came_at}
+use Rattle.ac_world.specs.Turns.{changed_by, all_changed, with_rows, regot, applied, taken_in}
 use Rattle.ac_world.specs.Turns.{passed_on, turned_by, all_turned}
 use Rattle.ac_world.proofs.Lives.{numbers, numbers-dropped, numbers-committed, numbers-popped, numbers-posted}
 use Rattle.ac_world.proofs.Lives.{numbers-say_all, numbers-answer_to, world_from_numbers, live-popped}
@@ -41,51 +43,52 @@ numbers-came_at : (a : ℕ) (k : Plain) (aim : Option Aim) (t : Turning)
 numbers-came_at a k None t = refl
 numbers-came_at a k (Some aim) t = refl
 
-pub numbers-changed_by : (a : ℕ) (c : Change) (t : Turning)
-    → numbers (changed_by a c t).plan.table ≡ numbers t.plan.table
-numbers-changed_by a (Left k) t = numbers-drop_met a (handle_for k t.seat.met) t.plan
-numbers-changed_by a (Came k) t = numbers-came_at a k (aim_of k) t
+pub numbers-changed_by : (y : Behaviour) (a : ℕ) (c : Change) (t : Turning)
+    → numbers (changed_by y a c t).plan.table ≡ numbers t.plan.table
+numbers-changed_by y a (Left k) t = numbers-drop_met a (handle_for k t.resident.handles) t.plan
+numbers-changed_by y a (Came k) t = numbers-came_at a k (y.aim k) t
 
-pub numbers-all_changed : (a : ℕ) (cs : List Change) (t : Turning)
-    → numbers (all_changed a cs t).plan.table ≡ numbers t.plan.table
-numbers-all_changed a [] t = refl
-numbers-all_changed a (c ∷ cs) t = numbers-all_changed a cs (changed_by a c t) ∙ numbers-changed_by a c t
+pub numbers-all_changed : (y : Behaviour) (a : ℕ) (cs : List Change) (t : Turning)
+    → numbers (all_changed y a cs t).plan.table ≡ numbers t.plan.table
+numbers-all_changed y a [] t = refl
+numbers-all_changed y a (c ∷ cs) t = numbers-all_changed y a cs (changed_by y a c t) ∙ numbers-changed_by y a c t
 
-numbers-regot : (a : ℕ) (rows : Rows) (t : Turning) → numbers (regot a rows t).plan.table ≡ numbers t.plan.table
-numbers-regot a rows t =
-    numbers-all_changed a (changes (wants (values_of t.seat.got)) (wants (values_of rows))) (with_rows rows t)
+numbers-regot : (y : Behaviour) (a : ℕ) (rows : Rows) (t : Turning)
+    → numbers (regot y a rows t).plan.table ≡ numbers t.plan.table
+numbers-regot y a rows t =
+    numbers-all_changed y a (changes (y.keys (values_of t.resident.got)) (y.keys (values_of rows))) (with_rows rows t)
 
-numbers-applied : (a from : ℕ) (e : SpaceEvent) (t : Turning)
-    → numbers (applied a from e t).plan.table ≡ numbers t.plan.table
-numbers-applied a from (Add h v) t =
+numbers-applied : (y : Behaviour) (a from : ℕ) (e : SpaceEvent) (t : Turning)
+    → numbers (applied y a from e t).plan.table ≡ numbers t.plan.table
+numbers-applied y a from (Add h v) t =
     if_same (λ (t : Turning). numbers t.plan.table) (numbers t.plan.table) _ _ _ refl
-    (numbers-regot a (changed t.seat.got (Add h v)) t)
-numbers-applied a from (Gone h) t = numbers-regot a (changed t.seat.got (Gone h)) t
+    (numbers-regot y a (changed t.resident.got (Add h v)) t)
+numbers-applied y a from (Gone h) t = numbers-regot y a (changed t.resident.got (Gone h)) t
 
-numbers-taken_in : (a from h : ℕ) (v : Plain) (t : Turning)
-    → numbers (taken_in a from h v t).plan.table ≡ numbers t.plan.table
-numbers-taken_in a from h v t =
-    if_same (λ (t : Turning). numbers t.plan.table) (numbers t.plan.table) (has_row h t.seat.got) t
-    (applied a from (Add h v) t) refl (numbers-applied a from (Add h v) t)
+numbers-taken_in : (y : Behaviour) (a from h : ℕ) (v : Plain) (t : Turning)
+    → numbers (taken_in y a from h v t).plan.table ≡ numbers t.plan.table
+numbers-taken_in y a from h v t =
+    if_same (λ (t : Turning). numbers t.plan.table) (numbers t.plan.table) (has_row h t.resident.got) t
+    (applied y a from (Add h v) t) refl (numbers-applied y a from (Add h v) t)
 
-numbers-passed_on : (from : ℕ) (v : Plain) (t : Turning)
-    → numbers (passed_on from v t).plan.table ≡ numbers t.plan.table
-numbers-passed_on from v t =
-    if_same (λ (t : Turning). numbers t.plan.table) (numbers t.plan.table) _ _ _ refl
-    (numbers-say_all (fan_of (values_of t.seat.got) v) t.plan)
+numbers-passed_on : (from : ℕ) (fs : List Fanned) (t : Turning)
+    → numbers (passed_on from fs t).plan.table ≡ numbers t.plan.table
+numbers-passed_on from fs t =
+    if_same (λ (t : Turning). numbers t.plan.table) (numbers t.plan.table) _ _ _ refl (numbers-say_all fs t.plan)
 
-pub numbers-turned_by : (a from : ℕ) (e : Event) (t : Turning)
-    → numbers (turned_by a from e t).plan.table ≡ numbers t.plan.table
-numbers-turned_by a from (Assert h entity v) t = numbers-taken_in a from h v t
-numbers-turned_by a from (Retract h entity) t = numbers-applied a from (Gone h) t
-numbers-turned_by a from (Message entity v) t = numbers-passed_on from v t
-numbers-turned_by a from (Sync entity peer) t = numbers-answer_to peer t.plan
+pub numbers-turned_by : (y : Behaviour) (a from : ℕ) (e : Event) (t : Turning)
+    → numbers (turned_by y a from e t).plan.table ≡ numbers t.plan.table
+numbers-turned_by y a from (Assert h entity v) t = numbers-taken_in y a from h v t
+numbers-turned_by y a from (Retract h entity) t = numbers-applied y a from (Gone h) t
+numbers-turned_by y a from (Message entity v) t =
+    numbers-passed_on from (y.fan (values_of t.resident.got) v) t
+numbers-turned_by y a from (Sync entity peer) t = numbers-answer_to peer t.plan
 
-pub numbers-all_turned : (a from : ℕ) (es : List Event) (t : Turning)
-    → numbers (all_turned a from es t).plan.table ≡ numbers t.plan.table
-numbers-all_turned a from [] t = refl
-numbers-all_turned a from (e ∷ es) t =
-    numbers-all_turned a from es (turned_by a from e t) ∙ numbers-turned_by a from e t
+pub numbers-all_turned : (y : Behaviour) (a from : ℕ) (es : List Event) (t : Turning)
+    → numbers (all_turned y a from es t).plan.table ≡ numbers t.plan.table
+numbers-all_turned y a from [] t = refl
+numbers-all_turned y a from (e ∷ es) t =
+    numbers-all_turned y a from es (turned_by y a from e t) ∙ numbers-turned_by y a from e t
 
 -- ---- an actor that joins, and one that ends
 
@@ -162,6 +165,14 @@ pub world_sent : (a n : ℕ) (p : Plan) (s t : TableState) → s ≡ committed a
     → IsWorld n s
 world_sent a n p s t is same all =
     world_from_numbers n s t (ap numbers is ∙ numbers-committed a p ∙ same) all
+
+pub world_turned : (y : Behaviour) (a from n : ℕ) (es : List Event) (r : Resident) (t : Turning) (s u : TableState)
+    → t ≡ all_turned y a from es (record { resident = r; plan = plan_over u; spreads = [] }) → s ≡ committed a t.plan
+    → IsWorld n u → IsWorld n s
+world_turned y a from n es r t s u turned is all =
+    let start : Turning = record { resident = r; plan = plan_over u; spreads = [] } in
+    world_sent a n t.plan s u is
+    (ap (λ (x : Turning). numbers x.plan.table) turned ∙ numbers-all_turned y a from es start) all
 
 -- ---- an actor's turn begins
 

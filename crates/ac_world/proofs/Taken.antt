@@ -1,47 +1,138 @@
--- A dataspace, and what was delivered to another actor, is taken out of its list and put back after a turn.
-use Rattle.std.proofs.Common.{◌≡◌, ℕ, List, [], ap, ◌∙◌, Option, unwrap_or}
+-- A dataspace, and what was delivered to a connection, is taken out of its list and put back after a turn.
+use Rattle.std.proofs.Common.{◌≡◌, ℕ, zero, suc, ◌<◌, List, [], ◌∷◌, map, Bool, true, false, cond, Option, Some, None}
+use Rattle.std.proofs.Common.{option_map, unwrap_or, refl, ap, sym, ◌∙◌, arith, Ordering, Less, Equal, Greater}
+use Rattle.std.proofs.lemmas.Bool.Decides.{nat_tests}
 use Rattle.std.specs.BTreeMap.{is_at, insert_entry}
 use Rattle.std.specs.List.Sorted.{IsStrictlySortedBy}
 use Rattle.std.specs.Map.{keys_of, remove_entry}
-use Rattle.std.specs.Ordering.{nat_cmp}
+use Rattle.std.specs.Ordering.{nat_cmp, match_ordering}
+use Rattle.gk_sturdy.specs.declared.bound.Binding.{Binding}
+use Rattle.ds_space.specs.Spaces.{Rows}
 use Rattle.ac_table.specs.declared.batches.Event.{Event}
 use Rattle.ac_table.specs.declared.batches.Batch.{Batch}
 use Rattle.ac_table.specs.Tables.{TableState}
+use Rattle.ac_world.specs.declared.residents.Resident.{Resident as ResidentBy}
 use Rattle.ac_world.specs.declared.spreads.Spread.{Spread}
+use Rattle.ac_world.specs.Behaviours.{Behaviour, dataspace, behaviour_of}
+use Rattle.ac_world.specs.Keeping.{resident_by, residents_by}
 use Rattle.ac_world.specs.Outboxes.{Plan, plan_over, committed}
-use Rattle.ac_world.specs.Worlds.{WorldState, Seat, Deliveries, no_seat, entry_of, all_delivered}
-use Rattle.ac_world.specs.Turns.{Turning, begin_turn, all_turned, deliver, space_turn}
+use Rattle.ac_world.specs.Worlds.{WorldState, Resident, Deliveries, no_resident, entry_of, with_entry, all_delivered}
+use Rattle.ac_world.specs.Turns.{Turning, begin_turn, end_turn, all_turned, deliver, system_turn}
 use Rattle.ac_world.specs.Lemmas.Entries.{back}
 
-pub deliver_is : (a : ℕ) (es : List Event) (w : WorldState) (less new : List (ℕ × Deliveries))
-    (taken : Option Deliveries) (was got : Deliveries) → IsStrictlySortedBy nat_cmp (keys_of w.held)
-    → less ≡ remove_entry (is_at (nat_cmp a)) w.held → taken ≡ entry_of a w.held → was ≡ unwrap_or taken []
+-- what was delivered after more events
+pub delivered_is : (a : ℕ) (es : List Event) (held less new : List (ℕ × Deliveries))
+    (taken : Option Deliveries) (was got : Deliveries) → IsStrictlySortedBy nat_cmp (keys_of held)
+    → less ≡ remove_entry (is_at (nat_cmp a)) held → taken ≡ entry_of a held → was ≡ unwrap_or taken []
     → got ≡ all_delivered es was → new ≡ insert_entry nat_cmp less a got
-    → record { opened = w.opened; table = w.table; spaces = w.spaces; held = new } ≡ deliver a es w
-deliver_is a es w less new taken was got ascend less_is taken_is was_is got_is is =
-    let held = back a got _ w.held less new ascend less_is is
-    (got_is ∙ ap (all_delivered es) (was_is ∙ ap (λ (o : Option Deliveries). unwrap_or o []) taken_is)) in
-    λ i. record { opened = w.opened; table = w.table; spaces = w.spaces; held = held i }
+    → new ≡ with_entry a (all_delivered es (unwrap_or (entry_of a held) [])) held
+delivered_is a es held less new taken was got ascend less_is taken_is was_is got_is is =
+    back a got _ held less new ascend less_is is
+    (got_is ∙ ap (all_delivered es) (was_is ∙ ap (λ (o : Option Deliveries). unwrap_or o []) taken_is))
 
-pub turned_is : (a from : ℕ) (es items : List Event) (w : WorldState) (taken : Option Seat) (seat : Seat) (plan : Plan)
-    (spreads : List Spread) (t u : Turning) → taken ≡ entry_of a w.spaces → seat ≡ unwrap_or taken no_seat
-    → plan ≡ plan_over w.table → spreads ≡ [] → items ≡ es
-    → t ≡ u → u ≡ all_turned a from items (record { seat = seat; plan = plan; spreads = spreads })
-    → t ≡ all_turned a from es (begin_turn a w)
-turned_is a from es items w taken seat plan spreads t u taken_is seat_is plan_is nobody all seen is =
-    let seat_was = seat_is ∙ ap (λ (o : Option Seat). unwrap_or o no_seat) taken_is in
-    let start : record { seat = seat; plan = plan; spreads = spreads } ≡ begin_turn a w =
-    λ i. record { seat = seat_was i; plan = plan_is i; spreads = nobody i } in
-    seen ∙ is
-    ∙ ap (λ (xs : List Event). all_turned a from xs (record { seat = seat; plan = plan; spreads = spreads })) all
-    ∙ ap (all_turned a from es) start
+-- ---- the dataspaces, as contracts see them
 
-pub space_turn_is : (a : ℕ) (b : Batch) (w : WorldState) (t : Turning) (table : TableState)
-    (less new : List (ℕ × Seat)) → IsStrictlySortedBy nat_cmp (keys_of w.spaces)
-    → less ≡ remove_entry (is_at (nat_cmp a)) w.spaces → new ≡ insert_entry nat_cmp less a t.seat
-    → table ≡ committed a t.plan → t ≡ all_turned a b.from b.events (begin_turn a w)
-    → record { opened = w.opened; table = table; spaces = new; held = w.held } ≡ (space_turn a b w).world
-space_turn_is a b w t table less new ascend less_is is table_is turned =
-    let spaces = back a t.seat _ w.spaces less new ascend less_is is (ap (λ (t : Turning). t.seat) turned) in
-    let after = table_is ∙ ap (λ (t : Turning). committed a t.plan) turned in
-    λ i. record { opened = w.opened; table = after i; spaces = spaces i; held = w.held }
+abbrev seen : ResidentBy Rows → Resident
+seen r = resident_by (λ rows. rows) r
+
+seen_with : (a : ℕ) (r : ResidentBy Rows) (es : List (ℕ × ResidentBy Rows))
+    → residents_by (with_entry a r es) ≡ with_entry a (seen r) (residents_by es)
+seen_with a r [] = refl
+seen_with a r (e ∷ es) = by (nat_cmp a e.0) (seen_with a r es)
+  where
+    by : (o : Ordering) → residents_by (with_entry a r es) ≡ with_entry a (seen r) (residents_by es)
+        → residents_by (match_ordering o ((a, r) ∷ e ∷ es) ((e.0, r) ∷ es) (e ∷ with_entry a r es))
+        ≡ match_ordering o ((a, seen r) ∷ residents_by (e ∷ es)) ((e.0, seen r) ∷ residents_by es)
+        ((e.0, seen e.1) ∷ with_entry a (seen r) (residents_by es))
+    by Less rest = refl
+    by Equal rest = refl
+    by Greater rest = ap (λ l. (e.0, seen e.1) ∷ l) rest
+
+seen_found : (a : ℕ) (es : List (ℕ × ResidentBy Rows))
+    → entry_of a (residents_by es) ≡ option_map seen (entry_of a es)
+seen_found a [] = refl
+seen_found a (e ∷ es) = by (is_at (nat_cmp a) e.0) (seen_found a es)
+  where
+    by : (b : Bool) → entry_of a (residents_by es) ≡ option_map seen (entry_of a es)
+        → cond b (Some (seen e.1)) (entry_of a (residents_by es)) ≡ option_map seen (cond b (Some e.1) (entry_of a es))
+    by true rest = refl
+    by false rest = rest
+
+-- the gatekeeper stands before them
+behind : (a : ℕ) → 0 < a → nat_cmp a 0 ≡ Greater
+behind a some = grind (arith, nat_tests, some)
+
+with_behind : (a : ℕ) (x g : Resident) (es : List (ℕ × Resident)) → 0 < a
+    → with_entry a x ((0, g) ∷ es) ≡ (0, g) ∷ with_entry a x es
+with_behind a x g es some =
+    ap (λ o. match_ordering o ((a, x) ∷ (0, g) ∷ es) ((0, x) ∷ es) ((0, g) ∷ with_entry a x es)) (behind a some)
+
+found_behind : (a : ℕ) (g : Resident) (es : List (ℕ × Resident)) → 0 < a → entry_of a ((0, g) ∷ es) ≡ entry_of a es
+found_behind a g es some = by (is_at (nat_cmp a) 0) (grind (arith, nat_tests, some))
+  where
+    by : (b : Bool) → b ≡ false → cond b (Some g) (entry_of a es) ≡ entry_of a es
+    by true is = absurd cc
+    by false is = refl
+
+-- ---- a dataspace's turn
+
+module _ (opened : ℕ) (bindings : List Binding) (table : TableState) (g : Resident)
+    (spaces : List (ℕ × ResidentBy Rows)) (held : List (ℕ × Deliveries)) (a : ℕ) (some : 0 < a) where
+  abbrev world : WorldState
+  world = record {
+    opened = opened;
+    bindings = bindings;
+    table = table;
+    residents = (0, g) ∷ residents_by spaces;
+    held = held;
+  }
+
+  is_dataspace : behaviour_of bindings a ≡ dataspace
+  is_dataspace = by a some
+    where
+      by : (b : ℕ) → 0 < b → behaviour_of bindings b ≡ dataspace
+      by zero less = absurd (omega (arith, less))
+      by (suc b) less = refl
+
+  abbrev turning_with : Behaviour → Resident → Batch → Turning
+  turning_with y r b =
+      all_turned y a b.from b.events (record { resident = r; plan = plan_over table; spreads = [] })
+
+  -- the turn begins with what was taken out
+  pub begun : (b : Batch) (taken : Option (ResidentBy Rows)) (r : ResidentBy Rows) → taken ≡ entry_of a spaces
+      → seen r ≡ unwrap_or (option_map seen taken) no_resident
+      → turning_with dataspace (seen r) b ≡ all_turned (behaviour_of bindings a) a b.from b.events (begin_turn a world)
+  begun b taken r taken_is r_is =
+      let was : seen r ≡ unwrap_or (entry_of a world.residents) no_resident =
+      r_is ∙ ap (λ (o : Option (ResidentBy Rows)). unwrap_or (option_map seen o) no_resident) taken_is
+      ∙ ap (λ (o : Option Resident). unwrap_or o no_resident)
+      (sym (found_behind a g (residents_by spaces) some ∙ seen_found a spaces)) in
+      λ i. turning_with (sym is_dataspace i) (was i) b
+
+  pub space_turn_is : (b : Batch) (taken : Option (ResidentBy Rows)) (r after : ResidentBy Rows) (t : Turning)
+      (table_after : TableState) (less new : List (ℕ × ResidentBy Rows)) → IsStrictlySortedBy nat_cmp (keys_of spaces)
+      → less ≡ remove_entry (is_at (nat_cmp a)) spaces → taken ≡ entry_of a spaces
+      → seen r ≡ unwrap_or (option_map seen taken) no_resident → t ≡ turning_with dataspace (seen r) b
+      → seen after ≡ t.resident → new ≡ insert_entry nat_cmp less a after → table_after ≡ committed a t.plan
+      → record {
+        opened = opened;
+        bindings = bindings;
+        table = table_after;
+        residents = (0, g) ∷ residents_by new;
+        held = held;
+      } ≡ (system_turn a b world).world
+  space_turn_is b taken r after t table_after less new ascend less_is taken_is r_is t_is after_is new_is table_is =
+      let whole = t_is ∙ begun b taken r taken_is r_is in
+      let put : new ≡ with_entry a after spaces = back a after after spaces less new ascend less_is new_is refl in
+      let residents : (0, g) ∷ residents_by new ≡ with_entry a t.resident world.residents =
+      ap (λ l. (0, g) ∷ l) (ap residents_by put ∙ seen_with a after spaces
+      ∙ ap (λ x. with_entry a x (residents_by spaces)) after_is)
+      ∙ sym (with_behind a t.resident g (residents_by spaces) some) in
+      (λ i. record {
+        opened = opened;
+        bindings = bindings;
+        table = table_is i;
+        residents = residents i;
+        held = held;
+      })
+      ∙ ap (λ (u : Turning). (end_turn a world u).world) whole

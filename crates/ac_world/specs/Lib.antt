@@ -1,5 +1,10 @@
+pub mod Aims
+pub mod Behaviours
+pub mod Keeping
 pub mod Lemmas
 pub mod Outboxes
+pub mod Staying
 pub mod Sums
+pub mod Systems
 pub mod Turns
 pub mod Worlds

@@ -7,6 +7,8 @@ use Rattle.std.specs.BTreeMap.{insert_entry, is_at}
 use Rattle.std.specs.Ordering.{nat_cmp}
 use Rattle.pv_value.specs.Plain.{Plain}
 use Rattle.ds_space.specs.Spaces.{Rows}
+use Rattle.gk_sturdy.specs.declared.bound.Binding.{Binding}
+use Rattle.gk_sturdy.specs.Bindings.{with_binding}
 use Rattle.ac_table.specs.declared.batches.Event.{Event}
 use Rattle.ac_table.specs.declared.batches.Event.TheVariants.{Assert, Retract, Message, Sync}
 use Rattle.ac_table.specs.Tables.{TableState, opening, joined, is_live, ended, rows_of}
@@ -27,22 +29,28 @@ actor_of k = 16 + k
 
 -- ---- the state
 
--- a dataspace: the rows that were delivered to it, a handle and a value each, and for each key that it wants, and that
--- its reference's caveats let pass, the handle of its own row for it
-pub record Seat : Type 0 where
+-- a system actor: the rows that were delivered to it, a handle and a value each, and for each key that it wants, and
+-- that its reference's caveats let pass, the handle of its own row for it
+pub record Resident : Type 0 where
   pub got : Rows
-  pub met : List (Plain × ℕ)
+  pub handles : List (Plain × ℕ)
 
--- what was delivered to another actor, by handle
+-- the gatekeeper's part: what is bound, and the rows that were delivered to it
+pub record Gatekeeping : Type 0 where
+  pub bindings : List Binding
+  pub got : Rows
+
+-- what was delivered to a connection, by handle
 abbrev pub Deliveries : Type 0
 Deliveries = List (ℕ × Held)
 
 -- The table has the next handle, the rows, and the live actors with their inboxes. A dataspace to which nothing was
--- ever delivered may stand in no list, and so may another actor.
+-- ever delivered may stand in no list, and so may a connection.
 pub record WorldState : Type 0 where
   pub opened : ℕ
+  pub bindings : List Binding
   pub table : TableState
-  pub spaces : List (ℕ × Seat)
+  pub residents : List (ℕ × Resident)
   pub held : List (ℕ × Deliveries)
 
 abbrev pub entry_of : {X : Type 0} → ℕ → List (ℕ × X) → Option X
@@ -54,11 +62,11 @@ with_entry a x es = insert_entry nat_cmp es a x
 abbrev pub without_entry : {X : Type 0} → ℕ → List (ℕ × X) → List (ℕ × X)
 without_entry a es = remove_entry (is_at (nat_cmp a)) es
 
-abbrev pub no_seat : Seat
-no_seat = record { got = []; met = [] }
+abbrev pub no_resident : Resident
+no_resident = record { got = []; handles = [] }
 
-abbrev pub seat_of : ℕ → WorldState → Seat
-seat_of a w = unwrap_or (entry_of a w.spaces) no_seat
+abbrev pub resident_of : ℕ → WorldState → Resident
+resident_of a w = unwrap_or (entry_of a w.residents) no_resident
 
 abbrev pub held_by : ℕ → WorldState → Deliveries
 held_by a w = unwrap_or (entry_of a w.held) []
@@ -71,7 +79,13 @@ first_actors (suc n) = joined n (first_actors n)
 
 -- the gatekeeper and the dataspaces are live
 abbrev pub beginning : WorldState
-beginning = record { opened = 0; table = first_actors 9; spaces = []; held = [] }
+beginning = record {
+  opened = 0;
+  bindings = [];
+  table = first_actors 9;
+  residents = (0, no_resident) ∷ [];
+  held = [];
+}
 
 -- ---- deliveries
 
@@ -87,6 +101,10 @@ all_delivered [] got = got
 all_delivered (e ∷ es) got = all_delivered es (delivered e got)
 
 -- ---- the changes that the hub asks for
+
+-- a reference is bound, where its oid isn't
+abbrev pub binding : Binding → WorldState → WorldState
+binding b w = record w { bindings = with_binding b w.bindings }
 
 -- the next connection is live
 abbrev pub arrived : WorldState → WorldState

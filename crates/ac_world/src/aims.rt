@@ -1,6 +1,6 @@
 //! What arrives of what is sent through references, and where.
 ghost use Rattle.std.specs.Prelude.{◌≡◌, IfOk, option_copied};
-ghost use Rattle.ac_world.specs.Turns.{aim_by, aim_at, observer_in, aim_for, aim_of};
+ghost use Rattle.ac_world.specs.Aims.{aim_by, aim_at, observer_in, aim_for};
 
 use ds_space::Reference;
 use pv_value::{NoMemory, Node, Value};
@@ -16,7 +16,7 @@ pub struct Aim {
 }
 
 /// What the caveats of a reference let pass of a value. No guard lets anything pass.
-fn aim_by(alloc: Global, value: &Value, cap: &Cap) -> Result<Option<Aim>, NoMemory>
+pub(crate) fn aim_by(alloc: Global, value: &Value, cap: &Cap) -> Result<Option<Aim>, NoMemory>
     ensures { IfOk result (λ aim. aim ≡ aim_by value.now cap.now) }
 {
     let Some(value) = pass(alloc, cap.caveats.as_slice(), value, &NoNames)? else {
@@ -41,7 +41,7 @@ pub fn aim_at(alloc: Global, value: &Value, reference: &Value) -> Result<Option<
 }
 
 /// The reference that an observation `<Observe p #:r>` names, r. It may be the value of none.
-fn observer_in(observation: &Value) -> Option<&Value>
+pub(crate) fn observer_in(observation: &Value) -> Option<&Value>
     ensures { option_copied result ≡ observer_in observation.now }
 {
     let Node::Rec(record) = &observation.node else {
@@ -64,17 +64,4 @@ pub fn aim_for(alloc: Global, value: &Value, observation: &Value) -> Result<Opti
         Some(observer) => aim_at(alloc, value, observer),
         None => Ok(None),
     }
-}
-
-/// What arrives of what a key `[o c]` wants, c, at the object that o names.
-pub fn aim_of(alloc: Global, key: &Value) -> Result<Option<Aim>, NoMemory>
-    ensures { IfOk result (λ aim. aim ≡ aim_of key.now) }
-{
-    let Node::Seq(items) = &key.node else {
-        return Ok(None);
-    };
-    let [observation, captures] = items.as_slice() else {
-        return Ok(None);
-    };
-    aim_for(alloc, captures, observation)
 }

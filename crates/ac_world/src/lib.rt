@@ -1,4 +1,5 @@
-//! The world of the machine: live actors, rows and inboxes, the turns of dataspaces, and endings.
+//! The world of the machine: live actors, rows and inboxes, the turns of system actors, and
+//! endings.
 //!
 //! What contracts see of a [`World`] is the state of `specs/Worlds.antt`; its turns are those of
 //! `specs/Turns.antt`, for every body of [`ds_space::Space`].
@@ -7,16 +8,21 @@
 mod actors;
 mod acts;
 mod aims;
+mod dataspaces;
+mod gatekeeper;
 mod held;
 mod outboxes;
 mod plans;
-mod seats;
+mod readings;
+mod residents;
 mod spreads;
 mod sums;
+mod systems;
 mod turning;
 mod turns;
 mod world;
 
+pub use actors::{BEFORE_CONNECTIONS, FIRST_CONNECTION};
 pub use acts::Act;
 pub use aims::Aim;
 pub use held::Held;

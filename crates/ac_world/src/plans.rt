@@ -4,8 +4,8 @@ ghost use Rattle.pv_value.specs.Plain.{sequence, plains};
 ghost use Rattle.ac_table.specs.Tables.{is_live};
 ghost use Rattle.ac_world.specs.Outboxes.{plan_over, put, dropped, said, committed, acted};
 ghost use Rattle.ac_world.specs.Outboxes.{all_acted, owns};
-ghost use Rattle.ac_world.specs.Turns.{aim_for, say_at, say_all, answer_to, answered};
-ghost use Rattle.ac_world.specs.Turns.{all_answered};
+ghost use Rattle.ac_world.specs.Aims.{aim_for};
+ghost use Rattle.ac_world.specs.Turns.{say_at, say_all, answer_to};
 
 use crate::acts::Act;
 use crate::aims::{Aim, aim_at, aim_for};
@@ -130,26 +130,6 @@ impl Plan {
     {
         for fanned in list {
             self.say_fanned(alloc, fanned)?;
-        }
-        Ok(())
-    }
-
-    /// What a system actor that is no dataspace does at an event: it answers a sync.
-    fn answer_event(&mut self, alloc: Global, event: &Event) -> Result<(), NoMemory>
-        ensures { OnOk result (self.new ≡ answered event.now self.old) }
-    {
-        match event {
-            Event::Sync(_, peer) => self.answer(alloc, peer),
-            _ => Ok(()),
-        }
-    }
-
-    /// What it does at the events of a batch.
-    pub fn answer_all(&mut self, alloc: Global, events: &[Event]) -> Result<(), NoMemory>
-        ensures { OnOk result (self.new ≡ all_answered events.now self.old) }
-    {
-        for event in events {
-            self.answer_event(alloc, event)?;
         }
         Ok(())
     }

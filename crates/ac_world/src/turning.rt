@@ -1,47 +1,39 @@
-//! A dataspace's turn, event by event.
+//! The turn of a system actor, event by event.
 ghost use Rattle.std.specs.Prelude.{◌≡◌, true, IfOk, OnOk};
 ghost use Rattle.ac_table.specs.Tables.{is_live};
 ghost use Rattle.ds_space.specs.Spaces.{IsNew};
+ghost use Rattle.ac_world.specs.Keeping.{TurnsBy};
 ghost use Rattle.ac_world.specs.Turns.{left, came, changed_by, all_changed, applied, taken_in};
-ghost use Rattle.ac_world.specs.Turns.{passed_on, turned_by, all_turned};
+ghost use Rattle.ac_world.specs.Turns.{passes_on, turned_by, all_turned};
 
 use crate::actors::{FIRST_CONNECTION, FIRST_OTHER};
-use crate::aims::{Aim, aim_of};
+use crate::aims::Aim;
 use crate::plans::Plan;
-use crate::seats::Seat;
+use crate::residents::Resident;
 use crate::spreads::Spreads;
+use crate::systems::System;
 use ac_table::Event;
-use ds_space::{Applied, Change, Changes, Fan, Space, SpaceEvent};
+use ds_space::{Applied, Change, Changes, Fan, SpaceEvent};
 use pv_value::{NoMemory, Value};
 use std::alloc::Global;
-use std::marker::Model;
 
-/// What a dataspace has and does, and who spread.
+/// What a system actor has and does, and who spread.
 #[derive(Drop)]
-pub struct Turning<S: Space + Drop> {
-    pub seat: Seat<S>,
+pub struct Turning<Y: System + Drop> {
+    pub resident: Resident<Y>,
     pub plan: Plan,
     pub spreads: Spreads,
 }
 
-impl<S: Space + Drop> Model for Turning<S> {
-    ghost use Rattle.std.specs.Coded.{codes};
-    ghost use Rattle.pv_value.specs.Lemmas.Coded.{plain_code};
-    ghost use Rattle.ac_world.specs.Turns.{Turning as TurningOf};
-
-    ghost Value = { TurningOf };
-
-    ghost coded = { Prim.hlevel (codes, plain_code) };
-
-    ghost view = { λ t. record { seat = t.seat; plan = t.plan; spreads = t.spreads } };
-}
-
-impl<S: Space + Drop> Turning<S> {
+impl<Y: System + Drop> Turning<Y> {
     /// A key is wanted no more.
     fn leave(&mut self, actor: u32, key: &Value) -> Result<(), NoMemory>
-        ensures { OnOk result (self.new ≡ left actor key.now self.old) }
+        ensures turns { OnOk result (TurnsBy Y.rows Y.behaviour self.old
+            (λ y. left actor key.now) self.new) }
+        ensures bound { OnOk result (Y.bound self.new.resident.system
+            ≡ Y.bound self.old.resident.system) }
     {
-        match self.seat.met.remove(key) {
+        match self.resident.handles.remove(key) {
             Some(handle) => self.plan.drop_row(actor, handle),
             None => Ok(()),
         }
@@ -50,20 +42,26 @@ impl<S: Space + Drop> Turning<S> {
     /// A key is wanted now. Where the caveats refuse what is wanted, nothing comes of it.
     fn come(&mut self, alloc: Global, actor: u32, key: Value) -> Result<(), NoMemory>
         requires { is_live actor self.old.plan.table ≡ true }
-        ensures { OnOk result (self.new ≡ came actor key self.old) }
+        ensures turns { OnOk result (TurnsBy Y.rows Y.behaviour self.old
+            (λ y. came y actor key) self.new) }
+        ensures bound { OnOk result (Y.bound self.new.resident.system
+            ≡ Y.bound self.old.resident.system) }
     {
-        let Some(Aim { at, value }) = aim_of(alloc, &key)? else {
+        let Some(Aim { at, value }) = self.resident.system.aim(alloc, &key)? else {
             return Ok(());
         };
         let handle = self.plan.put(actor, (at.actor, at.entity), value)?;
-        self.seat.met.insert(key, handle)?;
+        self.resident.handles.insert(key, handle)?;
         Ok(())
     }
 
     /// One change in what is wanted.
     fn change(&mut self, alloc: Global, actor: u32, change: Change) -> Result<(), NoMemory>
         requires { is_live actor self.old.plan.table ≡ true }
-        ensures { OnOk result (self.new ≡ changed_by actor change self.old) }
+        ensures turns { OnOk result (TurnsBy Y.rows Y.behaviour self.old
+            (λ y. changed_by y actor change) self.new) }
+        ensures bound { OnOk result (Y.bound self.new.resident.system
+            ≡ Y.bound self.old.resident.system) }
     {
         match change {
             Change::Left(key) => self.leave(actor, &key),
@@ -74,7 +72,10 @@ impl<S: Space + Drop> Turning<S> {
     /// What changed in what is wanted.
     fn change_all(&mut self, alloc: Global, actor: u32, changes: Changes) -> Result<(), NoMemory>
         requires { is_live actor self.old.plan.table ≡ true }
-        ensures { OnOk result (self.new ≡ all_changed actor changes.items self.old) }
+        ensures turns { OnOk result (TurnsBy Y.rows Y.behaviour self.old
+            (λ y. all_changed y actor changes.items) self.new) }
+        ensures bound { OnOk result (Y.bound self.new.resident.system
+            ≡ Y.bound self.old.resident.system) }
     {
         for change in changes {
             self.change(alloc, actor, change)?;
@@ -89,34 +90,37 @@ impl<S: Space + Drop> Turning<S> {
         actor: u32,
         from: u32,
         event: SpaceEvent,
-    ) -> Result<Turning<S>, NoMemory>
+    ) -> Result<Turning<Y>, NoMemory>
         requires live { is_live actor self.plan.table ≡ true }
-        requires new { IsNew self.seat.got event }
-        ensures { IfOk result (λ t. t ≡ applied actor from event self) }
+        requires new { IsNew (Y.rows self.resident.system) event }
+        ensures turns { IfOk result (TurnsBy Y.rows Y.behaviour self
+            (λ y. applied y actor from event)) }
+        ensures bound { IfOk result (λ t. Y.bound t.resident.system
+            ≡ Y.bound self.resident.system) }
     {
         let Turning {
-            seat,
+            resident,
             plan,
             mut spreads,
         } = self;
-        let Seat { space, met } = seat;
-        match space.apply(alloc, event)? {
-            Applied::Done(space, changes) => {
-                let seat = Seat { space, met };
+        let Resident { system, handles } = resident;
+        match system.apply(alloc, event)? {
+            Applied::Done(system, changes) => {
+                let resident = Resident { system, handles };
                 let mut turning = Turning {
-                    seat,
+                    resident,
                     plan,
                     spreads,
                 };
                 turning.change_all(alloc, actor, changes)?;
                 Ok(turning)
             }
-            Applied::Over(space, weight) => {
+            Applied::Over(system, weight) => {
                 let ends = from >= FIRST_OTHER && plan.table.live(from);
                 spreads.add(ends, from, weight)?;
-                let seat = Seat { space, met };
+                let resident = Resident { system, handles };
                 Ok(Turning {
-                    seat,
+                    resident,
                     plan,
                     spreads,
                 })
@@ -132,21 +136,27 @@ impl<S: Space + Drop> Turning<S> {
         from: u32,
         handle: u64,
         value: Value,
-    ) -> Result<Turning<S>, NoMemory>
+    ) -> Result<Turning<Y>, NoMemory>
         requires { is_live actor self.plan.table ≡ true }
-        ensures { IfOk result (λ t. t ≡ taken_in actor from handle value self) }
+        ensures turns { IfOk result (TurnsBy Y.rows Y.behaviour self
+            (λ y. taken_in y actor from handle value)) }
+        ensures bound { IfOk result (λ t. Y.bound t.resident.system
+            ≡ Y.bound self.resident.system) }
     {
-        if self.seat.space.has(handle) {
+        if self.resident.system.has(handle) {
             return Ok(self);
         }
         self.apply(alloc, actor, from, SpaceEvent::Add(handle, value))
     }
 
-    /// A message goes to each observation that it matches.
+    /// A message goes to those to whom the actor passes it on.
     fn pass_on(&mut self, alloc: Global, from: u32, message: &Value) -> Result<(), NoMemory>
-        ensures { OnOk result (self.new ≡ passed_on from message.now self.old) }
+        ensures turns { OnOk result (TurnsBy Y.rows Y.behaviour self.old
+            (λ y. passes_on y from message.now) self.new) }
+        ensures bound { OnOk result (Y.bound self.new.resident.system
+            ≡ Y.bound self.old.resident.system) }
     {
-        match self.seat.space.fan(alloc, message)? {
+        match self.resident.system.fan(alloc, message)? {
             Fan::Each(list) => self.plan.say_all(alloc, list),
             Fan::Over(weight) => {
                 let ends = from >= FIRST_CONNECTION && self.plan.table.live(from);
@@ -162,9 +172,12 @@ impl<S: Space + Drop> Turning<S> {
         actor: u32,
         from: u32,
         event: Event,
-    ) -> Result<Turning<S>, NoMemory>
+    ) -> Result<Turning<Y>, NoMemory>
         requires { is_live actor self.plan.table ≡ true }
-        ensures { IfOk result (λ t. t ≡ turned_by actor from event self) }
+        ensures turns { IfOk result (TurnsBy Y.rows Y.behaviour self
+            (λ y. turned_by y actor from event)) }
+        ensures bound { IfOk result (λ t. Y.bound t.resident.system
+            ≡ Y.bound self.resident.system) }
     {
         match event {
             Event::Assert(handle, _, value) => self.take_in(alloc, actor, from, handle, value),
@@ -187,9 +200,12 @@ impl<S: Space + Drop> Turning<S> {
         actor: u32,
         from: u32,
         events: Vec<Event>,
-    ) -> Result<Turning<S>, NoMemory>
+    ) -> Result<Turning<Y>, NoMemory>
         requires { is_live actor self.plan.table ≡ true }
-        ensures { IfOk result (λ t. t ≡ all_turned actor from events.items self) }
+        ensures turns { IfOk result (TurnsBy Y.rows Y.behaviour self
+            (λ y. all_turned y actor from events.items)) }
+        ensures bound { IfOk result (λ t. Y.bound t.resident.system
+            ≡ Y.bound self.resident.system) }
     {
         let mut turning = self;
         for event in events {

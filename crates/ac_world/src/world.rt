@@ -1,24 +1,34 @@
 //! The world and its changes.
 ghost use Rattle.std.specs.Prelude.{◌≡◌, ◌<◌, ◌≤◌, ◌^◌, ◌-◌, ◌+◌, [], min, true, false};
-ghost use Rattle.std.specs.Prelude.{IfOk, OnOk, option_copied, unwrap_or};
+ghost use Rattle.std.specs.Prelude.{IfOk, OnOk, option_copied, option_map, unwrap_or};
+ghost use Rattle.ac_world.specs.Outboxes.{plan_over};
 ghost use Rattle.std.specs.BTreeMap.{IsOrdered};
 ghost use Rattle.std.specs.Ordering.{nat_cmp};
 ghost use Rattle.ac_table.specs.Tables.{is_live, find_row, first_batch, lowest, waiting};
-ghost use Rattle.ac_world.specs.Worlds.{beginning, arrived, sent, ended_of, is_space, no_seat};
-ghost use Rattle.ac_world.specs.Turns.{space_turn, deliver, answer, turn_with, turn, work};
+ghost use Rattle.gk_sturdy.specs.Bindings.{bound};
+ghost use Rattle.ac_world.specs.Behaviours.{dataspace};
+ghost use Rattle.ac_world.specs.Keeping.{resident_by, turning_by};
+ghost use Rattle.ac_world.specs.Worlds.{beginning, binding, arrived, sent, ended_of, no_resident};
+ghost use Rattle.ac_world.specs.Worlds.{is_system};
+ghost use Rattle.ac_world.specs.Turns.{Turning as TurningOf, all_turned, system_turn, deliver};
+ghost use Rattle.ac_world.specs.Turns.{turn_with, turn, work};
 
-use crate::actors::{FIRST_CONNECTION, FIRST_OTHER, is_space};
+use crate::actors::{BEFORE_CONNECTIONS, FIRST_CONNECTION, FIRST_OTHER, GATEKEEPER};
 use crate::acts::Act;
+use crate::dataspaces::Dataspace;
+use crate::gatekeeper::Gatekeeper;
 use crate::held::Deliveries;
 use crate::outboxes::Outbox;
 use crate::plans::Plan;
-use crate::seats::Seat;
+use crate::residents::Resident;
 use crate::spreads::Spreads;
+use crate::systems::System;
 use crate::turning::Turning;
 use crate::turns::Turned;
 use ac_table::{Batch, Event, Row, Table, TableFault};
 use ds_space::Space;
-use pv_value::NoMemory;
+use gk_sturdy::Binding;
+use pv_value::{NoMemory, Value};
 use std::alloc::Global;
 use std::collections::BTreeMap;
 use std::marker::Model;
@@ -28,23 +38,29 @@ use std::marker::Model;
 pub struct World<S: Space + Drop> {
     pub(crate) opened: u32,
     pub(crate) table: Table,
-    pub(crate) spaces: BTreeMap<u32, Seat<S>>,
+    pub(crate) gatekeeper: Resident<Gatekeeper>,
+    pub(crate) spaces: BTreeMap<u32, Resident<Dataspace<S>>>,
     pub(crate) held: BTreeMap<u32, Deliveries>,
 }
 
 impl<S: Space + Drop> Model for World<S> {
     ghost use Rattle.std.specs.Coded.{codes};
     ghost use Rattle.pv_value.specs.Lemmas.Coded.{plain_code};
+    ghost use Rattle.sr_caveat.specs.Lemmas.Coded.{caveat_code};
     ghost use Rattle.ac_world.specs.Worlds.{WorldState, IsWorld};
 
     ghost Value = { WorldState };
 
-    ghost coded = { Prim.hlevel (codes, plain_code) };
+    ghost coded = { Prim.hlevel (codes, plain_code, caveat_code) };
+
+    ghost use Rattle.std.specs.Prelude.{◌∷◌};
+    ghost use Rattle.ac_world.specs.Keeping.{resident_by, residents_by};
 
     ghost view = { λ w. record {
       opened = w.opened;
+      bindings = w.gatekeeper.system.bindings;
       table = w.table;
-      spaces = w.spaces.entries;
+      residents = (0, resident_by (λ g. g.got) w.gatekeeper) ∷ residents_by w.spaces.entries;
       held = w.held.entries;
     } };
 
@@ -63,6 +79,7 @@ impl<S: Space + Drop> World<S> {
         Ok(World {
             opened: 0,
             table,
+            gatekeeper: Resident::new(alloc, Gatekeeper::new(alloc)),
             spaces: BTreeMap::new(alloc),
             held: BTreeMap::new(alloc),
         })
@@ -116,6 +133,21 @@ impl<S: Space + Drop> World<S> {
         self.table.batches()
     }
 
+    /// Whether an oid is bound.
+    pub fn bound(&self, oid: &Value) -> bool
+        ensures { result ≡ bound oid.now self.now.bindings }
+    {
+        self.gatekeeper.system.bindings.has(oid)
+    }
+
+    /// A reference is bound, where its oid isn't. For want of memory the world is gone.
+    pub fn bind(mut self, given: Binding) -> Result<World<S>, NoMemory>
+        ensures { IfOk result (λ w. w ≡ binding given self) }
+    {
+        self.gatekeeper.system.bindings.add(given)?;
+        Ok(self)
+    }
+
     /// The next connection is live; answers its number.
     pub fn arrive(mut self) -> Result<(World<S>, u32), NoMemory>
         requires { self.opened < 2 ^ 31 }
@@ -123,7 +155,7 @@ impl<S: Space + Drop> World<S> {
         ensures number { IfOk result (λ done. done.1 ≡ self.opened + 1) }
     {
         let opened = self.opened + 1;
-        self.table.add_actor(16 + opened)?;
+        self.table.add_actor(BEFORE_CONNECTIONS + opened)?;
         self.opened = opened;
         Ok((self, opened))
     }
@@ -136,6 +168,7 @@ impl<S: Space + Drop> World<S> {
         let World {
             opened,
             table,
+            gatekeeper,
             spaces,
             held,
         } = self;
@@ -144,53 +177,78 @@ impl<S: Space + Drop> World<S> {
         Ok(World {
             opened,
             table: plan.commit(actor)?,
+            gatekeeper,
             spaces,
             held,
         })
     }
 
-    /// A dataspace's turn, its batch taken.
-    fn space_turn(
-        self,
-        alloc: Global,
-        actor: u32,
-        batch: Batch,
-    ) -> Result<(World<S>, Turned), NoMemory>
-        requires { is_live actor self.table ≡ true }
-        ensures world { IfOk result (λ done. done.0 ≡ (space_turn actor batch self).world) }
-        ensures turned { IfOk result (λ done. done.1 ≡ (space_turn actor batch self).turned) }
+    /// The gatekeeper's turn, its batch taken.
+    fn gatekeeper_turn(self, alloc: Global, batch: Batch) -> Result<(World<S>, Turned), NoMemory>
+        requires { is_live 0 self.table ≡ true }
+        ensures world { IfOk result (λ done. done.0 ≡ (system_turn 0 batch self).world) }
+        ensures turned { IfOk result (λ done. done.1 ≡ (system_turn 0 batch self).turned) }
     {
         let World {
             opened,
             table,
-            mut spaces,
+            gatekeeper,
+            spaces,
             held,
         } = self;
-        keeps_its_order(&spaces);
-        let seat = seat_or_new(alloc, spaces.remove(&actor));
-        let turning = Turning {
-            seat,
-            plan: Plan::new(alloc, table),
-            spreads: Spreads::new(alloc),
-        };
-        let Batch { from, events } = batch;
         let Turning {
-            seat,
+            resident,
             plan,
             spreads,
-        } = turning.turn_all(alloc, actor, from, events.into_vec())?;
-        spaces.insert(actor, seat)?;
-        let table = plan.commit(actor)?;
+        } = turned(alloc, GATEKEEPER, gatekeeper, table, batch)?;
         let world = World {
             opened,
-            table,
+            table: plan.commit(GATEKEEPER)?,
+            gatekeeper: resident,
             spaces,
             held,
         };
         Ok((world, Turned::Ran(spreads)))
     }
 
-    /// What an actor that is no dataspace has got after more events.
+    /// The turn of another system actor, its batch taken.
+    fn space_turn(
+        self,
+        alloc: Global,
+        actor: u32,
+        batch: Batch,
+    ) -> Result<(World<S>, Turned), NoMemory>
+        requires live { is_live actor self.table ≡ true }
+        requires other { 0 < actor }
+        ensures world { IfOk result (λ done. done.0 ≡ (system_turn actor batch self).world) }
+        ensures turned { IfOk result (λ done. done.1 ≡ (system_turn actor batch self).turned) }
+    {
+        let World {
+            opened,
+            table,
+            gatekeeper,
+            mut spaces,
+            held,
+        } = self;
+        keeps_its_order(&spaces);
+        let resident = resident_or_new(alloc, spaces.remove(&actor));
+        let Turning {
+            resident,
+            plan,
+            spreads,
+        } = turned(alloc, actor, resident, table, batch)?;
+        spaces.insert(actor, resident)?;
+        let world = World {
+            opened,
+            table: plan.commit(actor)?,
+            gatekeeper,
+            spaces,
+            held,
+        };
+        Ok((world, Turned::Ran(spreads)))
+    }
+
+    /// What a connection has got after more events.
     fn deliver(&mut self, alloc: Global, actor: u32, events: &[Event]) -> Result<(), NoMemory>
         ensures { OnOk result (self.new ≡ deliver actor events.now self.old) }
     {
@@ -201,44 +259,19 @@ impl<S: Space + Drop> World<S> {
         Ok(())
     }
 
-    /// A system actor that is no dataspace answers syncs.
-    fn answer(self, alloc: Global, actor: u32, events: &[Event]) -> Result<World<S>, NoMemory>
-        ensures { IfOk result (λ w. w ≡ answer actor events.now self) }
-    {
-        let World {
-            opened,
-            table,
-            spaces,
-            held,
-        } = self;
-        let mut plan = Plan::new(alloc, table);
-        plan.answer_all(alloc, events)?;
-        let table = plan.commit(actor)?;
-        Ok(World {
-            opened,
-            table,
-            spaces,
-            held,
-        })
-    }
-
-    /// The turn of an actor that is no dataspace, its batch taken.
-    fn other_turn(
+    /// A connection's turn, its batch taken.
+    fn connection_turn(
         mut self,
         alloc: Global,
         actor: u32,
         batch: Batch,
     ) -> Result<(World<S>, Turned), NoMemory>
-        requires { is_space actor ≡ false }
+        requires { is_system actor ≡ false }
         ensures world { IfOk result (λ done. done.0 ≡ (turn_with actor batch self).world) }
         ensures turned { IfOk result (λ done. done.1 ≡ (turn_with actor batch self).turned) }
     {
         self.deliver(alloc, actor, batch.events.as_slice())?;
-        if actor >= FIRST_CONNECTION {
-            return Ok((self, Turned::Taken(batch)));
-        }
-        let world = self.answer(alloc, actor, batch.events.as_slice())?;
-        Ok((world, Turned::Ran(Spreads::new(alloc))))
+        Ok((self, Turned::Taken(batch)))
     }
 
     /// A live actor's turn, its batch taken.
@@ -252,10 +285,12 @@ impl<S: Space + Drop> World<S> {
         ensures world { IfOk result (λ done. done.0 ≡ (turn_with actor batch self).world) }
         ensures turned { IfOk result (λ done. done.1 ≡ (turn_with actor batch self).turned) }
     {
-        if is_space(actor) {
-            self.space_turn(alloc, actor, batch)
+        if actor >= FIRST_CONNECTION {
+            self.connection_turn(alloc, actor, batch)
+        } else if actor == GATEKEEPER {
+            self.gatekeeper_turn(alloc, batch)
         } else {
-            self.other_turn(alloc, actor, batch)
+            self.space_turn(alloc, actor, batch)
         }
     }
 
@@ -282,7 +317,7 @@ impl<S: Space + Drop> World<S> {
         }
     }
 
-    /// An actor that is no dataspace goes, where it is live, with its rows, its inbox and what it
+    /// An actor that isn't always live goes, where it is live, with its rows, its inbox and what it
     /// has got; each live target is told of its rows there.
     pub fn end(mut self, alloc: Global, actor: u32) -> Result<World<S>, NoMemory>
         requires { 9 ≤ actor }
@@ -309,14 +344,45 @@ fn keeps_its_order<V>(map: &BTreeMap<u32, V>)
     let _ = map.len();
 }
 
-/// The dataspace, or one without rows.
-fn seat_or_new<S: Space + Drop>(alloc: Global, seat: Option<Seat<S>>) -> Seat<S>
-    ensures { result ≡ unwrap_or seat no_seat }
+/// The dataspace, or one that has got nothing.
+fn resident_or_new<S: Space + Drop>(
+    alloc: Global,
+    resident: Option<Resident<Dataspace<S>>>,
+) -> Resident<Dataspace<S>>
+    ensures { resident_by (λ rows. rows) result
+        ≡ unwrap_or (option_map (resident_by (λ rows. rows)) resident) no_resident }
 {
-    match seat {
-        Some(seat) => seat,
-        None => Seat::new(alloc),
+    match resident {
+        Some(resident) => resident,
+        None => Resident::new(alloc, Dataspace::new(alloc)),
     }
+}
+
+/// A system actor's turn over a batch.
+fn turned<Y: System + Drop>(
+    alloc: Global,
+    actor: u32,
+    resident: Resident<Y>,
+    table: Table,
+    batch: Batch,
+) -> Result<Turning<Y>, NoMemory>
+    requires { is_live actor table ≡ true }
+    ensures turned { IfOk result (λ t. turning_by Y.rows t
+        ≡ all_turned (Y.behaviour resident.system) actor batch.from batch.events (record {
+          resident = resident_by Y.rows resident;
+          plan = plan_over table;
+          spreads = [];
+        })) }
+    ensures bound { IfOk result (λ t. Y.bound t.resident.system
+        ≡ Y.bound resident.system) }
+{
+    let turning = Turning {
+        resident,
+        plan: Plan::new(alloc, table),
+        spreads: Spreads::new(alloc),
+    };
+    let Batch { from, events } = batch;
+    turning.turn_all(alloc, actor, from, events.into_vec())
 }
 
 /// What was delivered, or nothing.

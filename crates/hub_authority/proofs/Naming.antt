@@ -7,8 +7,8 @@ use Rattle.pv_value.specs.Plain.{Plain}
 use Rattle.ac_table.specs.declared.batches.Batch.{Batch}
 use Rattle.ac_table.specs.Tables.{is_live, first_batch, popped}
 use Rattle.ac_world.specs.declared.turns.Turned.TheVariants as turned
-use Rattle.ac_world.specs.Turns.{After as TurnOf, space_turn, plain_turn, connection_turn, turn_with, turn_first}
-use Rattle.ac_world.specs.Worlds.{WorldState, actor_of, entry_of, is_space, is_system}
+use Rattle.ac_world.specs.Turns.{After as TurnOf, connection_turn, turn_with, turn_first, system_turn}
+use Rattle.ac_world.specs.Worlds.{WorldState, actor_of, entry_of, is_system}
 use Rattle.rl_packet.specs.declared.packets.TurnEvent.{TurnEvent}
 use Rattle.rl_packet.specs.Holding.{events_in}
 use Rattle.rl_ports.specs.Ports.{PortsState}
@@ -21,7 +21,7 @@ use Rattle.hub_machine.specs.Machine.{tell, fault_for, after_turn, turn_of, is_w
 use Rattle.hub_machine.specs.Replays.{replay, packet_in, sent_by, sent_to}
 use Rattle.hub_machine.specs.Lemmas.ReplayLaws.{replay-more, sent_to-more}
 use Rattle.hub_machine.specs.declared.steps.Step.{Step}
-use Rattle.hub_machine.specs.declared.steps.Step.TheVariants.{Arrive, Packet, Bad, Close, Turn, Work, Stop}
+use Rattle.hub_machine.specs.declared.steps.Step.TheVariants.{Bind, Arrive, Packet, Bad, Close, Turn, Work, Stop}
 use Rattle.hub_machine.specs.declared.steps.Reply.{Reply}
 use Rattle.hub_machine.specs.declared.steps.Reply.TheVariants.{Worn}
 use Rattle.hub_valid.specs.Validity.{IsValid, IsValidBatch}
@@ -68,6 +68,7 @@ dead_turn k s dead = by (is_live (actor_of k) s.world.table) dead
 
 dead_step : (k : ℕ) (s : State) (e : Step) → is_live (actor_of k) s.world.table ≡ false
     → flat_map events_in (sent_by k e (step s e).reply) ≡ []
+dead_step k s (Bind b) dead = refl
 dead_step k s (Arrive space) dead = refl
 dead_step k s (Packet j es) dead = refl
 dead_step k s (Bad j f) dead = refl
@@ -133,7 +134,7 @@ module _ (k : ℕ) (s : State) (valid : IsValid s) (ports : PortsState) (named :
 
   sends_with : (b : Batch) → first_batch own s.world.table ≡ Some b
       → SendsAfter (Some b) (turn_with own b (record s.world { table = popped own s.world.table }))
-  sends_with b first = by (is_space own) (is_system own)
+  sends_with b first = by (is_system own)
     where
       w : WorldState
       w = record s.world { table = popped own s.world.table }
@@ -144,11 +145,9 @@ module _ (k : ℕ) (s : State) (valid : IsValid s) (ports : PortsState) (named :
       still : ports_of k taken ≡ Some ports
       still = ap (λ c. cond c (entry_of k s.connections) None) (live_popped own own s.world.table) ∙ named
 
-      by : (c d : Bool) → SendsAfter (Some b)
-          (cond c (space_turn own b w) (cond d (plain_turn own b w) (connection_turn own b w)))
-      by true d = tt
-      by false true = tt
-      by false false = sends_told b first taken still
+      by : (c : Bool) → SendsAfter (Some b) (cond c (system_turn own b w) (connection_turn own b w))
+      by true = tt
+      by false = sends_told b first taken still
 
   sends_turn : Sends k ports.exports (first_batch own s.world.table) (turn_of own s).reply
   sends_turn = by (is_live own s.world.table) refl (first_batch own s.world.table) refl
@@ -177,6 +176,7 @@ module _ (k : ℕ) (s : State) (valid : IsValid s) (ports : PortsState) (named :
   -- what a step sends means what it tells
   step_sends : (e : Step) → AreSentAs (all_exported ports.exports (flat_map (foreign_to k) (told_by k s e))) k
       (events_of (told_by k s e)) (flat_map events_in (sent_by k e (step s e).reply))
+  step_sends (Bind b) = tt
   step_sends (Arrive space) = tt
   step_sends (Packet j es) = tt
   step_sends (Bad j f) = tt

@@ -3,15 +3,15 @@
 use Rattle.std.proofs.Common.{◌≡◌, ℕ, ◌+◌, ◌-◌, ◌≤◌, List, [], ◌∷◌, Bool, true, false, cond, Option, Some, None}
 use Rattle.std.proofs.Common.{refl, sym, ◌∙◌, subst, arith, length}
 use Rattle.std.specs.List.{AllByRecursion}
+use Rattle.gk_sturdy.specs.declared.bound.Binding.{Binding}
 use Rattle.ac_table.specs.declared.batches.Batch.{Batch}
-use Rattle.ac_table.specs.Tables.{is_live, first_batch, ended, popped, rows_of, lowest}
+use Rattle.ac_table.specs.Tables.{is_live, first_batch, ended, rows_of, lowest}
 use Rattle.ac_world.specs.declared.spreads.Spread.{Spread as SpreadOf}
 use Rattle.ac_world.specs.declared.turns.Turned.{Turned}
 use Rattle.ac_world.specs.declared.turns.Turned.TheVariants as turned
-use Rattle.ac_world.specs.Outboxes.{Plan, plan_over, retractions}
-use Rattle.ac_world.specs.Turns.{After as TurnOf, turn_first, turn, space_turn, plain_turn, connection_turn}
-use Rattle.ac_world.specs.Turns.{all_answered}
-use Rattle.ac_world.specs.Worlds.{WorldState, actor_of, ended_of, gone, is_space, is_system, without_entry}
+use Rattle.ac_world.specs.Outboxes.{Plan, retractions}
+use Rattle.ac_world.specs.Turns.{After as TurnOf, turn_first, turn, connection_turn, system_turn}
+use Rattle.ac_world.specs.Worlds.{WorldState, actor_of, ended_of, gone, is_system, without_entry, binding}
 use Rattle.ac_world.specs.Lemmas.Entries.{each_with, each_without, each_found, KeysAscend, ascend_none}
 use Rattle.rl_packet.specs.declared.packets.TurnEvent.{TurnEvent}
 use Rattle.rl_ports.specs.Ports.{PortsState, ports_to, with_exports}
@@ -19,13 +19,14 @@ use Rattle.hub_machine.specs.declared.faults.Fault.{Fault}
 use Rattle.hub_machine.specs.declared.steps.Reply.{Reply}
 use Rattle.hub_machine.specs.declared.steps.Reply.TheVariants.{Worn, Halted, Idle}
 use Rattle.hub_machine.specs.declared.steps.Step.{Step}
-use Rattle.hub_machine.specs.declared.steps.Step.TheVariants.{Arrive, Packet, Bad, Close, Turn, Work, Stop}
+use Rattle.hub_machine.specs.declared.steps.Step.TheVariants.{Bind, Arrive, Packet, Bad, Close, Turn, Work, Stop}
 use Rattle.hub_machine.specs.Faults.{over}
 use Rattle.hub_machine.specs.State.{State, opening, ports_of}
 use Rattle.hub_machine.specs.Admission.{Admitting, Admitted, refused, admitted, admission, before_all, unless}
 use Rattle.hub_machine.specs.Admission.{all_admitted}
 use Rattle.hub_machine.specs.Endings.{nameless, closed, failed, finished}
 use Rattle.hub_machine.specs.Machine.{unchanged, opened, refusal, arrive_unless, accepted, judged, packet_at, bad_at}
+use Rattle.hub_machine.specs.Machine.{bind_unless, is_barred}
 use Rattle.hub_machine.specs.Machine.{close_at, exports_after, exporting, telling_fault, told_unless, tell, fault_for}
 use Rattle.hub_machine.specs.Machine.{tell_fault, after_turn, turn_of, rest, work_by, is_worn, done, step}
 use Rattle.hub_machine.specs.Machine.{actor_reference}
@@ -36,10 +37,9 @@ use Rattle.hub_valid.specs.Lemmas.Values.{all_weaker}
 use Rattle.hub_laws.specs.Laws.{AreAllowed}
 use Rattle.hub_laws.proofs.Kept.{IsSound, IsHub}
 use Rattle.hub_laws.proofs.Opening.{replay_hub}
-use Rattle.hub_laws.proofs.Posting.{posted_table, table-popped}
-use Rattle.hub_laws.proofs.Saying.{plain_answers}
+use Rattle.hub_laws.proofs.Posting.{posted_table}
 use Rattle.hub_laws.proofs.Steps.{named_of, step_hub}
-use Rattle.hub_laws.proofs.Turns.{without_first, turning_of, space_runs}
+use Rattle.hub_laws.proofs.Turns.{without_first, turning_of, system_low, system_runs}
 use Rattle.hub_valid.specs.Lemmas.StepEnds.{finished_keeps}
 use Rattle.hub_authority.specs.Laws.{TakenPackets}
 use Rattle.hub_authority.proofs.Asking.{StandBelow, HaveLed, plan_of, all_led}
@@ -151,32 +151,26 @@ abbrev IsLater : WorldState → TurnOf → Type 0
 IsLater w t = w.table.next ≤ t.world.table.next
 
 next_turned : (a : ℕ) (w : WorldState) → IsSound [] w → IsLater w (turn a w)
-next_turned a w sound = by (is_live a w.table)
+next_turned a w sound = by (is_live a w.table) refl
   where
-    taken : (b : Batch) (space system : Bool) → first_batch a w.table ≡ Some b → is_space a ≡ space
-        → IsLater w (cond space (space_turn a b (without_first a w))
-        (cond system (plain_turn a b (without_first a w)) (connection_turn a b (without_first a w))))
-    taken b true system first is =
+    taken : (b : Batch) (system : Bool) → is_live a w.table ≡ true → first_batch a w.table ≡ Some b
+        → is_system a ≡ system
+        → IsLater w (cond system (system_turn a b (without_first a w)) (connection_turn a b (without_first a w)))
+    taken b true live first is =
         let plan : Plan = (turning_of a b w).plan in
         let posts = (posted_table a plan.out plan.table).1 in
-        let later = (space_runs a b w sound is first).moves.later in
+        let later = (system_runs a b w sound is (system_low a w sound is live) first).moves.later in
         omega (arith, posts, later)
-    taken b false true first is =
-        let plan : Plan = all_answered b.events (plan_over (popped a w.table)) in
-        let posts = (posted_table a plan.out plan.table).1 in
-        let says = plain_answers (16 + w.opened) a (popped a w.table) b.events (table-popped a w.table sound.table)
-        sound.rows in
-        omega (arith, posts, says.moves.later)
-    taken b false false first is = omega arith
+    taken b false live first is = omega arith
 
-    first : (o : Option Batch) → first_batch a w.table ≡ o → IsLater w (turn_first a o w)
-    first None is = omega arith
-    first (Some b) is = taken b (is_space a) (is_system a) is refl
+    first : (o : Option Batch) → is_live a w.table ≡ true → first_batch a w.table ≡ o → IsLater w (turn_first a o w)
+    first None live is = omega arith
+    first (Some b) live is = taken b (is_system a) live is refl
 
-    by : (live : Bool)
-        → IsLater w (cond live (turn_first a (first_batch a w.table) w) (record { world = w; turned = turned.Gone }))
-    by true = first (first_batch a w.table) refl
-    by false = omega arith
+    by : (c : Bool) → is_live a w.table ≡ c
+        → IsLater w (cond c (turn_first a (first_batch a w.table) w) (record { world = w; turned = turned.Gone }))
+    by true live = first (first_batch a w.table) live refl
+    by false dead = omega arith
 
 fault_in_order : (a : ℕ) (o : Option Fault) (s : State) → AreInOrder s → AreInOrder (tell_fault a o s).state
 fault_in_order a None s all = all
@@ -221,7 +215,12 @@ work_in_order (Some a) s h all = by (is_system a)
 
 -- ---- steps
 
+bind_in_order : (c : Bool) (b : Binding) (s : State) → AreInOrder s → AreInOrder (bind_unless c b s).state
+bind_in_order true b s all = all
+bind_in_order false b s all = finished_in_order [] (record s { world = binding b s.world }) all
+
 done_in_order : (s : State) (e : Step) → IsHub [] s → AreInOrder s → AreInOrder (done s e).state
+done_in_order s (Bind b) h all = bind_in_order (is_barred b s) b s all
 done_in_order s (Arrive space) h all = arrive_in_order (refusal space s) space s all
 done_in_order s (Packet k es) h all = packet_in_order k (ports_of k s) es s h all refl
 done_in_order s (Bad k f) h all = bad_in_order k (ports_of k s) f s all

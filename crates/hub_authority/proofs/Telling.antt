@@ -7,14 +7,16 @@ use Rattle.std.specs.List.{flat_map}
 use Rattle.std.proofs.lemmas.Bool.Decides.{nat_tests}
 use Rattle.std.proofs.lemmas.List.{append-nil}
 use Rattle.pv_value.specs.Plain.{Plain}
+use Rattle.gk_sturdy.specs.declared.bound.Binding.{Binding}
 use Rattle.ac_table.specs.declared.batches.Batch.{Batch}
 use Rattle.ac_table.specs.Tables.{Actor, TableState, is_live, first_batch, first_in, find_actor, popped, lowest}
 use Rattle.ac_world.specs.declared.turns.Turned.TheVariants as turned
 use Rattle.ac_world.specs.Outboxes.{plan_over, all_acted, committed}
-use Rattle.ac_world.specs.Worlds.{WorldState, actor_of, entry_of, with_entry, without_entry, is_space, is_system}
-use Rattle.ac_world.specs.Turns.{After as TurnOf, turn_first, turn_with, begin_turn, all_turned, all_answered}
-use Rattle.ac_world.specs.Turns.{space_turn, plain_turn, connection_turn}
+use Rattle.ac_world.specs.Worlds.{WorldState, actor_of, entry_of, with_entry, without_entry, is_system, binding}
+use Rattle.ac_world.specs.Turns.{After as TurnOf, Turning, turn_first, turn_with, begin_turn, all_turned, system_turn}
+use Rattle.ac_world.specs.Turns.{connection_turn}
 use Rattle.ac_world.specs.Lemmas.Entries.{put_found, put_other, out_other}
+use Rattle.ac_world.specs.Behaviours.{Behaviour, behaviour_of}
 use Rattle.rl_packet.specs.declared.packets.TurnEvent.{TurnEvent}
 use Rattle.rl_ports.specs.Ports.{PortsState, ports_to, with_exports}
 use Rattle.rl_wire.specs.Crossing.{all_exported}
@@ -25,11 +27,12 @@ use Rattle.hub_machine.specs.Admission.{Admitting, Admitted, refused, admitted}
 use Rattle.hub_machine.specs.Admission.{admission}
 use Rattle.hub_machine.specs.Endings.{nameless, failed, closed}
 use Rattle.hub_machine.specs.Machine.{After, step, done, is_worn, unchanged, ends, opened, refusal, arrive_unless}
+use Rattle.hub_machine.specs.Machine.{bind_unless, is_barred}
 use Rattle.hub_machine.specs.Machine.{accepted, judged, packet_at, bad_at, close_at, foreign_to, telling_fault}
 use Rattle.hub_machine.specs.Machine.{exporting, told_unless, tell, fault_for, tell_fault, after_turn, turn_of, rest}
 use Rattle.hub_machine.specs.Machine.{work_by, actor_reference, exports_after as exports_after_turn}
 use Rattle.hub_machine.specs.declared.steps.Step.{Step}
-use Rattle.hub_machine.specs.declared.steps.Step.TheVariants.{Arrive, Packet, Bad, Close, Turn, Work, Stop}
+use Rattle.hub_machine.specs.declared.steps.Step.TheVariants.{Bind, Arrive, Packet, Bad, Close, Turn, Work, Stop}
 use Rattle.hub_machine.specs.declared.steps.Reply.{Reply}
 use Rattle.hub_machine.specs.declared.steps.Reply.TheVariants.{Worn, Barred, Halted, Full, Gone, Refused, Idle, Sent}
 use Rattle.hub_machine.specs.declared.steps.Reply.TheVariants.{Ran, Taken}
@@ -37,10 +40,10 @@ use Rattle.hub_valid.specs.Lemmas.Admitted.{exports_stay}
 use Rattle.hub_valid.specs.Lemmas.Lasting.{live_popped, lasts_sent}
 use Rattle.hub_authority.specs.Named.{batch_sent, told_by, first_by, opened_as}
 use Rattle.hub_valid.specs.Lemmas.Lives.{live_placed, live_committed}
+use Rattle.hub_valid.specs.Lemmas.Plans.{goes_on_all_turned}
 use Rattle.hub_authority.proofs.Endings.{HadThem, Keeps, keeps_all, keeps_then, keeps_failed, keeps_closed}
 use Rattle.hub_authority.proofs.Endings.{keeps_finished}
 use Rattle.hub_authority.proofs.Exporting.{Tells, WasTold, CameWith, tells_nothing, tells_then}
-use Rattle.hub_valid.specs.Lemmas.Plans.{goes_on_all_turned, goes_on_all_answered}
 
 -- ---- the world changes
 
@@ -240,31 +243,29 @@ follows a s t = after_turn a t.turned (record s { world = t.world })
 -- a system actor's
 quiet_system : (k a : ℕ) (b : Batch) (s : State) → is_system a ≡ true
     → IsQuiet k s (follows a s (turn_with a b (record s.world { table = popped a s.world.table })))
-quiet_system k a b s system = by (is_space a) (is_system a) system
+quiet_system k a b s system =
+    subst (λ c. IsQuiet k s (follows a s (cond c (system_turn a b w) (connection_turn a b w)))) (sym system) quiet
   where
     w : WorldState
     w = record s.world { table = popped a s.world.table }
 
-    by : (c d : Bool) → d ≡ true
-        → IsQuiet k s (follows a s (cond c (space_turn a b w) (cond d (plain_turn a b w) (connection_turn a b w))))
-    by true d is = record {
-      keeps = keeps_then k s (record s { world = (space_turn a b w).world }) (follows a s (space_turn a b w)).state
-          (keeps_world k s (space_turn a b w).world refl
-          (live_committed (actor_of k) a (all_turned a b.from b.events (begin_turn a w)).plan
-          ∙ live_from_actors (actor_of k) (all_turned a b.from b.events (begin_turn a w)).plan.table w.table
-          (goes_on_all_turned a b.from b.events (begin_turn a w)).actors
+    y : Behaviour
+    y = behaviour_of s.world.bindings a
+
+    t : Turning
+    t = all_turned y a b.from b.events (begin_turn a w)
+
+    quiet : IsQuiet k s (follows a s (system_turn a b w))
+    quiet = record {
+      keeps = keeps_then k s (record s { world = (system_turn a b w).world }) (follows a s (system_turn a b w)).state
+          (keeps_world k s (system_turn a b w).world refl
+          (live_committed (actor_of k) a t.plan
+          ∙ live_from_actors (actor_of k) t.plan.table w.table
+          (goes_on_all_turned y a b.from b.events (begin_turn a w)).actors
           ∙ live_popped (actor_of k) a s.world.table))
-          (keeps_finished k (all_turned a b.from b.events (begin_turn a w)).spreads
-          (record s { world = (space_turn a b w).world }));
+          (keeps_finished k t.spreads (record s { world = (system_turn a b w).world }));
       unsent = none_ran;
     }
-    by false true is = quiet_end k s (record s { world = (plain_turn a b w).world }) Ran
-        (keeps_world k s (plain_turn a b w).world refl
-        (live_committed (actor_of k) a (all_answered b.events (plan_over w.table))
-        ∙ live_from_actors (actor_of k) (all_answered b.events (plan_over w.table)).table w.table
-        (goes_on_all_answered b.events (plan_over w.table)).actors
-        ∙ live_popped (actor_of k) a s.world.table)) none_ran
-    by false false is = absurd cc
 
 abbrev turn_is : ℕ → State → Bool → Option Batch → After
 turn_is a s live o = follows a s (cond live (turn_first a o s.world) (record { world = s.world; turned = turned.Gone }))
@@ -399,21 +400,17 @@ turn_tells k a s = by (is_system a) refl
 
     with_batch : (b : Batch) → is_system a ≡ false
         → TurnTells k a s (Some b) (follows a s (turn_with a b (record s.world { table = popped a s.world.table })))
-    with_batch b system = apart (is_space a) (is_system a) (grind (arith, nat_tests, system)) system
+    with_batch b system =
+        subst (λ c. TurnTells k a s (Some b) (follows a s (cond c (system_turn a b w) (connection_turn a b w))))
+        (sym system)
+        (connection_tells k a b s taken (ports_of (a - 16) taken) system
+        (keeps_world k s (connection_turn a b w).world refl (live_popped (actor_of k) a s.world.table)) refl)
       where
         w : WorldState
         w = record s.world { table = popped a s.world.table }
 
         taken : State
         taken = record s { world = (connection_turn a b w).world }
-
-        apart : (c d : Bool) → c ≡ false → d ≡ false → TurnTells k a s (Some b)
-            (follows a s (cond c (space_turn a b w) (cond d (plain_turn a b w) (connection_turn a b w))))
-        apart true d is system = absurd cc
-        apart false true is system = absurd cc
-        apart false false is no_system =
-            connection_tells k a b s taken (ports_of (a - 16) taken) system
-            (keeps_world k s (connection_turn a b w).world refl (live_popped (actor_of k) a s.world.table)) refl
 
     live : (o : Option Batch) → is_system a ≡ false → TurnTells k a s o (turn_is a s true o)
     live None system = quiet_tells k a s None (unchanged s Idle) (quiet_same k s Idle none_idle)
@@ -465,6 +462,14 @@ keeps_stop k s =
     all_there : (p : PortsState) → ports_of k s ≡ Some p → HadThem k s p
     all_there p is = record { before = p; there = is; same = refl }
 
+keeps_bind : (k : ℕ) (c : Bool) (b : Binding) (s : State) → Keeps k s (bind_unless c b s).state
+keeps_bind k true b s = keeps_all k s
+keeps_bind k false b s =
+    let t : State = record s { world = binding b s.world } in
+    keeps_then k s t _
+    (record { opened = refl; live = λ is. is; named = λ p is. record { before = p; there = is; same = refl } })
+    (keeps_finished k [] t)
+
 -- where it is done, unless numbers are used up
 unless_worn : (k : ℕ) (s : State) (e : Step) → Keeps k s (done s e).state → Tells k s (step s e).state [] None
 unless_worn k s e keeps = tells_nothing k s (step s e).state (by (is_worn s e))
@@ -481,6 +486,7 @@ turn_step_tells k a s = by (is_worn s (Turn a))
     by false = turn_tells k a s
 
 pub step_tells : (k : ℕ) (s : State) (e : Step) → Tells k s (step s e).state (told_by k s e) (first_by k s e)
+step_tells k s (Bind b) = unless_worn k s (Bind b) (keeps_bind k (is_barred b s) b s)
 step_tells k s (Arrive space) = arrive_tells k space s
 step_tells k s (Packet j es) = unless_worn k s (Packet j es) (keeps_packet k j es s)
 step_tells k s (Bad j f) = unless_worn k s (Bad j f) (keeps_bad k j (ports_of j s) f s)

@@ -5,8 +5,8 @@ use Rattle.std.proofs.lemmas.Bool.Decides.{nat_tests}
 use Rattle.std.specs.Prelude.{if◌then◌else◌, nat_lt, nat_le, length}
 use Rattle.ac_table.specs.declared.batches.Batch.{Batch}
 use Rattle.ac_table.specs.Tables.{is_live, first_batch, popped}
-use Rattle.ac_world.specs.Worlds.{WorldState, is_space, is_system}
-use Rattle.ac_world.specs.Turns.{turn, turn_first, turn_with, space_turn, plain_turn, connection_turn}
+use Rattle.ac_world.specs.Worlds.{WorldState, is_system}
+use Rattle.ac_world.specs.Turns.{turn, turn_first, turn_with, system_turn, connection_turn}
 use Rattle.ac_world.specs.declared.turns.Turned.{Turned}
 use Rattle.ac_world.specs.declared.turns.Turned.TheVariants.{Ran, Taken, Idle, Gone}
 use Rattle.hub_machine.specs.State.{State}
@@ -22,14 +22,12 @@ IsSame w x = (x.opened ≡ w.opened) × (x.table.next ≡ w.table.next)
 
 same_with : (a : ℕ) (c b : Batch) (w : WorldState) → (turn_with a c w).turned ≡ Taken b
     → IsSame w (turn_with a c w).world
-same_with a c b w is = by (is_space a) (is_system a) is
+same_with a c b w is = by (is_system a) is
   where
-    by : (x y : Bool)
-        → (if x then space_turn a c w else if y then plain_turn a c w else connection_turn a c w).turned ≡ Taken b
-        → IsSame w (if x then space_turn a c w else if y then plain_turn a c w else connection_turn a c w).world
-    by true y is = absurd cc
-    by false true is = absurd cc
-    by false false is = (refl, refl)
+    by : (x : Bool) → (if x then system_turn a c w else connection_turn a c w).turned ≡ Taken b
+        → IsSame w (if x then system_turn a c w else connection_turn a c w).world
+    by true is = absurd cc
+    by false is = (refl, refl)
 
 same_first : (a : ℕ) (o : Option Batch) (b : Batch) (w : WorldState) → (turn_first a o w).turned ≡ Taken b
     → IsSame w (turn_first a o w).world

@@ -6,10 +6,9 @@ ghost use Rattle.hub_machine.specs.Endings.{spread_out, all_spread_out, overrun_
 ghost use Rattle.hub_machine.specs.Endings.{all_overrun, finished};
 
 use crate::hub::Hub;
-use ac_world::{Load, Spread};
+use ac_world::{FIRST_CONNECTION, Load, Spread};
 use ds_space::Space;
 use hub_machine::{DELIVERIES, DELIVERIES_WEIGHT, Fault, Reply, overrun};
-use hub_packets::FIRST_CONNECTION;
 use pv_value::NoMemory;
 use std::alloc::Global;
 

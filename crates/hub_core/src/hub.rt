@@ -6,15 +6,18 @@ ghost use Rattle.hub_machine.specs.declared.steps.Reply.TheVariants as reply;
 ghost use Rattle.hub_machine.specs.State.{opening, ports_of, is_there};
 ghost use Rattle.hub_machine.specs.Endings.{finished};
 ghost use Rattle.hub_machine.specs.Machine.{step as step_of, is_worn, refusal, arrive_unless};
-ghost use Rattle.hub_machine.specs.Machine.{opened, actor_reference, IsBuilt};
+ghost use Rattle.hub_machine.specs.Machine.{opened, actor_reference, is_to_space, is_barred};
+ghost use Rattle.hub_machine.specs.Machine.{bind_unless};
 ghost use Rattle.hub_machine.specs.Completeness.{IsComplete};
 ghost use Rattle.hub_machine.specs.Replays.{pending, lowest, first_failed, least};
 
 use ac_world::World;
 use ds_space::{Reference, Space, reference_value};
+use gk_sturdy::Binding;
 use hub_machine::{CONNECTIONS, DATASPACES, Fault, Reply, Step, WORN_CONNECTIONS, WORN_HANDLE};
 use pv_value::{NoMemory, Value};
 use rl_ports::Ports;
+use sr_caveat::{Cap, has_embedded};
 use std::alloc::Global;
 use std::collections::BTreeMap;
 use std::marker::Model;
@@ -34,12 +37,13 @@ impl<S: Space + Drop> Model for Hub<S> {
     ghost use Rattle.std.specs.List.{AllByRecursion};
     ghost use Rattle.std.specs.Coded.{codes};
     ghost use Rattle.pv_value.specs.Lemmas.Coded.{plain_code};
+    ghost use Rattle.sr_caveat.specs.Lemmas.Coded.{caveat_code};
     ghost use Rattle.hub_machine.specs.State.{State};
     ghost use Rattle.hub_valid.specs.Validity.{AreValid};
 
     ghost Value = { State };
 
-    ghost coded = { Prim.hlevel (codes, plain_code) };
+    ghost coded = { Prim.hlevel (codes, plain_code, caveat_code) };
 
     ghost view = { λ h. record {
       world = h.world;
@@ -69,6 +73,13 @@ fn actor_reference(alloc: Global, actor: u32) -> Result<Value, NoMemory>
 {
     let reference = Reference { actor, entity: 0 };
     reference_value(alloc, reference)
+}
+
+/// Whether a reference is to a dataspace itself.
+fn is_to_space(cap: &Cap) -> bool
+    ensures { result ≡ is_to_space cap.now }
+{
+    (1..=u32::from(DATASPACES)).contains(&cap.actor) && cap.entity == 0
 }
 
 impl<S: Space + Drop> Hub<S> {
@@ -147,6 +158,46 @@ impl<S: Space + Drop> Hub<S> {
         }
     }
 
+    /// Whether a reference can't be bound.
+    fn is_barred(&self, alloc: Global, binding: &Binding) -> Result<bool, NoMemory>
+        ensures { IfOk result (λ barred. barred ≡ is_barred binding.now self.now) }
+    {
+        if self.world.opened() > 0
+            || self.world.bound(&binding.oid)
+            || !is_to_space(&binding.cap)
+            || has_embedded(&binding.oid)
+        {
+            return Ok(true);
+        }
+        let reference = binding.cap.to_value(alloc)?;
+        Ok(has_embedded(&reference))
+    }
+
+    /// A reference is bound, where it may.
+    fn bind(self, alloc: Global, binding: Binding) -> Result<(Hub<S>, Reply), NoMemory>
+        ensures state { IfOk result
+            (λ done. done.0 ≡ (bind_unless (is_barred binding self) binding self).state) }
+        ensures reply { IfOk result
+            (λ done. done.1 ≡ (bind_unless (is_barred binding self) binding self).reply) }
+    {
+        if self.is_barred(alloc, &binding)? {
+            return Ok((self, Reply::Barred));
+        }
+        let Hub {
+            world,
+            connections,
+            faults,
+            stopped,
+        } = self;
+        let hub = Hub {
+            world: world.bind(binding)?,
+            connections,
+            faults,
+            stopped,
+        };
+        hub.ends(alloc, &[], Reply::Taken)
+    }
+
     /// A connection comes.
     fn open(self, alloc: Global, space: u8) -> Result<(Hub<S>, u32), NoMemory>
         requires few { self.world.opened < 2 ^ 31 }
@@ -172,7 +223,7 @@ impl<S: Space + Drop> Hub<S> {
         Ok((hub, number))
     }
 
-    /// Why no connection comes to a dataspace.
+    /// Why no connection comes to the gatekeeper or a dataspace.
     fn refusal(&self, space: u8) -> Option<Reply>
         ensures { result ≡ refusal space self.now }
     {
@@ -216,7 +267,6 @@ impl<S: Space + Drop> Hub<S> {
 
     /// A step that may be done.
     fn machine_step(self, alloc: Global, event: Step) -> Result<(Hub<S>, Reply), NoMemory>
-        requires { IsBuilt event }
         ensures state { IfOk result (λ done. done.0 ≡ (step_of self event).state) }
         ensures reply { IfOk result (λ done. done.1 ≡ (step_of self event).reply) }
     {
@@ -224,6 +274,7 @@ impl<S: Space + Drop> Hub<S> {
             return Ok((self, Reply::Worn));
         }
         match event {
+            Step::Bind(binding) => self.bind(alloc, binding),
             Step::Arrive(space) => self.arrive(alloc, space),
             Step::Packet(connection, turn) => self.packet(alloc, connection, &turn),
             Step::Bad(connection, fault) => self.bad(alloc, connection, fault),
@@ -236,7 +287,6 @@ impl<S: Space + Drop> Hub<S> {
 
     /// The state after a step, and what is answered to it. For want of memory the state is gone.
     pub fn step(self, alloc: Global, event: Step) -> Result<(Hub<S>, Reply), NoMemory>
-        requires { IsBuilt event }
         ensures state { IfOk result (λ done. done.0 ≡ (step_of self event).state) }
         ensures reply { IfOk result (λ done. done.1 ≡ (step_of self event).reply) }
         ensures complete { IfOk result (λ done. IsComplete self event done.1) }

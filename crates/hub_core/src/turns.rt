@@ -10,10 +10,10 @@ ghost use Rattle.hub_core.specs.Telling.{IsToldSoundly, told_by};
 
 use crate::hub::Hub;
 use ac_table::Batch;
-use ac_world::Turned;
+use ac_world::{FIRST_CONNECTION, Turned};
 use ds_space::Space;
 use hub_machine::Reply;
-use hub_packets::{FIRST_CONNECTION, all_to_send};
+use hub_packets::all_to_send;
 use pv_value::NoMemory;
 use rl_packet::{Packet, Turn};
 use rl_ports::Ports;

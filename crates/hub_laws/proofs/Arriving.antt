@@ -10,7 +10,7 @@ use Rattle.ac_table.specs.declared.batches.Row.{Row}
 use Rattle.ac_table.specs.declared.batches.Batch.{Batch}
 use Rattle.ac_table.specs.Tables.{Actor, find_actor, is_live}
 use Rattle.ac_table.specs.Lemmas.Lists.{all_weaker}
-use Rattle.ac_world.specs.Worlds.{WorldState, Deliveries, seat_of, held_by, entry_of, is_space, actor_of, arrived}
+use Rattle.ac_world.specs.Worlds.{WorldState, Deliveries, resident_of, held_by, entry_of, is_system, actor_of, arrived}
 use Rattle.ac_world.specs.Lemmas.Entries.{put_found, put_other, ascend_none, ascend_with}
 use Rattle.rl_ports.specs.Ports.{PortsState, ports_to}
 use Rattle.hub_machine.specs.State.{State}
@@ -53,7 +53,7 @@ newcomer w = actor_of (w.opened + 1)
 is_new : (w : WorldState) → IsSound [] w → is_live (newcomer w) w.table ≡ false
 is_new w k = above_is_new (newcomer w) w.table (λ b live. omega (arith, k.numbers b live))
 
-newcomer_served : (w : WorldState) → IsSound [] w → (s : Bool) → is_space (newcomer w) ≡ s
+newcomer_served : (w : WorldState) → IsSound [] w → (s : Bool) → is_system (newcomer w) ≡ s
     → IsServed [] (newcomer w) [] (arrived w) s
 newcomer_served w k true is = absurd (grind (arith, nat_tests, is))
 newcomer_served w k false is =
@@ -72,17 +72,17 @@ newcomer_served w k false is =
     })
 
 arrived_served : (w : WorldState) → IsSound [] w → (c : ℕ) (x : Actor) → find_actor c (arrived w).table.actors ≡ Some x
-    → IsServed [] c x.inbox (arrived w) (is_space c)
+    → IsServed [] c x.inbox (arrived w) (is_system c)
 arrived_served w k c x found = elim (one_or_not c (newcomer w)) [
-  | inr ne ↦ served_before c x.inbox w (is_space c)
+  | inr ne ↦ served_before c x.inbox w (is_system c)
       (k.served c x (sym (joined_other (newcomer w) c w.table ne) ∙ found))
   | inl same ↦
       (let new : record { number = newcomer w; inbox = [] } ≡ x =
       (let at = joined_new (newcomer w) w.table (is_new w k) in
       let here = ap (λ i. find_actor i (arrived w).table.actors) (sym same) ∙ found in cc) in
-      subst (λ (z : Actor). IsServed [] c z.inbox (arrived w) (is_space c)) new
-      (subst (λ i. IsServed [] i [] (arrived w) (is_space i)) (sym same)
-      (newcomer_served w k (is_space (newcomer w)) refl)))
+      subst (λ (z : Actor). IsServed [] c z.inbox (arrived w) (is_system c)) new
+      (subst (λ i. IsServed [] i [] (arrived w) (is_system i)) (sym same)
+      (newcomer_served w k (is_system (newcomer w)) refl)))
 ]
 
 live_before : (w : WorldState) → IsSound [] w → (c : ℕ) → c ≢ newcomer w → is_live c
@@ -102,8 +102,8 @@ arrived_sound w k = record {
   served = arrived_served w k;
   met = k.met;
   known = λ c s. all_weaker _ _ (λ v g. known_more (16 + w.opened) (16 + (w.opened + 1)) v (omega arith) g)
-      (values_of (seat_of c w).got) (k.known c s);
-  idle = k.idle;
+      (values_of (resident_of c w).got) (k.known c s);
+  fresh = λ none. absurd (omega (arith, none));
   held_ascends = k.held_ascends;
   unheld = λ c dead. elim (one_or_not c (newcomer w)) [
     | inl same ↦ absurd (let here : is_live c (arrived w).table ≡ true =

@@ -8,17 +8,18 @@ use Rattle.ac_table.specs.declared.batches.Row.{Row}
 use Rattle.ac_table.specs.declared.batches.Batch.{Batch}
 use Rattle.ac_table.specs.Tables.{TableState, IsTable, find_actor, find_row, handles, joined}
 use Rattle.ac_table.specs.Tables.{rows_of_others}
-use Rattle.ac_world.specs.Worlds.{Seat}
+use Rattle.ac_world.specs.Behaviours.{Behaviour}
+use Rattle.ac_world.specs.Worlds.{Resident}
 use Rattle.hub_laws.specs.Standing.{took_all}
 use Rattle.hub_laws.specs.Wanting.{IsMet}
 use Rattle.hub_laws.proofs.Kept.{IsServedBy}
 
--- wants are met over any rows in which the dataspace's own are the same
+-- wants are met over any rows in which the actor's own are the same
 abbrev pub MetKept : Type 0
 MetKept =
-    (a : ℕ) (seat : Seat) (old new : List Row) → IsMet a seat old
+    (y : Behaviour) (a : ℕ) (resident : Resident) (old new : List Row) → IsMet y a resident old
     → ((h : ℕ) (r : Row) → r.owner ≡ a → find_row h old ≡ Some r → find_row h new ≡ Some r)
-    → ((h : ℕ) (r : Row) → r.owner ≡ a → find_row h new ≡ Some r → find_row h old ≡ Some r) → IsMet a seat new
+    → ((h : ℕ) (r : Row) → r.owner ≡ a → find_row h new ≡ Some r → find_row h old ≡ Some r) → IsMet y a resident new
 
 abbrev pub Ascending : List Row → Type 0
 Ascending rows = IsStrictlySortedBy nat_cmp (handles rows)

@@ -5,12 +5,12 @@ use Rattle.std.specs.List.{AllByRecursion}
 use Rattle.std.specs.Prelude.{is_some}
 use Rattle.std.specs.Map.{values_of}
 use Rattle.pv_value.specs.Plain.{Plain}
-use Rattle.ac_table.specs.declared.batches.Row.{Row}
 use Rattle.ac_table.specs.declared.batches.Batch.{Batch}
-use Rattle.ac_table.specs.Tables.{TableState, Actor, IsTable, find_actor, find_row, is_live}
+use Rattle.ac_table.specs.Tables.{TableState, Actor, IsTable, find_actor, is_live}
 use Rattle.ac_world.specs.Outboxes.{Plan, committed, posted, told_to}
-use Rattle.ac_world.specs.Worlds.{WorldState, seat_of, held_by, entry_of, is_space}
+use Rattle.ac_world.specs.Worlds.{WorldState, resident_of, held_by, entry_of, is_system}
 use Rattle.ac_world.specs.Lemmas.Entries.{KeysAscend}
+use Rattle.ac_world.specs.Behaviours.{behaviour_of}
 use Rattle.hub_laws.specs.Standing.{value_alone, at_object}
 use Rattle.hub_laws.specs.Wanting.{IsMet}
 use Rattle.hub_laws.proofs.Kept.{IsKnown, IsGood, Moves, AreGood, IsServedBy, IsServed, IsSound}
@@ -22,14 +22,15 @@ pub record IsPlanned (ends : List ℕ) (u : WorldState) (a : ℕ) (p : Plan) : T
   pub always : (b : ℕ) → b < 9 → is_live b u.table ≡ true
   pub no_watchers : (b : ℕ) → 9 ≤ b → b < 17 → is_live b u.table ≡ false
   pub numbers : (b : ℕ) → is_live b u.table ≡ true → b ≤ 16 + u.opened
-  pub served : (b : ℕ) (x : Actor) → find_actor b u.table.actors ≡ Some x → IsServed ends b x.inbox u (is_space b)
-  pub known : (b : ℕ) → is_space b ≡ true → AllByRecursion (IsKnown (16 + u.opened)) (values_of (seat_of b u).got)
+  pub served : (b : ℕ) (x : Actor) → find_actor b u.table.actors ≡ Some x → IsServed ends b x.inbox u (is_system b)
+  pub known : (b : ℕ) → b < 9 → AllByRecursion (IsKnown (16 + u.opened)) (values_of (resident_of b u).got)
   pub held_ascends : KeysAscend u.held
   pub unheld : (b : ℕ) → is_live b u.table ≡ false → entry_of b u.held ≡ None
   pub moves : Moves a u.table p
   pub good : AreGood (16 + u.opened) a p
-  pub met : (b : ℕ) → is_space b ≡ true → IsMet b (seat_of b u) p.table.rows
-  pub idle : (h : ℕ) (r : Row) → find_row h p.table.rows ≡ Some r → r.owner ≢ 0
+  pub met : (b : ℕ) → b < 9 → IsMet (behaviour_of u.bindings b) b (resident_of b u) p.table.rows
+  -- a connection has come
+  pub some : u.opened ≢ 0
 
 abbrev pub done_in : WorldState → ℕ → Plan → WorldState
 done_in u a p = record u { table = committed a p }
@@ -50,11 +51,11 @@ served_in : (posted_table : PostedTable) (served_after : ServedAfter) (ends : Li
 served_in posted_table served_after ends u a b p old new k is true s =
     let q = posted_table a p.out p.table in
     subst (λ rows. IsServedBy value_alone ends (16 + u.opened) rows (posted a p.out p.table).next b
-    (seat_of b u).got new)
+    (resident_of b u).got new)
     (sym q.0)
-    (subst (λ n. IsServedBy value_alone ends (16 + u.opened) p.table.rows n b (seat_of b u).got new) (sym q.1)
+    (subst (λ n. IsServedBy value_alone ends (16 + u.opened) p.table.rows n b (resident_of b u).got new) (sym q.1)
     (served_after Plain value_alone ends (16 + u.opened) a b u.table p
-    (seat_of b u).got old new k.table k.moves k.good s is))
+    (resident_of b u).got old new k.table k.moves k.good s is))
 served_in posted_table served_after ends u a b p old new k is false s =
     let q = posted_table a p.out p.table in
     subst (λ rows. IsServedBy at_object ends (16 + u.opened) rows (posted a p.out p.table).next b (held_by b u) new)
@@ -64,11 +65,11 @@ served_in posted_table served_after ends u a b p old new k is false s =
 
 served_done : (posted_to : PostedTo) (posted_table : PostedTable) (served_after : ServedAfter) (ends : List ℕ)
     (u : WorldState) (a : ℕ) (p : Plan) → IsPlanned ends u a p → (b : ℕ) (x : Actor)
-    → find_actor b (done_in u a p).table.actors ≡ Some x → IsServed ends b x.inbox (done_in u a p) (is_space b)
+    → find_actor b (done_in u a p).table.actors ≡ Some x → IsServed ends b x.inbox (done_in u a p) (is_system b)
 served_done posted_to posted_table served_after ends u a p k b x found =
     let y = posted_to a b p.out p.table x k.moves.out_ascends found in
     let before : find_actor b u.table.actors ≡ Some y.0 = ap (find_actor b) (sym k.moves.actors) ∙ y.1 in
-    served_in posted_table served_after ends u a b p y.0.inbox x.inbox k y.2 (is_space b) (k.served b y.0 before)
+    served_in posted_table served_after ends u a b p y.0.inbox x.inbox k y.2 (is_system b) (k.served b y.0 before)
 
 pub commit_sound : (posted_to : PostedTo) (posted_table : PostedTable) (served_after : ServedAfter) (ends : List ℕ)
     (u : WorldState) (a : ℕ) (p : Plan) → IsPlanned ends u a p → IsSound ends (done_in u a p)
@@ -81,9 +82,9 @@ commit_sound posted_to posted_table served_after ends u a p k =
       numbers = λ b is. k.numbers b (sym (live_done posted_table u a b p k.moves) ∙ is);
       rows = subst (AllByRecursion (IsGood (16 + u.opened))) (sym q.0) k.good.rows;
       served = served_done posted_to posted_table served_after ends u a p k;
-      met = λ b is. subst (IsMet b (seat_of b u)) (sym q.0) (k.met b is);
+      met = λ b is. subst (IsMet (behaviour_of u.bindings b) b (resident_of b u)) (sym q.0) (k.met b is);
       known = k.known;
-      idle = λ h r found. k.idle h r (ap (find_row h) (sym q.0) ∙ found);
+      fresh = λ none. absurd (k.some none);
       held_ascends = k.held_ascends;
       unheld = λ b is. k.unheld b (sym (live_done posted_table u a b p k.moves) ∙ is);
     }

@@ -1,5 +1,6 @@
 -- Where nothing is pending, what a live connection holds is what is captured from scratch.
-use Rattle.std.proofs.Common.{◌≡◌, ◌≢◌, ℕ, ◌+◌, ◌<◌, ◌≤◌, List, [], ◌∷◌, ◌++◌, map, Bool, true, false, cond, not, ◌&&◌}
+use Rattle.std.proofs.Common.{◌≡◌, ℕ, ◌+◌, ◌<◌, ◌≤◌, List, [], ◌∷◌, ◌++◌, map, Bool, true, false, cond, not, ◌&&◌}
+use Rattle.std.proofs.Common.{nat_lt, suc, zero}
 use Rattle.std.proofs.Common.{◌==◌, nat_le, length, filter, flat_map, Option, Some, None, is_some, refl, ap, sym, ◌∙◌}
 use Rattle.std.proofs.Common.{subst, arith, rules, IsPermutation}
 use Rattle.std.specs.List.{AllByRecursion, IsDistinct, list_any}
@@ -13,33 +14,35 @@ use Rattle.std.proofs.lemmas.Map.Keys.{IsDistinct-from_sorted}
 use Rattle.pv_value.specs.Plain.{Plain}
 use Rattle.pv_value.specs.Order.{order}
 use Rattle.pv_words.specs.Parts.{same}
-use Rattle.ds_space.specs.Wants.{wants}
-use Rattle.ds_space.specs.Lemmas.Lists.{wants_ascend}
 use Rattle.rl_packet.specs.Holding.{holdings_in_order, insert_holding, is_before}
 use Rattle.rl_packet.specs.declared.holding.Holding.{Holding}
 use Rattle.ac_table.specs.declared.batches.Row.{Row}
 use Rattle.ac_table.specs.declared.batches.Batch.{Batch}
 use Rattle.ac_table.specs.Tables.{TableState, Actor, IsTable, find_actor, is_live, waiting_in}
 use Rattle.ac_table.specs.Lemmas.Lists.{all_weaker}
-use Rattle.ac_world.specs.Worlds.{WorldState, seat_of, held_by, is_space, actor_of}
 use Rattle.ac_world.specs.declared.held.Held.{Held}
+use Rattle.ac_world.specs.Worlds.{WorldState, resident_of, held_by, actor_of, is_system}
+use Rattle.ac_world.specs.Behaviours.{Behaviour, behaviour_of}
 use Rattle.hub_machine.specs.State.{State, opening}
 use Rattle.hub_machine.specs.Replays.{replay, IsSettled}
 use Rattle.hub_machine.specs.declared.steps.Step.{Step}
 use Rattle.hub_laws.specs.Laws.{AreAllowed, Holdings, SettledHoldings}
 use Rattle.hub_laws.specs.Scratch.{Pair, asserted_at, pair_at, told_over, told_directly, dataspaces, scratch_at}
+use Rattle.hub_laws.specs.Scratch.{told_replies}
 use Rattle.hub_laws.specs.Scratch.{scratch, exports_of}
 use Rattle.hub_laws.specs.Settled.{holding_of, pair_of}
 use Rattle.hub_laws.specs.Wanting.{passing}
 use Rattle.hub_laws.specs.Standing.{stands, took_all, events_of, value_alone, at_object}
 use Rattle.hub_laws.proofs.Bags.{map_flat, permutation_flat, filter_alike, filter_filter, by_number}
 use Rattle.hub_laws.proofs.Finding.{all_from_found, found_owner}
-use Rattle.hub_laws.proofs.Kept.{IsNear, IsServedBy, IsServed, IsSound, IsHub}
+use Rattle.hub_laws.proofs.Hubs.{is_far}
+use Rattle.hub_laws.proofs.Kept.{IsNear, IsServedBy, IsServed, IsSound, IsHub, IsLawful}
 use Rattle.hub_laws.proofs.Lists.{near_exact, kept_of, entry_of-stands}
 use Rattle.hub_laws.proofs.OwnRows.{pair_of_row, own_are_meant}
 use Rattle.hub_laws.proofs.Owned.{rows_of_met}
-use Rattle.hub_laws.proofs.Told.{goes_to, goes_passing, pair_by, wants_are_told}
+use Rattle.hub_laws.proofs.Told.{goes_to, goes_passing, pair_by, wants_are_told, keys_are_replied}
 use Rattle.hub_laws.proofs.Passing.{passing_ascends}
+use Rattle.hub_laws.proofs.Wanted.{lawful}
 
 -- ---- where nothing waits, what stands is what was got
 
@@ -86,27 +89,34 @@ stands_map f g h each a (r ∷ rs) = by (r.target == a) refl (stands_map f g h e
 abbrev pub pair_held : List Plain → ℕ → ℕ × Held → Pair
 pair_held exports n e = pair_at exports n e.1.entity e.1.value
 
--- an owner is a dataspace or a connection
-owner_kind : (o : ℕ) → o ≢ 0 → (9 ≤ o → o < 17 → ⊥) → not (list_any (λ d. o == d) dataspaces) ≡ nat_le 17 o
-owner_kind o some no_watcher = grind (arith, nat_tests, some, no_watcher)
+-- the gatekeeper and the dataspaces
+abbrev residents : List ℕ
+residents = 0 ∷ dataspaces
 
--- each dataspace stands once among the dataspaces
-spaces_apart : IsDistinct (λ c d. c == d) dataspaces
+-- an owner is one of them or a connection
+owner_kind : (o : ℕ) → (9 ≤ o → o < 17 → ⊥) → not (list_any (λ d. o == d) residents) ≡ nat_le 17 o
+owner_kind o no_watcher = grind (arith, nat_tests, no_watcher)
+
+-- each stands once among them
+residents_apart : IsDistinct (λ c d. c == d) residents
 unfolding IsDistinct
-spaces_apart = search rules
+residents_apart = search rules
 
-each_space : (P : ℕ → Type 0) → ((d : ℕ) → is_space d ≡ true → d < 9 → P d) → AllByRecursion P dataspaces
-each_space P one = (at 1 refl, (at 2 refl, (at 3 refl, (at 4 refl, later))))
+each_resident : (P : ℕ → Type 0) → ((d : ℕ) → d < 9 → P d) → AllByRecursion P residents
+each_resident P one = (at 0 refl, (at 1 refl, (at 2 refl, (at 3 refl, (at 4 refl, later)))))
   where
-    at : (d : ℕ) → is_space d ≡ true → P d
-    at d space = one d space (grind (arith, nat_tests, space))
+    at : (d : ℕ) → nat_lt d 9 ≡ true → P d
+    at d low = one d (grind (arith, nat_tests, low))
 
     later : AllByRecursion P (5 ∷ 6 ∷ 7 ∷ 8 ∷ [])
     later = (at 5 refl, (at 6 refl, (at 7 refl, (at 8 refl, tt))))
 
--- no dataspace owns the row
+-- none of them owns the row
 abbrev is_direct : Row → Bool
-is_direct r = not (list_any (λ d. r.owner == d) dataspaces)
+is_direct r = not (list_any (λ d. r.owner == d) residents)
+
+low_system : (d : ℕ) → d < 9 → is_system d ≡ true
+low_system d low = grind (arith, nat_tests, low)
 
 -- ---- a sound world in which nothing waits
 
@@ -114,18 +124,18 @@ module _ (exports : List Plain) (w : WorldState) (s : IsSound [] w) (quiet : wai
   abbrev rows : List Row
   rows = w.table.rows
 
-  -- a dataspace has got the values asserted at it
-  got_asserted : (d : ℕ) → is_space d ≡ true → is_live d w.table ≡ true
-      → values_of (seat_of d w).got ≡ asserted_at d rows
-  got_asserted d space live =
+  -- a system actor has got the values asserted at it
+  got_asserted : (d : ℕ) → d < 9 → is_live d w.table ≡ true
+      → values_of (resident_of d w).got ≡ asserted_at d rows
+  got_asserted d low live =
       let x = found_live (find_actor d w.table.actors) live in
-      ap values_of (got_stands value_alone (16 + w.opened) d w.table (seat_of d w).got x.0.inbox s.table
+      ap values_of (got_stands value_alone (16 + w.opened) d w.table (resident_of d w).got x.0.inbox s.table
       (inbox_empty d w.table.actors x.0 quiet x.1)
-      (subst (IsServed [] d x.0.inbox w) space (s.served d x.0 x.1)))
+      (subst (IsServed [] d x.0.inbox w) (low_system d low) (s.served d x.0 x.1)))
       ∙ stands_map value_alone (λ e. e.1) (λ r. r.value) (λ r. refl) d rows
 
-  -- and another actor has got what stands there
-  held_stands : (n : ℕ) → is_space (actor_of n) ≡ false → is_live (actor_of n) w.table ≡ true
+  -- and a connection has got what stands there
+  held_stands : (n : ℕ) → is_system (actor_of n) ≡ false → is_live (actor_of n) w.table ≡ true
       → map (pair_held exports n) (held_by (actor_of n) w)
       ≡ map (pair_of_row exports n) (filter (λ r. r.target == actor_of n) rows)
   held_stands n other live =
@@ -136,52 +146,65 @@ module _ (exports : List Plain) (w : WorldState) (s : IsSound [] w) (quiet : wai
       (subst (IsServed [] (actor_of n) x.0.inbox w) other (s.served (actor_of n) x.0 x.1)))
       ∙ stands_map at_object (pair_held exports n) (pair_of_row exports n) (λ r. refl) (actor_of n) rows
 
-  -- the rows of a dataspace at a connection are what it tells it
-  space_tells : (n d : ℕ) → is_space d ≡ true → is_live d w.table ≡ true
+  abbrev behaves : ℕ → Behaviour
+  behaves d = behaviour_of w.bindings d
+
+  -- what a system actor tells a connection, from scratch
+  abbrev tells : ℕ → ℕ → List Pair
+  tells n zero = told_replies exports n w.bindings (asserted_at 0 rows)
+  tells n (suc d) = told_over exports n (asserted_at (suc d) rows)
+
+  keys_told : (n d : ℕ)
+      → IsPermutation
+      (map (pair_by (behaves d) exports n) (filter (goes_to (behaves d) (actor_of n))
+      ((behaves d).keys (asserted_at d rows)))) (tells n d)
+  keys_told n zero = keys_are_replied exports n w.bindings (asserted_at 0 rows)
+  keys_told n (suc d) = wants_are_told exports n (asserted_at (suc d) rows)
+
+  -- the rows of a system actor at a connection are what it tells it
+  actor_tells : (n d : ℕ) → d < 9 → is_live d w.table ≡ true
       → IsPermutation (map (pair_of_row exports n) (filter (λ r. (r.target == actor_of n) && (r.owner == d)) rows))
-      (told_over exports n (asserted_at d rows))
-  space_tells n d space live =
-      let met = s.met d space in
-      let wanted : keys_of (seat_of d w).met ≡ passing (wants (asserted_at d rows)) =
-      met.keys ∙ ap (λ vs. passing (wants vs)) (got_asserted d space live) in
-      let apart : IsDistinct same (keys_of (seat_of d w).met) =
+      (tells n d)
+  actor_tells n d low live =
+      let y : Behaviour = behaves d in
+      let law : IsLawful y = lawful w.bindings d in
+      let met = s.met d low in
+      let wanted : keys_of (resident_of d w).handles ≡ passing y (y.keys (asserted_at d rows)) =
+      met.keys ∙ ap (λ vs. passing y (y.keys vs)) (got_asserted d low live) in
+      let apart : IsDistinct same (keys_of (resident_of d w).handles) =
       subst (IsDistinct same) (sym wanted)
-      (IsDistinct-from_sorted order _ (passing_ascends _ (wants_ascend (asserted_at d rows)))) in
-      let meant : filter (goes_to (actor_of n)) (keys_of (seat_of d w).met)
-      ≡ filter (goes_to (actor_of n)) (wants (asserted_at d rows)) =
-      ap (filter (goes_to (actor_of n))) wanted ∙ goes_passing (actor_of n) (wants (asserted_at d rows)) in
+      (IsDistinct-from_sorted order _ (passing_ascends y _ (law.ascend (asserted_at d rows)))) in
+      let meant : filter (goes_to y (actor_of n)) (keys_of (resident_of d w).handles)
+      ≡ filter (goes_to y (actor_of n)) (y.keys (asserted_at d rows)) =
+      ap (filter (goes_to y (actor_of n))) wanted ∙ goes_passing y (actor_of n) (y.keys (asserted_at d rows)) in
       IsPermutation-trans _ _ _
-      (own_are_meant exports n d (seat_of d w).met rows s.table.rows_ascend apart
-      (rows_of_met d (seat_of d w) rows met))
-      (subst (λ ks. IsPermutation (map (pair_by exports n) ks) (told_over exports n (asserted_at d rows)))
-      (sym meant) (wants_are_told exports n (asserted_at d rows)))
+      (own_are_meant y exports n d (resident_of d w).handles rows s.table.rows_ascend apart
+      (rows_of_met y d (resident_of d w) rows met))
+      (subst (λ ks. IsPermutation (map (pair_by y exports n) ks) (tells n d)) (sym meant) (keys_told n d))
 
   -- the others are a connection's
   owned_directly : AllByRecursion (λ r. is_direct r ≡ nat_le 17 r.owner) rows
   owned_directly =
       all_from_found _ rows s.table.rows_ascend
-      (λ h r is. owner_kind r.owner (s.idle h r is)
+      (λ h r is. owner_kind r.owner
       (λ low high. let live = found_owner h w.table r s.table is in
       let dead = s.no_watchers r.owner low high in
       absurd cc))
 
-  -- the pairs of a dataspace's rows at a connection, and those that it tells it
+  -- the pairs of a system actor's rows at a connection
   abbrev pairs_of : ℕ → ℕ → List Pair
   pairs_of n d = map (pair_of_row exports n) (filter (λ r. r.owner == d) (filter (λ r. r.target == actor_of n) rows))
 
-  abbrev pairs_by : ℕ → ℕ → List Pair
-  pairs_by n d = told_over exports n (asserted_at d rows)
-
-  told_each : (n : ℕ) → IsPermutation (flat_map (pairs_of n) dataspaces) (flat_map (pairs_by n) dataspaces)
+  told_each : (n : ℕ) → IsPermutation (flat_map (pairs_of n) residents) (flat_map (tells n) residents)
   told_each n =
-      permutation_flat (pairs_of n) (pairs_by n) dataspaces
-      (each_space (λ d. IsPermutation (pairs_of n d) (pairs_by n d)) one)
+      permutation_flat (pairs_of n) (tells n) residents
+      (each_resident (λ d. IsPermutation (pairs_of n d) (tells n d)) one)
     where
-      one : (d : ℕ) → is_space d ≡ true → d < 9 → IsPermutation (pairs_of n d) (pairs_by n d)
-      one d space low =
-          subst (λ l. IsPermutation (map (pair_of_row exports n) l) (pairs_by n d))
+      one : (d : ℕ) → d < 9 → IsPermutation (pairs_of n d) (tells n d)
+      one d low =
+          subst (λ l. IsPermutation (map (pair_of_row exports n) l) (tells n d))
           (sym (filter_filter (λ r. r.owner == d) (λ r. r.target == actor_of n) rows))
-          (space_tells n d space (s.always d low))
+          (actor_tells n d low (s.always d low))
 
   direct : (n : ℕ)
       → map (pair_of_row exports n) (filter is_direct (filter (λ r. r.target == actor_of n) rows))
@@ -191,33 +214,35 @@ module _ (exports : List Plain) (w : WorldState) (s : IsSound [] w) (quiet : wai
       (filter_filter is_direct (λ r. r.target == actor_of n) rows
       ∙ filter_alike _ _ rows (all_weaker _ _ (λ r is. ap (λ b. (r.target == actor_of n) && b) is) rows owned_directly))
 
-  pub held_scratch : (n : ℕ) → is_space (actor_of n) ≡ false → is_live (actor_of n) w.table ≡ true
-      → IsPermutation (map (pair_held exports n) (held_by (actor_of n) w)) (scratch_at exports n rows)
+  pub held_scratch : (n : ℕ) → is_system (actor_of n) ≡ false → is_live (actor_of n) w.table ≡ true
+      → IsPermutation (map (pair_held exports n) (held_by (actor_of n) w)) (scratch_at exports n w.bindings rows)
   held_scratch n other live =
       let here : List Row = filter (λ r. r.target == actor_of n) rows in
-      let parts : List Row = flat_map (λ d. filter (λ r. r.owner == d) here) dataspaces in
+      let parts : List Row = flat_map (λ d. filter (λ r. r.owner == d) here) residents in
       let last : List Row = filter is_direct here in
       let joined : map (pair_of_row exports n) (parts ++ last)
-      ≡ flat_map (pairs_of n) dataspaces ++ told_directly exports n rows =
+      ≡ flat_map (pairs_of n) residents ++ told_directly exports n rows =
       map-append (pair_of_row exports n) parts last
-      ∙ (λ i. map_flat (pair_of_row exports n) (λ d. filter (λ r. r.owner == d) here) dataspaces i ++ direct n i) in
-      subst (λ l. IsPermutation l (scratch_at exports n rows)) (sym (held_stands n other live))
+      ∙ (λ i. map_flat (pair_of_row exports n) (λ d. filter (λ r. r.owner == d) here) residents i ++ direct n i) in
+      subst (λ l. IsPermutation l (scratch_at exports n w.bindings rows)) (sym (held_stands n other live))
       (IsPermutation-trans _ _ _
       (IsPermutation-map (pair_of_row exports n) here (parts ++ last)
-      (by_number (λ r. r.owner) dataspaces here spaces_apart))
-      (subst (λ l. IsPermutation l (scratch_at exports n rows)) (sym joined)
+      (by_number (λ r. r.owner) residents here residents_apart))
+      (subst (λ l. IsPermutation l (scratch_at exports n w.bindings rows)) (sym joined)
       (IsPermutation-append_left (told_directly exports n rows) _ _ (told_each n))))
 
 -- ---- a hub
 
--- a connection is no dataspace
-no_space : (k : ℕ) → is_space (actor_of k) ≡ false
-no_space k = grind (arith, nat_tests)
+-- a connection that is live is no system actor
+no_system : (k : ℕ) (w : WorldState) → IsSound [] w → is_live (actor_of k) w.table ≡ true
+    → is_system (actor_of k) ≡ false
+no_system k w s live = let far = is_far [] w k s live in grind (arith, nat_tests, far)
 
 pub scratch_stands : (s : State) → IsHub [] s → IsSettled s → (k : ℕ) → is_live (actor_of k) s.world.table ≡ true
     → IsPermutation (map (pair_held (exports_of k s) k) (held_by (actor_of k) s.world)) (scratch k s)
 scratch_stands s hub settled k live =
-    held_scratch (exports_of k s) s.world hub.sound (omega (arith, settled)) k (no_space k) live
+    held_scratch (exports_of k s) s.world hub.sound (omega (arith, settled)) k
+    (no_system k s.world hub.sound live) live
 
 -- ---- in order
 

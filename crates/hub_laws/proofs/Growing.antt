@@ -5,20 +5,18 @@ use Rattle.std.specs.Prelude.{unwrap_or}
 use Rattle.std.specs.List.{AllByRecursion}
 use Rattle.std.specs.List.Sorted.{IsStrictlySortedBy}
 use Rattle.std.specs.Ordering.{nat_cmp}
-use Rattle.pv_value.specs.Plain.{boolean}
 use Rattle.ac_table.specs.declared.batches.Row.{Row}
 use Rattle.ac_table.specs.declared.batches.Event.{Event}
-use Rattle.ac_table.specs.declared.batches.Event.TheVariants.{Assert, Retract, Message, Sync}
+use Rattle.ac_table.specs.declared.batches.Event.TheVariants.{Retract, Message, Sync}
 use Rattle.ac_table.specs.declared.batches.Batch.{Batch}
 use Rattle.ac_table.specs.Tables.{TableState, Actor, IsTable, find_actor, is_live, ended, rows_of, first_batch}
 use Rattle.ac_world.specs.declared.acts.Act.{Act}
 use Rattle.ac_world.specs.declared.acts.Act.TheVariants as act
 use Rattle.ac_world.specs.declared.turns.Turned.TheVariants.{Gone}
 use Rattle.ac_world.specs.Outboxes.{Outbox, Plan, plan_over, told, told_to, posted, retractions, acted, all_acted}
-use Rattle.ac_world.specs.Turns.{After as TurnOf, space_turn, plain_turn, connection_turn, turn_with, turn_first, turn}
-use Rattle.ac_world.specs.declared.aims.Aim.{Aim}
-use Rattle.ac_world.specs.Turns.{aim_at, say_at, deliver, answered, all_answered}
-use Rattle.ac_world.specs.Worlds.{WorldState, held_by, without_entry, is_space, is_system, actor_of, all_delivered}
+use Rattle.ac_world.specs.Turns.{After as TurnOf, connection_turn, turn_with, turn_first, turn, system_turn}
+use Rattle.ac_world.specs.Turns.{deliver}
+use Rattle.ac_world.specs.Worlds.{WorldState, held_by, without_entry, is_system, actor_of, all_delivered}
 use Rattle.ac_world.specs.Worlds.{arrived, sent, gone, ended_of}
 use Rattle.ac_world.specs.Lemmas.Entries.{put_other, out_other, KeysAscend, ascend_none}
 use Rattle.hub_laws.proofs.Committing.{done_in}
@@ -27,9 +25,9 @@ use Rattle.hub_laws.proofs.Joining.{joined_other}
 use Rattle.hub_laws.proofs.Kept.{made_in, IsLog, IsSound, Moves}
 use Rattle.hub_laws.proofs.Leaving.{one_or_not}
 use Rattle.hub_laws.proofs.Moving.{made_in-told, begin_moves, put_moves, dropped_moves, said_moves}
-use Rattle.hub_laws.proofs.Posting.{posted_to, posted_table, table-popped, found-popped_other}
+use Rattle.hub_laws.proofs.Posting.{posted_to, posted_table, found-popped_other}
 use Rattle.hub_laws.proofs.Serving.{events_posted, log_posted}
-use Rattle.hub_laws.proofs.Turns.{without_first, turning_of, space_after, space_runs}
+use Rattle.hub_laws.proofs.Turns.{without_first, turning_of, system_after, system_low, system_runs}
 
 -- The actor b, found as x in the later world, was there in the earlier one. It has taken nothing since, and what came
 -- to its inbox goes on from the handles of before.
@@ -180,66 +178,35 @@ deliver_grows a b es w apart =
     grows_alike b w (deliver a es (without_first a w)) (omega arith) refl (found-popped_other a b w.table apart)
     (ap (λ o. unwrap_or o []) (put_other a b (all_delivered es (held_by a w)) w.held apart))
 
-said_at_moves : (a : ℕ) (t : TableState) (o : Option Aim) (p : Plan) → Moves a t p → Moves a t (say_at o p)
-said_at_moves a t None p m = m
-said_at_moves a t (Some aim) p m = said_moves a t p m aim.at.actor (Message aim.at.entity aim.value) tt
-
-answered_moves : (a : ℕ) (t : TableState) (e : Event) (p : Plan) → Moves a t p → Moves a t (answered e p)
-answered_moves a t (Assert h entity v) p m = m
-answered_moves a t (Retract h entity) p m = m
-answered_moves a t (Message entity v) p m = m
-answered_moves a t (Sync entity peer) p m = said_at_moves a t (aim_at (boolean true) peer) p m
-
-all_answered_moves : (a : ℕ) (t : TableState) (es : List Event) (p : Plan) → Moves a t p
-    → Moves a t (all_answered es p)
-all_answered_moves a t [] p m = m
-all_answered_moves a t (e ∷ es) p m = all_answered_moves a t es (answered e p) (answered_moves a t e p m)
-
 module _ (a b : ℕ) (w : WorldState) (k : IsSound [] w) (apart : b ≢ a) where
-  space_grows : (batch : Batch) → first_batch a w.table ≡ Some batch → is_space a ≡ true
-      → Grows b w (space_turn a batch (without_first a w)).world
-  space_grows batch is space =
-      let u : WorldState = space_after a batch w in
+  system_grows : (batch : Batch) → first_batch a w.table ≡ Some batch → is_system a ≡ true → a < 9
+      → Grows b w (system_turn a batch (without_first a w)).world
+  system_grows batch is system low =
+      let u : WorldState = system_after a batch w in
       grows_on b w u _ (grows_alike b w u (omega arith) refl (found-popped_other a b w.table apart) refl)
-      (done_grows a b u (turning_of a batch w).plan (space_runs a batch w k space is).moves)
+      (done_grows a b u (turning_of a batch w).plan (system_runs a batch w k system low is).moves)
 
-  plain_grows : (batch : Batch) → Grows b w (plain_turn a batch (without_first a w)).world
-  plain_grows batch =
-      let u : WorldState = deliver a batch.events (without_first a w) in
-      let table : IsTable u.table = table-popped a w.table k.table in
-      grows_on b w u _ (deliver_grows a b batch.events w apart)
-      (done_grows a b u (all_answered batch.events (plan_over u.table))
-      (all_answered_moves a u.table batch.events (plan_over u.table) (begin_moves a u.table table)))
-
-  with_grows : (batch : Batch) → first_batch a w.table ≡ Some batch
+  with_grows : (batch : Batch) → first_batch a w.table ≡ Some batch → is_live a w.table ≡ true
       → Grows b w (turn_with a batch (without_first a w)).world
-  with_grows batch is = space (is_space a) refl
+  with_grows batch is live = by (is_system a) refl
     where
-      plain : TurnOf
-      plain = plain_turn a batch (without_first a w)
+      by : (c : Bool) → is_system a ≡ c
+          → Grows b w (cond c (system_turn a batch (without_first a w))
+          (connection_turn a batch (without_first a w))).world
+      by true system = system_grows batch is system (system_low a w k system live)
+      by false far = deliver_grows a b batch.events w apart
 
-      connection : TurnOf
-      connection = connection_turn a batch (without_first a w)
-
-      system : (c : Bool) → Grows b w (cond c plain connection).world
-      system true = plain_grows batch
-      system false = deliver_grows a b batch.events w apart
-
-      space : (c : Bool) → is_space a ≡ c
-          → Grows b w (cond c (space_turn a batch (without_first a w)) (cond (is_system a) plain connection)).world
-      space true here = space_grows batch is here
-      space false there = system (is_system a)
-
-  first_grows : (o : Option Batch) → first_batch a w.table ≡ o → Grows b w (turn_first a o w).world
-  first_grows None is = grows_not b w
-  first_grows (Some batch) is = with_grows batch is
+  first_grows : (o : Option Batch) → first_batch a w.table ≡ o → is_live a w.table ≡ true
+      → Grows b w (turn_first a o w).world
+  first_grows None is live = grows_not b w
+  first_grows (Some batch) is live = with_grows batch is live
 
   pub other_turn_grows : Grows b w (turn a w).world
-  other_turn_grows = by (is_live a w.table)
+  other_turn_grows = by (is_live a w.table) refl
     where
       none : TurnOf
       none = record { world = w; turned = Gone }
 
-      by : (c : Bool) → Grows b w (cond c (turn_first a (first_batch a w.table) w) none).world
-      by true = first_grows (first_batch a w.table) refl
-      by false = grows_not b w
+      by : (c : Bool) → is_live a w.table ≡ c → Grows b w (cond c (turn_first a (first_batch a w.table) w) none).world
+      by true live = first_grows (first_batch a w.table) refl live
+      by false dead = grows_not b w

@@ -9,7 +9,7 @@ use Rattle.std.proofs.lemmas.Bool.Decides.{nat_tests}
 use Rattle.ac_table.specs.declared.batches.Row.{Row}
 use Rattle.ac_table.specs.Tables.{TableState, Actor, IsTable, find_actor, find_row, is_live}
 use Rattle.ac_world.specs.declared.spreads.Spread.{Spread as SpreadOf}
-use Rattle.ac_world.specs.Worlds.{WorldState, entry_of, with_entry, without_entry, is_space, actor_of, gone}
+use Rattle.ac_world.specs.Worlds.{WorldState, entry_of, with_entry, without_entry, is_system, actor_of, gone}
 use Rattle.ac_world.specs.Worlds.{ended_of}
 use Rattle.ac_world.specs.Lemmas.Entries.{put_found, put_other, out_other, out_gone, ascend_without, ascend_with}
 use Rattle.rl_ports.specs.Ports.{PortsState}
@@ -47,7 +47,9 @@ without k w s = record s { world = w; connections = without_entry k s.connection
 left_live : (P : Endings) (ends : List ℕ) (k : ℕ) (s : State) → is_live (actor_of k) s.world.table ≡ true
     → IsHub ends s → IsHub ends (without k (gone (actor_of k) s.world) s)
 left_live P ends k s live h = record {
-  sound = gone_sound P ends (actor_of k) s.world (is_far ends s.world k h.sound live) h.sound;
+  sound = gone_sound P ends (actor_of k) s.world (is_far ends s.world k h.sound live)
+      (λ none. absurd (omega (arith, is_far ends s.world k h.sound live, h.sound.numbers (actor_of k) live, none)))
+      h.sound;
   named = λ j is.
       let b = gone_live_before P (actor_of k) (actor_of j) s.world h.sound.table is in
       let n = h.named j b.0 in
@@ -292,10 +294,10 @@ settled ends s out h = record {
     no_watchers = h.sound.no_watchers;
     numbers = h.sound.numbers;
     rows = h.sound.rows;
-    served = λ a x found. served_none ends s a x h.sound.table out found (is_space a) (h.sound.served a x found);
+    served = λ a x found. served_none ends s a x h.sound.table out found (is_system a) (h.sound.served a x found);
     met = h.sound.met;
     known = h.sound.known;
-    idle = h.sound.idle;
+    fresh = h.sound.fresh;
     held_ascends = h.sound.held_ascends;
     unheld = h.sound.unheld;
   };

@@ -7,9 +7,11 @@ use Rattle.std.specs.List.Sorted.{IsStrictlySortedBy}
 use Rattle.std.specs.Map.{keys_of, values_of}
 use Rattle.std.specs.Ordering.{nat_cmp}
 use Rattle.pv_value.specs.Plain.{Plain}
+use Rattle.pv_value.specs.WellFormed.{Ascend}
 use Rattle.sr_caveat.specs.declared.caps.Cap.{Cap}
 use Rattle.sr_caveat.specs.Caps.{cap_of}
 use Rattle.ds_space.specs.Spaces.{Rows}
+use Rattle.ds_space.specs.Changes.{among}
 use Rattle.ac_table.specs.declared.batches.Row.{Row}
 use Rattle.ac_table.specs.declared.batches.Event.{Event}
 use Rattle.ac_table.specs.declared.batches.Event.TheVariants.{Assert, Retract, Message, Sync}
@@ -17,9 +19,13 @@ use Rattle.ac_table.specs.declared.batches.Batch.{Batch}
 use Rattle.ac_table.specs.Tables.{TableState, Actor, IsTable, find_actor, find_row, is_live}
 use Rattle.ac_world.specs.declared.spreads.Spread.{Spread}
 use Rattle.ac_world.specs.Outboxes.{Plan, told_to}
-use Rattle.ac_world.specs.Turns.{Turning, observer_in}
-use Rattle.ac_world.specs.Worlds.{WorldState, seat_of, held_by, entry_of, is_space, actor_of}
+use Rattle.ac_world.specs.Aims.{observer_in}
+use Rattle.ac_world.specs.Behaviours.{Behaviour, behaviour_of}
+use Rattle.ac_world.specs.Turns.{Turning}
+use Rattle.ac_world.specs.Worlds.{WorldState, resident_of, held_by, entry_of, is_system, actor_of, first_actors}
+use Rattle.ac_world.specs.Worlds.{no_resident}
 use Rattle.ac_world.specs.Lemmas.Entries.{KeysAscend}
+use Rattle.ac_world.specs.declared.aims.Aim.{Aim}
 use Rattle.hub_machine.specs.State.{State}
 use Rattle.rl_ports.specs.Ports.{PortsState}
 use Rattle.hub_laws.specs.Standing.{stands, took_all, events_of, value_alone, at_object}
@@ -67,7 +73,7 @@ pub record IsNear {X : Type 0} (ends : List ℕ) (rows : List Row) (should kept 
 abbrev pub IsKnown : ℕ → Plain → Type 0
 IsKnown n v = IfSome (observer_in v) (λ r. IfSome (cap_of r) (λ (c : Cap). c.actor ≤ n))
 
--- a dataspace makes no row at a dataspace; each target was live; and so was each observer at a dataspace
+-- the gatekeeper and the dataspaces make no row at one of them; each target was live; and so was each observer there
 pub record IsGood (n : ℕ) (r : Row) : Type 0 where
   pub far : r.owner < 9 → 9 ≤ r.target
   pub target : r.target ≤ n
@@ -86,6 +92,19 @@ FitsEvent n rows a from (Sync entity peer) = Unit {0}
 
 abbrev pub FitsBatch : ℕ → List Row → ℕ → Batch → Type 0
 FitsBatch n rows a b = AllByRecursion (FitsEvent n rows a b.from) b.events
+
+-- ---- what is known of each behaviour
+
+-- what the key wants, where it gets through, goes to an object of an actor numbered 9 or more, and n or less
+abbrev pub IsAimed : Behaviour → ℕ → Plain → Type 0
+IsAimed y n k = (aim : Aim) → y.aim k ≡ Some aim → (9 ≤ aim.at.actor) × (aim.at.actor ≤ n)
+
+-- the keys ascend, there are none of nothing, and they aim at actors that were live where the values name such
+pub record IsLawful (y : Behaviour) : Type 0 where
+  pub ascend : (vs : List Plain) → Ascend (y.keys vs)
+  pub nothing : y.keys [] ≡ []
+  pub aimed : (n : ℕ) (vs : List Plain) (k : Plain) → AllByRecursion (IsKnown n) vs → among k (y.keys vs) ≡ true
+      → IsAimed y n k
 
 -- ---- a turn in the making: the plan of actor a, begun over the table t
 
@@ -110,18 +129,18 @@ pub record AreGood (n a : ℕ) (p : Plan) : Type 0 where
   pub rows : AllByRecursion (IsGood n) p.table.rows
   pub told : (b : ℕ) → AllByRecursion (FitsEvent n p.table.rows b a) (told_to b p.out)
 
--- ---- a dataspace's turn so far: full is what it would have got if nothing were passed over
+-- ---- a system actor's turn so far: full is what it would have got if nothing were passed over
 
 abbrev pub actors_in : List Spread → List ℕ
 actors_in [] = []
 actors_in (x ∷ xs) = x.actor ∷ actors_in xs
 
-pub record Runs (n a : ℕ) (t : TableState) (full : Rows) (u : Turning) : Type 1 where
+pub record Runs (y : Behaviour) (n a : ℕ) (t : TableState) (full : Rows) (u : Turning) : Type 1 where
   pub moves : Moves a t u.plan
   pub good : AreGood n a u.plan
-  pub met : IsMet a u.seat u.plan.table.rows
-  pub near : IsNear (actors_in u.spreads) t.rows full u.seat.got
-  pub known : AllByRecursion (IsKnown n) (values_of u.seat.got)
+  pub met : IsMet y a u.resident u.plan.table.rows
+  pub near : IsNear (actors_in u.spreads) t.rows full u.resident.got
+  pub known : AllByRecursion (IsKnown n) (values_of u.resident.got)
   pub ends : AllByRecursion (λ c. (17 ≤ c) × (is_live c t ≡ true)) (actors_in u.spreads)
 
 -- ---- a state; ends are the actors that are still to end in this step
@@ -135,9 +154,14 @@ pub record IsServedBy {X : Type 0} (f : ℕ → Plain → X) (ends : List ℕ) (
 
 abbrev pub IsServed : List ℕ → ℕ → List Batch → WorldState → Bool → Type 0
 IsServed ends a inbox w true =
-    IsServedBy value_alone ends (16 + w.opened) w.table.rows w.table.next a (seat_of a w).got inbox
+    IsServedBy value_alone ends (16 + w.opened) w.table.rows w.table.next a (resident_of a w).got inbox
 IsServed ends a inbox w false =
     IsServedBy at_object ends (16 + w.opened) w.table.rows w.table.next a (held_by a w) inbox
+
+-- nothing was done but to bind references
+pub record IsFresh (w : WorldState) : Type 0 where
+  pub table : w.table ≡ first_actors 9
+  pub residents : w.residents ≡ (0, no_resident) ∷ []
 
 pub record IsSound (ends : List ℕ) (w : WorldState) : Type 0 where
   pub table : IsTable w.table
@@ -145,11 +169,11 @@ pub record IsSound (ends : List ℕ) (w : WorldState) : Type 0 where
   pub no_watchers : (a : ℕ) → 9 ≤ a → a < 17 → is_live a w.table ≡ false
   pub numbers : (a : ℕ) → is_live a w.table ≡ true → a ≤ 16 + w.opened
   pub rows : AllByRecursion (IsGood (16 + w.opened)) w.table.rows
-  pub served : (a : ℕ) (x : Actor) → find_actor a w.table.actors ≡ Some x → IsServed ends a x.inbox w (is_space a)
-  pub met : (a : ℕ) → is_space a ≡ true → IsMet a (seat_of a w) w.table.rows
-  pub known : (a : ℕ) → is_space a ≡ true → AllByRecursion (IsKnown (16 + w.opened)) (values_of (seat_of a w).got)
-  -- the gatekeeper has no rows
-  pub idle : (h : ℕ) (r : Row) → find_row h w.table.rows ≡ Some r → r.owner ≢ 0
+  pub served : (a : ℕ) (x : Actor) → find_actor a w.table.actors ≡ Some x → IsServed ends a x.inbox w (is_system a)
+  pub met : (a : ℕ) → a < 9 → IsMet (behaviour_of w.bindings a) a (resident_of a w) w.table.rows
+  pub known : (a : ℕ) → a < 9 → AllByRecursion (IsKnown (16 + w.opened)) (values_of (resident_of a w).got)
+  -- before the first connection comes nothing was done
+  pub fresh : w.opened ≡ 0 → IsFresh w
   pub held_ascends : KeysAscend w.held
   -- nothing was delivered to who isn't live
   pub unheld : (a : ℕ) → is_live a w.table ≡ false → entry_of a w.held ≡ None

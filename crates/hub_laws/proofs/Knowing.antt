@@ -7,7 +7,7 @@ use Rattle.sr_caveat.specs.Caps.{cap_of}
 use Rattle.ac_table.specs.declared.batches.Row.{Row}
 use Rattle.ac_table.specs.declared.batches.Event.{Event}
 use Rattle.ac_table.specs.declared.batches.Event.TheVariants.{Assert, Retract, Message, Sync}
-use Rattle.ac_world.specs.Turns.{observer_in}
+use Rattle.ac_world.specs.Aims.{observer_in}
 use Rattle.rl_wire.specs.Crossing.{held_in}
 use Rattle.rl_wire.specs.Lemmas.Later.{all_of_rest}
 use Rattle.hub_valid.specs.Validity.{IsObject, IsObjectValue, HoldsObjects}

@@ -4,7 +4,7 @@ use Rattle.std.proofs.Common.{◌∙◌, subst, arith}
 use Rattle.pv_value.specs.Plain.{Plain}
 use Rattle.ac_table.specs.declared.batches.Batch.{Batch}
 use Rattle.ac_table.specs.Tables.{TableState, Actor, IsTable}
-use Rattle.ac_world.specs.Worlds.{WorldState, seat_of, held_by, is_space, actor_of}
+use Rattle.ac_world.specs.Worlds.{WorldState, resident_of, held_by, is_system, actor_of}
 use Rattle.hub_machine.specs.Replays.{replay}
 use Rattle.hub_laws.specs.Standing.{stands, took_all, events_of, value_alone, at_object}
 use Rattle.hub_laws.specs.Delivery.{IsDelivered, IsDeliveredTo, IsGotBy}
@@ -26,7 +26,7 @@ delivered_to a x w k true s = exact _ a w.table _ k (s.near refl)
 delivered_to a x w k false s = exact _ a w.table _ k (s.near refl)
 
 pub delivered : (w : WorldState) → IsSound [] w → IsDelivered w
-delivered w k a x found = delivered_to a x w k.table (is_space a) (k.served a x found)
+delivered w k a x found = delivered_to a x w k.table (is_system a) (k.served a x found)
 
 pub delivery : Delivery
 delivery steps may = delivered _ (replay_hub steps may).sound
@@ -34,7 +34,7 @@ delivery steps may = delivered _ (replay_hub steps may).sound
 -- where its inbox is empty, a live actor has got all of it
 got_by : (a : ℕ) (x : Actor) (w : WorldState) → x.inbox ≡ [] → (s : Bool) → IsDeliveredTo a x w s → IsGotBy a w s
 got_by a x w empty true is =
-    let got : List (ℕ × Plain) = (seat_of a w).got in
+    let got : List (ℕ × Plain) = (resident_of a w).got in
     subst (λ (bs : List Batch). took_all value_alone (events_of bs) got ≡ stands value_alone a w.table.rows) empty is
 got_by a x w empty false is =
     subst (λ (bs : List Batch). took_all at_object (events_of bs) (held_by a w) ≡ stands at_object a w.table.rows)
@@ -43,7 +43,7 @@ got_by a x w empty false is =
 pub got_in_full : SettledDelivery
 got_in_full steps may settled a x found =
     let w : WorldState = (replay steps).world in
-    got_by a x w (inbox_empty a w.table.actors x (omega (arith, settled)) found) (is_space a)
+    got_by a x w (inbox_empty a w.table.actors x (omega (arith, settled)) found) (is_system a)
     (delivery steps may a x found)
 
 pub wants : Wants

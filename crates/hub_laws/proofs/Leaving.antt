@@ -1,5 +1,5 @@
 -- A world that an actor has left is sound.
-use Rattle.std.proofs.Common.{◌≡◌, ◌≢◌, ℕ, ◌+◌, ◌<◌, ◌≤◌, List, [], ◌∷◌, Bool, true, false, cond, not, Some}
+use Rattle.std.proofs.Common.{◌≡◌, ◌≢◌, ℕ, ◌+◌, ◌≤◌, List, [], ◌∷◌, Bool, true, false, cond, not, Some}
 use Rattle.std.proofs.Common.{refl, sym, ap, ◌∙◌, subst, arith, eqb, ◌⊎◌, inl, inr}
 use Rattle.std.specs.Prelude.{unwrap_or}
 use Rattle.std.specs.List.{AllByRecursion, filter}
@@ -7,11 +7,12 @@ use Rattle.std.proofs.lemmas.Bool.Decides.{nat_tests}
 use Rattle.pv_value.specs.Plain.{Plain}
 use Rattle.ac_table.specs.declared.batches.Row.{Row}
 use Rattle.ac_table.specs.declared.batches.Batch.{Batch}
-use Rattle.ac_table.specs.Tables.{Actor, IsTable, find_actor, find_row, is_live, ended, rows_of}
+use Rattle.ac_table.specs.Tables.{Actor, IsTable, find_actor, is_live, ended, rows_of}
 use Rattle.ac_table.specs.Tables.{rows_of_others}
 use Rattle.ac_world.specs.Outboxes.{told_to, retractions}
-use Rattle.ac_world.specs.Worlds.{WorldState, seat_of, held_by, entry_of, without_entry, is_space, gone}
+use Rattle.ac_world.specs.Worlds.{WorldState, resident_of, held_by, entry_of, without_entry, is_system, gone}
 use Rattle.ac_world.specs.Lemmas.Entries.{out_other, out_gone, ascend_without}
+use Rattle.ac_world.specs.Behaviours.{behaviour_of}
 use Rattle.hub_laws.specs.Standing.{value_alone, at_object}
 use Rattle.hub_laws.specs.Wanting.{IsMet}
 use Rattle.hub_laws.proofs.Asked.{MetKept, OthersFound, OthersKeep}
@@ -97,10 +98,12 @@ served_in : (P : Endings) (ends : List ℕ) (a b : ℕ) (w : WorldState) (old ne
     → IsServed ends b new (gone a w) s
 served_in P ends a b w old new k ne is true s =
     let q = P.posted_table a (retractions (rows_of a w.table.rows) []) (ended a w.table) in
-    subst (λ rows. IsServedBy value_alone ends (16 + w.opened) rows (gone a w).table.next b (seat_of b w).got new)
+    subst (λ rows. IsServedBy value_alone ends (16 + w.opened) rows (gone a w).table.next b (resident_of b w).got new)
     (sym q.0)
-    (subst (λ n. IsServedBy value_alone ends (16 + w.opened) (rows_of_others a w.table.rows) n b (seat_of b w).got new)
-    (sym q.1) (P.served_after_end Plain value_alone ends (16 + w.opened) a b w.table (seat_of b w).got old new k s is))
+    (subst (λ n. IsServedBy value_alone ends (16 + w.opened) (rows_of_others a w.table.rows) n b
+    (resident_of b w).got new)
+    (sym q.1)
+    (P.served_after_end Plain value_alone ends (16 + w.opened) a b w.table (resident_of b w).got old new k s is))
 served_in P ends a b w old new k ne is false s =
     let q = P.posted_table a (retractions (rows_of a w.table.rows) []) (ended a w.table) in
     let same : held_by b w ≡ held_by b (gone a w) = sym (ap (λ o. unwrap_or o []) (out_other a b w.held ne)) in
@@ -110,19 +113,16 @@ served_in P ends a b w old new k ne is false s =
     (sym q.1) (P.served_after_end _ at_object ends (16 + w.opened) a b w.table (held_by b w) old new k s is)))
 
 served_gone : (P : Endings) (ends : List ℕ) (a : ℕ) (w : WorldState) → IsSound ends w → (b : ℕ) (x : Actor)
-    → find_actor b (gone a w).table.actors ≡ Some x → IsServed ends b x.inbox (gone a w) (is_space b)
+    → find_actor b (gone a w).table.actors ≡ Some x → IsServed ends b x.inbox (gone a w) (is_system b)
 served_gone P ends a w k b x found =
     let out = retractions (rows_of a w.table.rows) [] in
     let y = P.posted_to a b out (ended a w.table) x (P.retractions_ascend a w.table.rows) found in
     let before = found_before a b w.table.actors y.0 y.1 in
-    served_in P ends a b w y.0.inbox x.inbox k.table before.1 y.2 (is_space b) (k.served b y.0 before.0)
+    served_in P ends a b w y.0.inbox x.inbox k.table before.1 y.2 (is_system b) (k.served b y.0 before.0)
 
-space_low : (b : ℕ) → is_space b ≡ true → b < 9
-space_low b is = grind (arith, nat_tests, is)
-
-pub gone_sound : (P : Endings) (ends : List ℕ) (a : ℕ) (w : WorldState) → 17 ≤ a → IsSound ends w
+pub gone_sound : (P : Endings) (ends : List ℕ) (a : ℕ) (w : WorldState) → 17 ≤ a → w.opened ≢ 0 → IsSound ends w
     → IsSound ends (gone a w)
-gone_sound P ends a w far k =
+gone_sound P ends a w far some k =
     let q = P.posted_table a (retractions (rows_of a w.table.rows) []) (ended a w.table) in
     record {
       table = q.3 (P.ended_table a w.table k.table).0;
@@ -134,14 +134,14 @@ gone_sound P ends a w far k =
           (all_others (16 + w.opened) a w.table.rows k.rows);
       served = served_gone P ends a w k;
       met = λ b is.
-          let ne : b ≢ a = λ same. absurd (omega (arith, space_low b is, far, same)) in
-          subst (IsMet b (seat_of b w)) (sym q.0)
-          (P.met_kept b (seat_of b w) w.table.rows (rows_of_others a w.table.rows) (k.met b is)
+          let ne : b ≢ a = λ same. absurd (omega (arith, is, far, same)) in
+          subst (IsMet (behaviour_of w.bindings b) b (resident_of b w)) (sym q.0)
+          (P.met_kept (behaviour_of w.bindings b) b (resident_of b w) w.table.rows (rows_of_others a w.table.rows)
+          (k.met b is)
           (λ h r own found. P.others_keep a h w.table.rows r found (λ same. ne (sym own ∙ same)))
           (λ h r own found. (P.others_found a h w.table.rows r k.table.rows_ascend found).0));
       known = k.known;
-      idle = λ h r found.
-          k.idle h r (P.others_found a h w.table.rows r k.table.rows_ascend (ap (find_row h) (sym q.0) ∙ found)).0;
+      fresh = λ none. absurd (some none);
       held_ascends = ascend_without a w.held k.held_ascends;
       unheld = λ b is. elim (one_or_not b a) [
         | inl same ↦

@@ -5,6 +5,7 @@ pub mod Committing
 pub mod Distinct
 pub mod EndingActors
 pub mod Finding
+pub mod FirstActors
 pub mod FromScratch
 pub mod Good
 pub mod Growing

@@ -1,5 +1,5 @@
--- What a dataspace has got after events of a batch: its handles and those of the events to come still ascend, and are
--- still below the next one.
+-- What a system actor has got after events of a batch: its handles and those of the events to come still ascend, and
+-- are still below the next one.
 use Rattle.std.proofs.Common.{◌≡◌, ℕ, ◌<◌, List, [], ◌∷◌, ◌++◌, Bool, true, false, Option, Some, None, ◌⊎◌, inl}
 use Rattle.std.proofs.Common.{refl, ap, arith, ◌∙◌, cond, Ordering, Less, Equal, Greater, inr}
 use Rattle.std.proofs.Common.{if◌then◌else◌, nat_lt, append_assoc}
@@ -11,17 +11,18 @@ use Rattle.std.specs.Map.{keys_of, values_of}
 use Rattle.std.specs.Ordering.{nat_cmp, match_ordering}
 use Rattle.pv_value.specs.Plain.{Plain}
 use Rattle.ds_space.specs.Spaces.{Rows, changed, has_row}
-use Rattle.ds_space.specs.Wants.{wants, wanted_weight}
 use Rattle.ds_space.specs.declared.space.SpaceEvent.TheVariants.{Add}
 use Rattle.ds_space.specs.declared.space.Change.{Change}
 use Rattle.ds_space.specs.declared.space.Change.TheVariants.{Left, Came}
-use Rattle.ds_space.specs.Fans.{fan_weight}
+use Rattle.ds_space.specs.declared.space.Fanned.{Fanned}
 use Rattle.ac_table.specs.declared.batches.Event.{Event}
 use Rattle.ac_table.specs.declared.batches.Event.TheVariants.{Assert, Retract, Message, Sync}
 use Rattle.ac_table.specs.declared.batches.Batch.{Batch}
 use Rattle.ac_table.specs.Lemmas.Lists.{cmp_above}
 use Rattle.ac_world.specs.declared.aims.Aim.{Aim}
-use Rattle.ac_world.specs.Turns.{Turning, aim_of, came_at, changed_by, all_changed, changes, with_rows, regot}
+use Rattle.ac_world.specs.Behaviours.{Behaviour, fanned_weight}
+use Rattle.ac_world.specs.Systems.{changes}
+use Rattle.ac_world.specs.Turns.{Turning, came_at, changed_by, all_changed, with_rows, regot}
 use Rattle.ac_world.specs.Turns.{taken_in, passed_on, turned_by, all_turned}
 use Rattle.ac_world.specs.Worlds.{Deliveries, with_entry, without_entry, delivered, all_delivered}
 use Rattle.hub_laws.specs.Standing.{took, took_all, events_of, at_object}
@@ -90,102 +91,106 @@ all_with_rest {X = X} P h x (e ∷ es) rest all = split (nat_cmp h e.0) (all_wit
     split Equal more = all_but_one P (e.0 ∷ keys_of es) h rest all
     split Greater more = (all.0, more)
 
--- ---- what one event does to what a dataspace has got
+-- ---- what one event does to what a system actor has got
 
-got-came_at : (a : ℕ) (k : Plain) (aim : Option Aim) (t : Turning) → (came_at a k aim t).seat.got ≡ t.seat.got
+got-came_at : (a : ℕ) (k : Plain) (aim : Option Aim) (t : Turning) → (came_at a k aim t).resident.got ≡ t.resident.got
 got-came_at a k None t = refl
 got-came_at a k (Some aim) t = refl
 
-got-changed_by : (a : ℕ) (c : Change) (t : Turning) → (changed_by a c t).seat.got ≡ t.seat.got
-got-changed_by a (Left k) t = refl
-got-changed_by a (Came k) t = got-came_at a k (aim_of k) t
+got-changed_by : (y : Behaviour) (a : ℕ) (c : Change) (t : Turning) → (changed_by y a c t).resident.got ≡ t.resident.got
+got-changed_by y a (Left k) t = refl
+got-changed_by y a (Came k) t = got-came_at a k (y.aim k) t
 
-got-all_changed : (a : ℕ) (cs : List Change) (t : Turning) → (all_changed a cs t).seat.got ≡ t.seat.got
-got-all_changed a [] t = refl
-got-all_changed a (c ∷ cs) t = got-all_changed a cs (changed_by a c t) ∙ got-changed_by a c t
+got-all_changed : (y : Behaviour) (a : ℕ) (cs : List Change) (t : Turning)
+    → (all_changed y a cs t).resident.got ≡ t.resident.got
+got-all_changed y a [] t = refl
+got-all_changed y a (c ∷ cs) t = got-all_changed y a cs (changed_by y a c t) ∙ got-changed_by y a c t
 
-pub got-regot : (a : ℕ) (rows : Rows) (t : Turning) → (regot a rows t).seat.got ≡ rows
-got-regot a rows t =
-    got-all_changed a (changes (wants (values_of t.seat.got)) (wants (values_of rows))) (with_rows rows t)
+pub got-regot : (y : Behaviour) (a : ℕ) (rows : Rows) (t : Turning) → (regot y a rows t).resident.got ≡ rows
+got-regot y a rows t =
+    got-all_changed y a (changes (y.keys (values_of t.resident.got)) (y.keys (values_of rows))) (with_rows rows t)
 
 -- an assertion that comes is got, or it is passed over
 abbrev IsGotOrPassed : ℕ → Plain → Rows → Rows → Type 0
 IsGotOrPassed h v old new = (new ≡ with_entry h v old) ⊎ (new ≡ old)
 
-got-taken_in : (a from h : ℕ) (v : Plain) (t : Turning)
-    → IsGotOrPassed h v t.seat.got (taken_in a from h v t).seat.got
-got-taken_in a from h v t =
-    one_of (has_row h t.seat.got) (nat_lt 33554432 (wanted_weight (values_of (changed t.seat.got (Add h v))))) _ _ refl
-    (got-regot a (with_entry h v t.seat.got) t)
+got-taken_in : (y : Behaviour) (a from h : ℕ) (v : Plain) (t : Turning)
+    → IsGotOrPassed h v t.resident.got (taken_in y a from h v t).resident.got
+got-taken_in y a from h v t =
+    one_of (has_row h t.resident.got) (nat_lt 33554432 (y.weight (values_of (changed t.resident.got (Add h v)))))
+    _ _ refl
+    (got-regot y a (with_entry h v t.resident.got) t)
   where
-    one_of : (b c : Bool) (s u : Turning) → s.seat.got ≡ t.seat.got → u.seat.got ≡ with_entry h v t.seat.got
-        → IsGotOrPassed h v t.seat.got (if b then t else if c then s else u).seat.got
+    one_of : (b c : Bool) (s u : Turning) → s.resident.got ≡ t.resident.got
+        → u.resident.got ≡ with_entry h v t.resident.got
+        → IsGotOrPassed h v t.resident.got (if b then t else if c then s else u).resident.got
     one_of true c s u passed got = inr refl
     one_of false true s u passed got = inr passed
     one_of false false s u passed got = inl got
 
-got-passed_on : (from : ℕ) (v : Plain) (t : Turning) → (passed_on from v t).seat.got ≡ t.seat.got
-got-passed_on from v t = one_of (nat_lt 33554432 (fan_weight (values_of t.seat.got) v)) _ _ refl refl
+got-passed_on : (from : ℕ) (fs : List Fanned) (t : Turning) → (passed_on from fs t).resident.got ≡ t.resident.got
+got-passed_on from fs t = one_of (nat_lt 33554432 (fanned_weight fs)) _ _ refl refl
   where
-    one_of : (b : Bool) (s u : Turning) → s.seat.got ≡ t.seat.got → u.seat.got ≡ t.seat.got
-        → (if b then s else u).seat.got ≡ t.seat.got
+    one_of : (b : Bool) (s u : Turning) → s.resident.got ≡ t.resident.got → u.resident.got ≡ t.resident.got
+        → (if b then s else u).resident.got ≡ t.resident.got
     one_of true s u first second = first
     one_of false s u first second = second
 
 -- ---- handles that ascend
 
-pub log_turned_by : (a from : ℕ) (e : Event) (t : Turning) (rest : List ℕ)
-    → IsStrictlySortedBy nat_cmp (keys_of t.seat.got ++ (made_by e ++ rest))
-    → IsStrictlySortedBy nat_cmp (keys_of (turned_by a from e t).seat.got ++ rest)
-log_turned_by a from (Assert h entity v) t rest s = elim (got-taken_in a from h v t) [
-  | inl got ↦ rw (got, keys_with h v t.seat.got rest s) s
-  | inr passed ↦ rw passed (ascend_but_one (keys_of t.seat.got) h rest s)
+pub log_turned_by : (y : Behaviour) (a from : ℕ) (e : Event) (t : Turning) (rest : List ℕ)
+    → IsStrictlySortedBy nat_cmp (keys_of t.resident.got ++ (made_by e ++ rest))
+    → IsStrictlySortedBy nat_cmp (keys_of (turned_by y a from e t).resident.got ++ rest)
+log_turned_by y a from (Assert h entity v) t rest s = elim (got-taken_in y a from h v t) [
+  | inl got ↦ rw (got, keys_with h v t.resident.got rest s) s
+  | inr passed ↦ rw passed (ascend_but_one (keys_of t.resident.got) h rest s)
 ]
-log_turned_by a from (Retract h entity) t rest s =
-    rw (got-regot a (without_entry h t.seat.got) t) (ascend_without_rest h t.seat.got rest s)
-log_turned_by a from (Message entity v) t rest s = rw (got-passed_on from v t) s
-log_turned_by a from (Sync entity peer) t rest s = s
+log_turned_by y a from (Retract h entity) t rest s =
+    rw (got-regot y a (without_entry h t.resident.got) t) (ascend_without_rest h t.resident.got rest s)
+log_turned_by y a from (Message entity v) t rest s = rw (got-passed_on from (y.fan (values_of t.resident.got) v) t) s
+log_turned_by y a from (Sync entity peer) t rest s = s
 
-log_all_turned : (a from : ℕ) (t : Turning) (es : List Event) (rest : List ℕ)
-    → IsStrictlySortedBy nat_cmp (keys_of t.seat.got ++ (made_in es ++ rest))
-    → IsStrictlySortedBy nat_cmp (keys_of (all_turned a from es t).seat.got ++ rest)
-log_all_turned a from t [] rest s = s
-log_all_turned a from t (e ∷ es) rest s =
-    log_all_turned a from (turned_by a from e t) es rest
-    (log_turned_by a from e t (made_in es ++ rest) (rw (append_assoc (made_by e) (made_in es) rest) at s))
+log_all_turned : (y : Behaviour) (a from : ℕ) (t : Turning) (es : List Event) (rest : List ℕ)
+    → IsStrictlySortedBy nat_cmp (keys_of t.resident.got ++ (made_in es ++ rest))
+    → IsStrictlySortedBy nat_cmp (keys_of (all_turned y a from es t).resident.got ++ rest)
+log_all_turned y a from t [] rest s = s
+log_all_turned y a from t (e ∷ es) rest s =
+    log_all_turned y a from (turned_by y a from e t) es rest
+    (log_turned_by y a from e t (made_in es ++ rest) (rw (append_assoc (made_by e) (made_in es) rest) at s))
 
-pub turn_log : TurnLog
-turn_log a from u es rest s =
-    log_all_turned a from u es rest (rw (append_assoc (keys_of u.seat.got) (made_in es) rest) at s)
+pub turn_log : (y : Behaviour) → TurnLog y
+turn_log y a from u es rest s =
+    log_all_turned y a from u es rest (rw (append_assoc (keys_of u.resident.got) (made_in es) rest) at s)
 
 -- ---- what holds of each handle
 
-all_turned_by : (P : ℕ → Type 0) (a from : ℕ) (e : Event) (t : Turning) (rest : List ℕ)
-    → AllByRecursion P (keys_of t.seat.got ++ (made_by e ++ rest))
-    → AllByRecursion P (keys_of (turned_by a from e t).seat.got ++ rest)
-all_turned_by P a from (Assert h entity v) t rest all = elim (got-taken_in a from h v t) [
-  | inl got ↦ rw got (all_with_rest P h v t.seat.got rest all)
-  | inr passed ↦ rw passed (all_but_one P (keys_of t.seat.got) h rest all)
+all_turned_by : (y : Behaviour) (P : ℕ → Type 0) (a from : ℕ) (e : Event) (t : Turning) (rest : List ℕ)
+    → AllByRecursion P (keys_of t.resident.got ++ (made_by e ++ rest))
+    → AllByRecursion P (keys_of (turned_by y a from e t).resident.got ++ rest)
+all_turned_by y P a from (Assert h entity v) t rest all = elim (got-taken_in y a from h v t) [
+  | inl got ↦ rw got (all_with_rest P h v t.resident.got rest all)
+  | inr passed ↦ rw passed (all_but_one P (keys_of t.resident.got) h rest all)
 ]
-all_turned_by P a from (Retract h entity) t rest all =
-    rw (got-regot a (without_entry h t.seat.got) t) (all_without_rest P h t.seat.got rest all)
-all_turned_by P a from (Message entity v) t rest all = rw (got-passed_on from v t) all
-all_turned_by P a from (Sync entity peer) t rest all = all
+all_turned_by y P a from (Retract h entity) t rest all =
+    rw (got-regot y a (without_entry h t.resident.got) t) (all_without_rest P h t.resident.got rest all)
+all_turned_by y P a from (Message entity v) t rest all =
+    rw (got-passed_on from (y.fan (values_of t.resident.got) v) t) all
+all_turned_by y P a from (Sync entity peer) t rest all = all
 
-all_all_turned : (P : ℕ → Type 0) (a from : ℕ) (t : Turning) (es : List Event) (rest : List ℕ)
-    → AllByRecursion P (keys_of t.seat.got ++ (made_in es ++ rest))
-    → AllByRecursion P (keys_of (all_turned a from es t).seat.got ++ rest)
-all_all_turned P a from t [] rest all = all
-all_all_turned P a from t (e ∷ es) rest all =
-    all_all_turned P a from (turned_by a from e t) es rest
-    (all_turned_by P a from e t (made_in es ++ rest) (rw (append_assoc (made_by e) (made_in es) rest) at all))
+all_all_turned : (y : Behaviour) (P : ℕ → Type 0) (a from : ℕ) (t : Turning) (es : List Event) (rest : List ℕ)
+    → AllByRecursion P (keys_of t.resident.got ++ (made_in es ++ rest))
+    → AllByRecursion P (keys_of (all_turned y a from es t).resident.got ++ rest)
+all_all_turned y P a from t [] rest all = all
+all_all_turned y P a from t (e ∷ es) rest all =
+    all_all_turned y P a from (turned_by y a from e t) es rest
+    (all_turned_by y P a from e t (made_in es ++ rest) (rw (append_assoc (made_by e) (made_in es) rest) at all))
 
-pub turn_below : TurnBelow
-turn_below a from next u es all =
-    let at_end : AllByRecursion (λ h. h < next) (keys_of u.seat.got ++ (made_in es ++ []))
+pub turn_below : (y : Behaviour) → TurnBelow y
+turn_below y a from next u es all =
+    let at_end : AllByRecursion (λ h. h < next) (keys_of u.resident.got ++ (made_in es ++ []))
     = rw (append-nil (made_in es)) all
-    in rw (append-nil (keys_of (all_turned a from es u).seat.got)) at
-    (all_all_turned (λ h. h < next) a from u es [] at_end)
+    in rw (append-nil (keys_of (all_turned y a from es u).resident.got)) at
+    (all_all_turned y (λ h. h < next) a from u es [] at_end)
 
 -- ---- an actor that keeps all that it is told
 
@@ -226,7 +231,7 @@ connection_took_one (Retract h entity) got = refl
 connection_took_one (Message entity v) got = refl
 connection_took_one (Sync entity peer) got = refl
 
--- what was delivered to an actor that is no dataspace is what it took
+-- what was delivered to a connection is what it took
 pub connection_took : (es : List Event) (got : Deliveries) → all_delivered es got ≡ took_all at_object es got
 connection_took [] got = refl
 connection_took (e ∷ es) got =
@@ -234,16 +239,16 @@ connection_took (e ∷ es) got =
 
 -- ---- the logs after a batch
 
--- a dataspace takes a batch from its inbox
-pub space_log : (a next : ℕ) (b : Batch) (rest : List Batch) (u : Turning)
-    → IsLog next (keys_of u.seat.got) (b ∷ rest)
-    → IsLog next (keys_of (all_turned a b.from b.events u).seat.got) rest
-space_log a next b rest u log =
+-- a system actor takes a batch from its inbox
+pub system_log : (y : Behaviour) (a next : ℕ) (b : Batch) (rest : List Batch) (u : Turning)
+    → IsLog next (keys_of u.resident.got) (b ∷ rest)
+    → IsLog next (keys_of (all_turned y a b.from b.events u).resident.got) rest
+system_log y a next b rest u log =
     let e : made_in (events_of (b ∷ rest)) ≡ made_in b.events ++ made_in (events_of rest)
     = made_in-append b.events (events_of rest)
     in (
-      log_all_turned a b.from u b.events (made_in (events_of rest)) (rw e at log.0),
-      all_all_turned (λ h. h < next) a b.from u b.events (made_in (events_of rest)) (rw e at log.1),
+      log_all_turned y a b.from u b.events (made_in (events_of rest)) (rw e at log.0),
+      all_all_turned y (λ h. h < next) a b.from u b.events (made_in (events_of rest)) (rw e at log.1),
     )
 
 -- another actor takes a batch from its own

@@ -1,4 +1,4 @@
--- A dataspace's rows follow its wants.
+-- A system actor's rows follow its wants.
 use Rattle.std.proofs.Common.{◌≡◌, ℕ, ◌<◌, ◌≤◌, ◌==◌, List, [], ◌∷◌, ◌++◌, map, Bool, true, false, cond, ◌&&◌, ◌||◌}
 use Rattle.std.proofs.Common.{not, Option, Some, None, is_some, refl, ap, sym, ◌∙◌, subst, arith}
 use Rattle.std.specs.List.{AllByRecursion, IsDistinct}
@@ -18,61 +18,63 @@ use Rattle.pv_words.specs.Parts.{same}
 use Rattle.ds_space.specs.Spaces.{Rows}
 use Rattle.ds_space.specs.declared.space.Change.{Change}
 use Rattle.ds_space.specs.declared.space.Change.TheVariants.{Left, Came}
-use Rattle.ds_space.specs.Wants.{wants}
 use Rattle.ds_space.specs.Changes.{among, without}
 use Rattle.ds_space.specs.Lemmas.Keys.{same_is, same_self, same_turns}
-use Rattle.ds_space.specs.Lemmas.Lists.{unique, wants_ascend}
+use Rattle.ds_space.specs.Lemmas.Lists.{unique}
 use Rattle.ac_table.specs.declared.batches.Row.{Row}
 use Rattle.ac_table.specs.Tables.{TableState, find_row, is_live, without_row}
 use Rattle.ac_world.specs.Outboxes.{Plan, dropped, drop_own, drop_row}
 use Rattle.ac_world.specs.declared.aims.Aim.{Aim}
-use Rattle.ac_world.specs.Turns.{Turning, aim_of, handle_for, drop_met, left, came, came_at, changed_by}
-use Rattle.ac_world.specs.Turns.{all_changed, changes, with_rows, regot}
+use Rattle.ac_world.specs.Turns.{Turning, handle_for, drop_met, left, came, came_at, changed_by}
+use Rattle.ac_world.specs.Turns.{all_changed, with_rows, regot}
 use Rattle.hub_laws.specs.Wanting.{passing, IsMet}
-use Rattle.hub_laws.proofs.Kept.{Moves, AreGood}
+use Rattle.hub_laws.proofs.Kept.{Moves, AreGood, IsAimed}
 use Rattle.hub_laws.proofs.Promised.{RegotMet}
 use Rattle.hub_laws.proofs.Finding.{found_handle, find_row-without, find_row-asserted, none_from_next, row_next}
 use Rattle.hub_laws.proofs.Good.{put_good, dropped_good}
 use Rattle.hub_laws.proofs.Keys.{lookup-insert_entry, lookup-without_entry, insert_entry_ascends, remove_entry_ascends}
 use Rattle.hub_laws.proofs.Moving.{put_moves, dropped_moves}
 use Rattle.hub_laws.proofs.Owned.{HasRows, rows_of_met, met_of_rows, rows_same, rows_less, rows_more}
-use Rattle.hub_laws.proofs.Wanted.{IsAimed, came_aimed, without_ascends, among_without}
+use Rattle.ac_world.specs.Lemmas.Asking.{without_ascends, among_without}
+use Rattle.ac_world.specs.Behaviours.{Behaviour}
+use Rattle.ac_world.specs.Systems.{changes}
+use Rattle.hub_laws.proofs.Wanted.{came_aimed}
 use Rattle.hub_laws.proofs.Passing.{among_passing, passing_ascends}
 
 -- ---- what the changes leave as it is
 
-keeps_one : (a : ℕ) (c : Change) (u : Turning)
-    → ((changed_by a c u).seat.got ≡ u.seat.got) × ((changed_by a c u).spreads ≡ u.spreads)
-keeps_one a (Left k) u = (refl, refl)
-keeps_one a (Came k) u = by (aim_of k)
+keeps_one : (y : Behaviour) (a : ℕ) (c : Change) (u : Turning)
+    → ((changed_by y a c u).resident.got ≡ u.resident.got) × ((changed_by y a c u).spreads ≡ u.spreads)
+keeps_one y a (Left k) u = (refl, refl)
+keeps_one y a (Came k) u = by (y.aim k)
   where
-    by : (o : Option Aim) → ((came_at a k o u).seat.got ≡ u.seat.got) × ((came_at a k o u).spreads ≡ u.spreads)
+    by : (o : Option Aim) → ((came_at a k o u).resident.got ≡ u.resident.got) × ((came_at a k o u).spreads ≡ u.spreads)
     by None = (refl, refl)
     by (Some aim) = (refl, refl)
 
-all_changed_keeps : (a : ℕ) (cs : List Change) (u : Turning)
-    → ((all_changed a cs u).seat.got ≡ u.seat.got) × ((all_changed a cs u).spreads ≡ u.spreads)
-all_changed_keeps a [] u = (refl, refl)
-all_changed_keeps a (c ∷ cs) u =
-    let one = keeps_one a c u in
-    let rest = all_changed_keeps a cs (changed_by a c u) in
+all_changed_keeps : (y : Behaviour) (a : ℕ) (cs : List Change) (u : Turning)
+    → ((all_changed y a cs u).resident.got ≡ u.resident.got) × ((all_changed y a cs u).spreads ≡ u.spreads)
+all_changed_keeps y a [] u = (refl, refl)
+all_changed_keeps y a (c ∷ cs) u =
+    let one = keeps_one y a c u in
+    let rest = all_changed_keeps y a cs (changed_by y a c u) in
     (rest.0 ∙ one.0, rest.1 ∙ one.1)
 
-all_changed-append : (a : ℕ) (cs ds : List Change) (u : Turning)
-    → all_changed a (cs ++ ds) u ≡ all_changed a ds (all_changed a cs u)
-all_changed-append a [] ds u = refl
-all_changed-append a (c ∷ cs) ds u = all_changed-append a cs ds (changed_by a c u)
+all_changed-append : (y : Behaviour) (a : ℕ) (cs ds : List Change) (u : Turning)
+    → all_changed y a (cs ++ ds) u ≡ all_changed y a ds (all_changed y a cs u)
+all_changed-append y a [] ds u = refl
+all_changed-append y a (c ∷ cs) ds u = all_changed-append y a cs ds (changed_by y a c u)
 
 -- ---- a turn whose rows fit its keys
 
-record Meets (n a : ℕ) (t : TableState) (u : Turning) : Type 1 where
+record Meets (y : Behaviour) (n a : ℕ) (t : TableState) (u : Turning) : Type 1 where
   pub moves : Moves a t u.plan
   pub good : AreGood n a u.plan
-  pub ascend : Ascend (keys_of u.seat.met)
-  pub rows : HasRows a u.seat.met u.plan.table.rows
+  pub ascend : Ascend (keys_of u.resident.handles)
+  pub rows : HasRows y a u.resident.handles u.plan.table.rows
 
 abbrev has_key : Plain → Turning → Bool
-has_key q u = among q (keys_of u.seat.met)
+has_key q u = among q (keys_of u.resident.handles)
 
 among_found : (q : Plain) (met : List (Plain × ℕ)) → among q (keys_of met) ≡ is_some (handle_for q met)
 among_found q met = sym (is_some-lookup (same q) met)
@@ -88,15 +90,17 @@ dropped_rows a h p r found own =
     ∙ ap (λ b. (cond b (drop_row r p) p).table.rows) owns
     ∙ ap (λ g. without_row g p.table.rows) (found_handle h p.table.rows r found)
 
-module _ (n a : ℕ) (t : TableState) where
-  module _ (k : Plain) (u : Turning) (m : Meets n a t u) where
-    left_found : (q : Plain) → handle_for q (left a k u).seat.met ≡ cond (same k q) None (handle_for q u.seat.met)
-    left_found q = lookup-without_entry order_total order_same q k u.seat.met m.ascend
+module _ (y : Behaviour) (n a : ℕ) (t : TableState) where
+  module _ (k : Plain) (u : Turning) (m : Meets y n a t u) where
+    left_found : (q : Plain) → handle_for q (left a k u).resident.handles
+        ≡ cond (same k q) None (handle_for q u.resident.handles)
+    left_found q = lookup-without_entry order_total order_same q k u.resident.handles m.ascend
 
     left_key : (q : Plain) → has_key q (left a k u) ≡ (has_key q u && not (same k q))
     left_key q =
-        among_found q (left a k u).seat.met ∙ ap is_some (left_found q) ∙ by (same k q) (handle_for q u.seat.met)
-        ∙ ap (λ b. b && not (same k q)) (sym (among_found q u.seat.met))
+        among_found q (left a k u).resident.handles ∙ ap is_some (left_found q)
+        ∙ by (same k q) (handle_for q u.resident.handles)
+        ∙ ap (λ b. b && not (same k q)) (sym (among_found q u.resident.handles))
       where
         by : (b : Bool) (o : Option ℕ) → is_some (cond b None o) ≡ (is_some o && not b)
         by true None = refl
@@ -104,27 +108,29 @@ module _ (n a : ℕ) (t : TableState) where
         by false None = refl
         by false (Some h) = refl
 
-    left_rows : (o : Option ℕ) → handle_for k u.seat.met ≡ o
-        → HasRows a (left a k u).seat.met (drop_met a o u.plan).table.rows
+    left_rows : (o : Option ℕ) → handle_for k u.resident.handles ≡ o
+        → HasRows y a (left a k u).resident.handles (drop_met a o u.plan).table.rows
     left_rows None none =
-        rows_same a u.seat.met (left a k u).seat.met u.plan.table.rows (λ q. left_found q ∙ by q (same k q) refl) m.rows
+        rows_same y a u.resident.handles (left a k u).resident.handles u.plan.table.rows
+        (λ q. left_found q ∙ by q (same k q) refl) m.rows
       where
-        by : (q : Plain) (b : Bool) → same k q ≡ b → cond b None (handle_for q u.seat.met) ≡ handle_for q u.seat.met
-        by q true e = sym (ap (λ z. handle_for z u.seat.met) (sym (same_is k q e)) ∙ none)
+        by : (q : Plain) (b : Bool) → same k q ≡ b
+            → cond b None (handle_for q u.resident.handles) ≡ handle_for q u.resident.handles
+        by q true e = sym (ap (λ z. handle_for z u.resident.handles) (sym (same_is k q e)) ∙ none)
         by q false e = refl
     left_rows (Some h) found =
         let met = m.rows.stand k h found in
-        rows_less a u.seat.met u.plan.table.rows m.rows k h found (left a k u).seat.met
+        rows_less y a u.resident.handles u.plan.table.rows m.rows k h found (left a k u).resident.handles
         (dropped a h u.plan).table.rows left_found
         (λ g. ap (find_row g) (dropped_rows a h u.plan met.row met.stands met.fits.owner)
         ∙ find_row-without g h u.plan.table.rows)
 
-    left_meets : Meets n a t (left a k u)
+    left_meets : Meets y n a t (left a k u)
     left_meets = record {
-      moves = moves (handle_for k u.seat.met);
-      good = good (handle_for k u.seat.met);
-      ascend = remove_entry_ascends order (is_at (order k)) u.seat.met m.ascend;
-      rows = left_rows (handle_for k u.seat.met) refl;
+      moves = moves (handle_for k u.resident.handles);
+      good = good (handle_for k u.resident.handles);
+      ascend = remove_entry_ascends order (is_at (order k)) u.resident.handles m.ascend;
+      rows = left_rows (handle_for k u.resident.handles) refl;
     }
       where
         moves : (o : Option ℕ) → Moves a t (drop_met a o u.plan)
@@ -137,10 +143,10 @@ module _ (n a : ℕ) (t : TableState) where
 
   -- and all that leave
   record HaveLeft (ks : List Plain) (u v : Turning) : Type 1 where
-    pub meets : Meets n a t v
+    pub meets : Meets y n a t v
     pub keys : (q : Plain) → has_key q v ≡ (has_key q u && not (among q ks))
 
-  all_left : (ks : List Plain) (u : Turning) → Meets n a t u → HaveLeft ks u (all_changed a (map Left ks) u)
+  all_left : (ks : List Plain) (u : Turning) → Meets y n a t u → HaveLeft ks u (all_changed y a (map Left ks) u)
   all_left [] u m = record { meets = m; keys = λ q. by (has_key q u) }
     where
       by : (b : Bool) → b ≡ (b && true)
@@ -167,42 +173,42 @@ none_from : {X : Type 0} (o : Option X) → is_some o ≡ false → o ≡ None
 none_from None e = refl
 none_from (Some x) e = absurd cc
 
-module _ (n a : ℕ) (t : TableState) (low : a < 9) (live : is_live a t ≡ true) where
-  module _ (k : Plain) (u : Turning) (m : Meets n a t u) (known : IsAimed n k) (aim : Aim)
-      (aimed : aim_of k ≡ Some aim) where
+module _ (y : Behaviour) (n a : ℕ) (t : TableState) (low : a < 9) (live : is_live a t ≡ true) where
+  module _ (k : Plain) (u : Turning) (m : Meets y n a t u) (known : IsAimed y n k) (aim : Aim)
+      (aimed : y.aim k ≡ Some aim) where
     placed_found : (q : Plain)
-        → handle_for q (came_at a k (Some aim) u).seat.met
-        ≡ cond (same k q) (Some u.plan.table.next) (handle_for q u.seat.met)
-    placed_found q = lookup-insert_entry order_total order_same q k u.plan.table.next u.seat.met
+        → handle_for q (came_at a k (Some aim) u).resident.handles
+        ≡ cond (same k q) (Some u.plan.table.next) (handle_for q u.resident.handles)
+    placed_found q = lookup-insert_entry order_total order_same q k u.plan.table.next u.resident.handles
 
-    came_key : (q : Plain) → has_key q (came a k u) ≡ (same q k || has_key q u)
+    came_key : (q : Plain) → has_key q (came y a k u) ≡ (same q k || has_key q u)
     came_key q =
         ap (λ o. has_key q (came_at a k o u)) aimed
-        ∙ among_found q (came_at a k (Some aim) u).seat.met
-        ∙ ap is_some (placed_found q) ∙ by (same k q) (handle_for q u.seat.met)
-        ∙ (λ i. same_turns k q i || sym (among_found q u.seat.met) i)
+        ∙ among_found q (came_at a k (Some aim) u).resident.handles
+        ∙ ap is_some (placed_found q) ∙ by (same k q) (handle_for q u.resident.handles)
+        ∙ (λ i. same_turns k q i || sym (among_found q u.resident.handles) i)
       where
         by : (b : Bool) (o : Option ℕ) → is_some (cond b (Some u.plan.table.next) o) ≡ (b || is_some o)
         by true o = refl
         by false o = refl
 
-    came_meets : has_key k u ≡ false → Meets n a t (came a k u)
-    came_meets new = subst (λ o. Meets n a t (came_at a k o u)) (sym aimed) placed
+    came_meets : has_key k u ≡ false → Meets y n a t (came y a k u)
+    came_meets new = subst (λ o. Meets y n a t (came_at a k o u)) (sym aimed) placed
       where
         goes : (9 ≤ aim.at.actor) × (aim.at.actor ≤ n)
         goes = known aim aimed
 
-        placed : Meets n a t (came_at a k (Some aim) u)
+        placed : Meets y n a t (came_at a k (Some aim) u)
         placed = record {
           moves = put_moves a t u.plan m.moves live aim.at.actor aim.at.entity aim.value;
           good =
               put_good n a t u.plan m.moves m.good aim.at.actor aim.at.entity aim.value (λ l. goes.0) goes.1
               (λ l. absurd (let f = goes.0 in omega arith));
-          ascend = insert_entry_ascends order_total order_same k u.plan.table.next u.seat.met m.ascend;
+          ascend = insert_entry_ascends order_total order_same k u.plan.table.next u.resident.handles m.ascend;
           rows =
-              rows_more a u.seat.met u.plan.table.rows m.rows k u.plan.table.next
+              rows_more y a u.resident.handles u.plan.table.rows m.rows k u.plan.table.next
               (row_next a 0 aim.at.actor aim.at.entity aim.value u.plan.table)
-              (none_from (handle_for k u.seat.met) (sym (among_found k u.seat.met) ∙ new))
+              (none_from (handle_for k u.resident.handles) (sym (among_found k u.resident.handles) ∙ new))
               (none_from_next u.plan.table.next u.plan.table m.moves.table (omega arith))
               (record {
                 aim = aim;
@@ -212,21 +218,21 @@ module _ (n a : ℕ) (t : TableState) (low : a < 9) (live : is_live a t ≡ true
                 entity = refl;
                 value = refl;
               })
-              (came_at a k (Some aim) u).seat.met (came_at a k (Some aim) u).plan.table.rows placed_found
+              (came_at a k (Some aim) u).resident.handles (came_at a k (Some aim) u).plan.table.rows placed_found
               (λ h. find_row-asserted h a 0 aim.at.actor aim.at.entity aim.value u.plan.table m.moves.table);
         }
 
   -- and all that come, of which those have a row that pass
   record HaveCome (ks : List Plain) (u v : Turning) : Type 1 where
-    pub meets : Meets n a t v
-    pub keys : (q : Plain) → has_key q v ≡ (among q (passing ks) || has_key q u)
+    pub meets : Meets y n a t v
+    pub keys : (q : Plain) → has_key q v ≡ (among q (passing y ks) || has_key q u)
 
-  all_came : (ks : List Plain) (u : Turning) → IsDistinct (eq_by_cmp order) ks → AllByRecursion (IsAimed n) ks
-      → ((q : Plain) → among q ks ≡ true → has_key q u ≡ false) → Meets n a t u
-      → HaveCome ks u (all_changed a (map Came ks) u)
+  all_came : (ks : List Plain) (u : Turning) → IsDistinct (eq_by_cmp order) ks → AllByRecursion (IsAimed y n) ks
+      → ((q : Plain) → among q ks ≡ true → has_key q u ≡ false) → Meets y n a t u
+      → HaveCome ks u (all_changed y a (map Came ks) u)
   all_came [] u d aimed fresh m = record { meets = m; keys = λ q. refl }
   all_came (k ∷ ks) u d aimed fresh m =
-      by (aim_of k) refl (λ v. all_came ks v (IsDistinct-tail (eq_by_cmp order) k ks d) aimed.1)
+      by (y.aim k) refl (λ v. all_came ks v (IsDistinct-tail (eq_by_cmp order) k ks d) aimed.1)
     where
       rows : (r s b : Bool) → (r || (s || b)) ≡ ((s || r) || b)
       rows true true b = refl
@@ -247,35 +253,35 @@ module _ (n a : ℕ) (t : TableState) (low : a < 9) (live : is_live a t ≡ true
           list_any_none (same k) ks
           (All-from_recursion (λ y. same k y ≡ false) ks (IsDistinct-head (eq_by_cmp order) k ks d))
 
-      refused : aim_of k ≡ None → passing (k ∷ ks) ≡ passing ks
-      refused is = ap (λ (o : Option Aim). cond (is_some o) (k ∷ passing ks) (passing ks)) is
+      refused : y.aim k ≡ None → passing y (k ∷ ks) ≡ passing y ks
+      refused is = ap (λ (o : Option Aim). cond (is_some o) (k ∷ passing y ks) (passing y ks)) is
 
-      through : (aim : Aim) → aim_of k ≡ Some aim → passing (k ∷ ks) ≡ k ∷ passing ks
-      through aim is = ap (λ (o : Option Aim). cond (is_some o) (k ∷ passing ks) (passing ks)) is
+      through : (aim : Aim) → y.aim k ≡ Some aim → passing y (k ∷ ks) ≡ k ∷ passing y ks
+      through aim is = ap (λ (o : Option Aim). cond (is_some o) (k ∷ passing y ks) (passing y ks)) is
 
-      by : (o : Option Aim) → aim_of k ≡ o
-          → ((v : Turning) → ((q : Plain) → among q ks ≡ true → has_key q v ≡ false) → Meets n a t v
-          → HaveCome ks v (all_changed a (map Came ks) v))
-          → HaveCome (k ∷ ks) u (all_changed a (map Came (k ∷ ks)) u)
+      by : (o : Option Aim) → y.aim k ≡ o
+          → ((v : Turning) → ((q : Plain) → among q ks ≡ true → has_key q v ≡ false) → Meets y n a t v
+          → HaveCome ks v (all_changed y a (map Came ks) v))
+          → HaveCome (k ∷ ks) u (all_changed y a (map Came (k ∷ ks)) u)
       by None is others =
-          let same_turn : came a k u ≡ u = ap (λ o. came_at a k o u) is in
+          let same_turn : came y a k u ≡ u = ap (λ o. came_at a k o u) is in
           let rest = others u (λ q e. fresh q (behind (same q k) (among q ks) e)) m in
-          subst (λ (v : Turning). HaveCome (k ∷ ks) u (all_changed a (map Came ks) v)) (sym same_turn) (record {
+          subst (λ (v : Turning). HaveCome (k ∷ ks) u (all_changed y a (map Came ks) v)) (sym same_turn) (record {
             meets = rest.meets;
             keys = λ q. rest.keys q ∙ ap (λ xs. among q xs || has_key q u) (sym (refused is));
           })
       by (Some aim) is others =
           let one = came_meets k u m aimed.0 aim is (fresh k (first (same k k) (same_self k))) in
-          let rest = others (came a k u) (λ q e. later q e (same q k) refl) one in
+          let rest = others (came y a k u) (λ q e. later q e (same q k) refl) one in
           record {
             meets = rest.meets;
             keys = λ q.
-                rest.keys q ∙ ap (λ b. among q (passing ks) || b) (came_key k u m aimed.0 aim is q)
-                ∙ rows (among q (passing ks)) (same q k) (has_key q u)
+                rest.keys q ∙ ap (λ b. among q (passing y ks) || b) (came_key k u m aimed.0 aim is q)
+                ∙ rows (among q (passing y ks)) (same q k) (has_key q u)
                 ∙ ap (λ xs. among q xs || has_key q u) (sym (through aim is));
           }
         where
-          later : (q : Plain) → among q ks ≡ true → (b : Bool) → same q k ≡ b → has_key q (came a k u) ≡ false
+          later : (q : Plain) → among q ks ≡ true → (b : Bool) → same q k ≡ b → has_key q (came y a k u) ≡ false
           later q e true s =
               let clash : true ≡ false = sym e ∙ ap (λ z. among z ks) (same_is q k s) ∙ apart in
               absurd cc
@@ -299,54 +305,54 @@ absent false b a x e = refl
 absent true true a x e = absurd cc
 absent true false a x e = refl
 
-pub regot_met : RegotMet
-regot_met a n t u rows low nine live moves good met known =
-    let before = wants (values_of u.seat.got) in
-    let after = wants (values_of rows) in
+pub regot_met : (y : Behaviour) → RegotMet y
+regot_met y law a n t u rows low nine live moves good met known =
+    let before = y.keys (values_of u.resident.got) in
+    let after = y.keys (values_of rows) in
     let gone = without before after in
     let new = without after before in
-    let rise : Ascend before = wants_ascend (values_of u.seat.got) in
-    let rise_after : Ascend after = wants_ascend (values_of rows) in
-    let begun : Meets n a t (with_rows rows u) = record {
+    let rise : Ascend before = law.ascend (values_of u.resident.got) in
+    let rise_after : Ascend after = law.ascend (values_of rows) in
+    let begun : Meets y n a t (with_rows rows u) = record {
       moves = moves;
       good = good;
-      ascend = subst Ascend (sym met.keys) (passing_ascends before rise);
-      rows = rows_of_met a u.seat u.plan.table.rows met;
+      ascend = subst Ascend (sym met.keys) (passing_ascends y before rise);
+      rows = rows_of_met y a u.resident u.plan.table.rows met;
     } in
-    let passes : Plain → Bool = λ q. is_some (aim_of q) in
+    let passes : Plain → Bool = λ q. is_some (y.aim q) in
     let had : (q : Plain) → has_key q (with_rows rows u) ≡ (passes q && among q before) =
-    λ q. ap (among q) met.keys ∙ among_passing q before in
-    let l = all_left n a t gone (with_rows rows u) begun in
-    let mid = all_changed a (map Left gone) (with_rows rows u) in
+    λ q. ap (among q) met.keys ∙ among_passing y q before in
+    let l = all_left y n a t gone (with_rows rows u) begun in
+    let mid = all_changed y a (map Left gone) (with_rows rows u) in
     let mid_keys : (q : Plain)
     → has_key q mid ≡ ((passes q && among q before) && not (not (among q after) && among q before)) =
     λ q. l.keys q ∙ (λ i. had q i && not (among_without q before after i)) in
     let fresh : (q : Plain) → among q new ≡ true → has_key q mid ≡ false =
     λ q e. mid_keys q ∙ absent (passes q) (among q before) (among q after) _ (sym (among_without q after before) ∙ e) in
     let c =
-    all_came n a t low live new mid
+    all_came y n a t low live new mid
     (IsDistinct-from_sorted order new (without_ascends after before rise_after rise))
-    (came_aimed n (values_of rows) before known) fresh l.meets in
-    let last = all_changed a (map Came new) mid in
-    let kept = all_changed_keeps a (changes before after) (with_rows rows u) in
-    let steps : regot a rows u ≡ last =
-    all_changed-append a (map Left gone) (map Came new) (with_rows rows u) in
-    let keys : keys_of last.seat.met ≡ passing after =
-    unique (keys_of last.seat.met) (passing after) c.meets.ascend (passing_ascends after rise_after)
+    (came_aimed y law n (values_of rows) before known) fresh l.meets in
+    let last = all_changed y a (map Came new) mid in
+    let kept = all_changed_keeps y a (changes before after) (with_rows rows u) in
+    let steps : regot y a rows u ≡ last =
+    all_changed-append y a (map Left gone) (map Came new) (with_rows rows u) in
+    let keys : keys_of last.resident.handles ≡ passing y after =
+    unique (keys_of last.resident.handles) (passing y after) c.meets.ascend (passing_ascends y after rise_after)
     (λ q. c.keys q
-    ∙ (λ i. (among_passing q new ∙ ap (λ b. passes q && b) (among_without q after before)) i || mid_keys q i)
+    ∙ (λ i. (among_passing y q new ∙ ap (λ b. passes q && b) (among_without q after before)) i || mid_keys q i)
     ∙ exchanged (passes q) (among q before) (among q after)
-    ∙ sym (among_passing q after)) in
-    let is_met : IsMet a last.seat last.plan.table.rows =
-    met_of_rows a last.seat last.plan.table.rows
-    (keys ∙ ap (λ (r : Rows). passing (wants (values_of r)))
-    (sym (ap (λ (v : Turning). v.seat.got) (sym steps) ∙ kept.0)))
+    ∙ sym (among_passing y q after)) in
+    let is_met : IsMet y a last.resident last.plan.table.rows =
+    met_of_rows y a last.resident last.plan.table.rows
+    (keys ∙ ap (λ (r : Rows). passing y (y.keys (values_of r)))
+    (sym (ap (λ (v : Turning). v.resident.got) (sym steps) ∙ kept.0)))
     c.meets.rows in
-    subst (λ (v : Turning). Moves a t v.plan × AreGood n a v.plan × IsMet a v.seat v.plan.table.rows
-    × (v.seat.got ≡ rows) × (v.spreads ≡ u.spreads)) (sym steps) (
+    subst (λ (v : Turning). Moves a t v.plan × AreGood n a v.plan × IsMet y a v.resident v.plan.table.rows
+    × (v.resident.got ≡ rows) × (v.spreads ≡ u.spreads)) (sym steps) (
       c.meets.moves,
       c.meets.good,
       is_met,
-      ap (λ (v : Turning). v.seat.got) (sym steps) ∙ kept.0,
+      ap (λ (v : Turning). v.resident.got) (sym steps) ∙ kept.0,
       ap (λ (v : Turning). v.spreads) (sym steps) ∙ kept.1,
     )

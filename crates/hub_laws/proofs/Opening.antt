@@ -1,69 +1,45 @@
 -- The opening state is sound, and so is every run of allowed steps from it.
-use Rattle.std.proofs.Common.{◌≡◌, ℕ, zero, suc, ◌+◌, ◌<◌, ◌≤◌, List, [], Bool, true, false, Some}
-use Rattle.std.proofs.Common.{refl, sym, ap, ◌∙◌, subst, arith, inl, inr, leb}
+use Rattle.std.specs.List.{AllByRecursion}
+use Rattle.std.specs.Map.{values_of}
+use Rattle.std.proofs.Common.{◌≡◌, ℕ, ◌+◌, ◌≤◌, List, [], Bool, true, false, cond, Option, Some}
+use Rattle.std.proofs.Common.{None, unwrap_or, refl, sym, subst, arith, inl, leb}
+use Rattle.std.specs.BTreeMap.{is_at}
+use Rattle.std.specs.Ordering.{nat_cmp}
 use Rattle.std.proofs.lemmas.Bool.Decides.{nat_tests}
-use Rattle.ac_table.specs.Tables.{Actor, IsTable, find_actor, is_live, joined}
-use Rattle.ac_world.specs.Worlds.{first_actors, beginning, is_space}
+use Rattle.ac_table.specs.Tables.{is_live}
+use Rattle.ac_world.specs.Worlds.{Resident, first_actors, beginning, is_system, no_resident, resident_of}
 use Rattle.ac_world.specs.Lemmas.Entries.{ascend_none}
+use Rattle.ac_world.specs.Behaviours.{behaviour_of}
 use Rattle.hub_machine.specs.State.{opening}
 use Rattle.hub_machine.specs.Replays.{replay}
 use Rattle.hub_machine.specs.declared.steps.Step.{Step}
 use Rattle.hub_laws.specs.Laws.{AreAllowed}
-use Rattle.hub_laws.proofs.Joining.{joined_is_table, joined_new, joined_other, joined_live, joined_live_other}
-use Rattle.hub_laws.proofs.Kept.{IsServed, IsSound, IsHub}
-use Rattle.hub_laws.proofs.Leaving.{one_or_not}
+use Rattle.hub_laws.specs.Standing.{value_alone}
+use Rattle.hub_laws.proofs.Kept.{IsServedBy, IsServed, IsSound, IsHub, IsKnown}
 use Rattle.hub_laws.proofs.Owned.{no_wants_met}
 use Rattle.hub_laws.proofs.Steps.{run_hub}
 use Rattle.hub_valid.specs.Lemmas.Hubs.{stays_valid}
-
--- ---- the first actors
-
-first_dead : (n a : ℕ) → n ≤ a → is_live a (first_actors n) ≡ false
-first_dead zero a l = refl
-first_dead (suc n) a l =
-    joined_live_other n a (first_actors n) (λ same. absurd (omega (arith, l, same))) ∙ first_dead n a (omega (arith, l))
-
-first_live : (n a : ℕ) → a < n → is_live a (first_actors n) ≡ true
-first_live zero a l = absurd (omega (arith, l))
-first_live (suc n) a l = elim (one_or_not a n) [
-  | inl same ↦ ap (λ i. is_live i (joined n (first_actors n))) same
-      ∙ joined_live n (first_actors n) (first_dead n n (omega arith))
-  | inr ne ↦ joined_live_other n a (first_actors n) ne ∙ first_live n a (omega (arith, l, ne))
-]
-
-first_table : (n : ℕ) → IsTable (first_actors n)
-first_table zero = record {
-  rows_ascend = ascend_none;
-  rows_below_next = tt;
-  actors_ascend = ascend_none;
-  owners_live =
-      tt;
-}
-first_table (suc n) = joined_is_table n (first_actors n) (first_dead n n (omega arith)) (first_table n)
-
-first_rows : (n : ℕ) → (first_actors n).rows ≡ []
-first_rows zero = refl
-first_rows (suc n) = first_rows n
-
-first_inbox : (n a : ℕ) (x : Actor) → find_actor a (first_actors n).actors ≡ Some x → x.inbox ≡ []
-first_inbox zero a x found = absurd cc
-first_inbox (suc n) a x found = elim (one_or_not a n) [
-  | inl same ↦
-      (let new = joined_new n (first_actors n) (first_dead n n (omega arith)) in
-      let here = ap (λ i. find_actor i (joined n (first_actors n)).actors) (sym same) ∙ found in
-      let is : record { number = n; inbox = [] } ≡ x = cc in
-      sym (ap (λ (z : Actor). z.inbox) is))
-  | inr ne ↦ first_inbox n a x (sym (joined_other n a (first_actors n) ne) ∙ found)
-]
+use Rattle.hub_laws.specs.Wanting.{IsMet}
+use Rattle.hub_laws.proofs.FirstActors.{first_dead, first_inbox, first_live, first_table}
+use Rattle.hub_laws.proofs.Wanted.{lawful}
 
 -- ---- the opening
 
+nobody_got : (a : ℕ) → resident_of a beginning ≡ no_resident
+nobody_got a = by (is_at (nat_cmp a) 0)
+  where
+    by : (b : Bool) → unwrap_or (cond {A = Option Resident} b (Some no_resident) None) no_resident ≡ no_resident
+    by true = refl
+    by false = refl
+
 nothing_served : (a : ℕ) (s : Bool) → IsServed [] a [] beginning s
-nothing_served a true = record {
-  near = λ here. record { should_ascends = ascend_none; kept_ascends = ascend_none; near = λ h. inl refl };
-  log = (ascend_none, tt);
-  fits = tt;
-}
+nothing_served a true =
+    subst (λ (r : Resident). IsServedBy value_alone [] (16 + 0) [] beginning.table.next a r.got []) (sym (nobody_got a))
+    (record {
+      near = λ here. record { should_ascends = ascend_none; kept_ascends = ascend_none; near = λ h. inl refl };
+      log = (ascend_none, tt);
+      fits = tt;
+    })
 nothing_served a false = record {
   near = λ here. record { should_ascends = ascend_none; kept_ascends = ascend_none; near = λ h. inl refl };
   log = (ascend_none, tt);
@@ -78,15 +54,24 @@ opening_sound = record {
   numbers = λ a live. low a live;
   rows = tt;
   served = λ a x found.
-      subst (λ bs. IsServed [] a bs beginning (is_space a)) (sym (first_inbox 9 a x found))
-      (nothing_served a (is_space a));
-  met = λ a is. no_wants_met a [] (λ h r found own. absurd cc);
-  known = λ a is. tt;
-  idle = λ h r found. absurd cc;
+      subst (λ bs. IsServed [] a bs beginning (is_system a)) (sym (first_inbox 9 a x found))
+      (nothing_served a (is_system a));
+  met = λ a is. first_met a;
+  known = λ a is. first_known a;
+  fresh = λ none. record { table = refl; residents = refl };
   held_ascends = ascend_none;
   unheld = λ a dead. refl;
 }
   where
+    first_met : (a : ℕ) → IsMet (behaviour_of [] a) a (resident_of a beginning) []
+    first_met a =
+        subst (λ (r : Resident). IsMet (behaviour_of [] a) a r []) (sym (nobody_got a))
+        (no_wants_met (behaviour_of [] a) (lawful [] a).nothing a [] (λ h r found own. absurd cc))
+
+    first_known : (a : ℕ) → AllByRecursion (IsKnown 16) (values_of (resident_of a beginning).got)
+    first_known a =
+        subst (λ (r : Resident). AllByRecursion (IsKnown 16) (values_of r.got)) (sym (nobody_got a)) tt
+
     low : (a : ℕ) → is_live a (first_actors 9) ≡ true → a ≤ 16 + 0
     low a live = by (leb 9 a) refl
       where

@@ -1,21 +1,21 @@
--- The turns of the gatekeeper and of connections, and of whoever it is.
+-- The turns of connections, and of whoever it is.
 use Rattle.std.proofs.Common.{◌≡◌, ◌≢◌, ℕ, ◌+◌, List, [], Bool, true, false, cond, Option, Some}
 use Rattle.std.proofs.Common.{None}
 use Rattle.std.proofs.Common.{refl, sym, ap, ◌∙◌, subst, inl, inr}
 use Rattle.std.specs.Prelude.{unwrap_or}
 use Rattle.ac_table.specs.declared.batches.Batch.{Batch}
-use Rattle.ac_table.specs.Tables.{TableState, Actor, find_actor, find_row, is_live, first_batch, popped}
+use Rattle.ac_table.specs.Tables.{TableState, Actor, find_actor, is_live, first_batch, popped}
 use Rattle.ac_world.specs.Outboxes.{Plan, plan_over}
-use Rattle.ac_world.specs.Turns.{space_turn, turn_with, turn, turn_first, plain_turn, connection_turn}
-use Rattle.ac_world.specs.Turns.{deliver, all_answered}
-use Rattle.ac_world.specs.Worlds.{WorldState, Deliveries, seat_of, held_by, with_entry, is_space}
-use Rattle.ac_world.specs.Worlds.{is_system}
+use Rattle.ac_world.specs.Turns.{turn_with, turn, turn_first, connection_turn, system_turn}
+use Rattle.ac_world.specs.Turns.{deliver}
+use Rattle.ac_world.specs.Worlds.{WorldState, Deliveries, resident_of, held_by, with_entry, is_system}
 use Rattle.ac_world.specs.Worlds.{all_delivered}
 use Rattle.ac_world.specs.declared.turns.Turned.TheVariants as turned
 use Rattle.ac_world.specs.Lemmas.Entries.{put_found, put_other, ascend_with}
+use Rattle.ac_world.specs.Behaviours.{behaviour_of}
 use Rattle.hub_laws.specs.Standing.{took_all, at_object}
 use Rattle.hub_laws.specs.Wanting.{IsMet}
-use Rattle.hub_laws.proofs.Committing.{IsPlanned, commit_sound, live_done}
+use Rattle.hub_laws.proofs.Committing.{IsPlanned, commit_sound}
 use Rattle.hub_laws.proofs.Good.{begin_good}
 use Rattle.hub_laws.proofs.Kept.{Moves, AreGood, IsServedBy, IsServed, IsSound}
 use Rattle.hub_laws.proofs.Leaving.{one_or_not}
@@ -23,11 +23,10 @@ use Rattle.hub_laws.proofs.Logs.{connection_took}
 use Rattle.hub_laws.proofs.Moving.{begin_moves}
 use Rattle.hub_laws.proofs.Posting.{posted_to, posted_table, live-popped, table-popped, found-popped}
 use Rattle.hub_laws.proofs.Posting.{found-popped_other}
-use Rattle.hub_laws.proofs.Saying.{plain_answers}
 use Rattle.hub_laws.proofs.Serving.{served_after, popped_served}
-use Rattle.hub_laws.proofs.Turns.{IsTurned, without_first, space_turned}
+use Rattle.hub_laws.proofs.Turns.{IsTurned, without_first, system_low, system_turned, waits_after}
 
--- ---- what was delivered to an actor that is no dataspace
+-- ---- what was delivered to a connection
 
 held_self : (a : ℕ) (got : Deliveries) (w : WorldState)
     → held_by a (record (without_first a w) { held = with_entry a got w.held }) ≡ got
@@ -48,22 +47,22 @@ served_other a c b w inbox ne false s =
     subst (λ (got : Deliveries). IsServedBy at_object [] (16 + w.opened) w.table.rows w.table.next c got inbox)
     (sym (held_other a c (all_delivered b.events (held_by a w)) w ne)) s
 
-served_delivered : (a : ℕ) (b : Batch) (w : WorldState) → IsSound [] w → is_space a ≡ false
+served_delivered : (a : ℕ) (b : Batch) (w : WorldState) → IsSound [] w → is_system a ≡ false
     → first_batch a w.table ≡ Some b → (c : ℕ) (x : Actor) → find_actor c (popped a w.table).actors ≡ Some x
-    → IsServed [] c x.inbox (delivered a b w) (is_space c)
-served_delivered a b w k space is c x found = elim (one_or_not c a) [
-  | inr ne ↦ served_other a c b w x.inbox ne (is_space c)
+    → IsServed [] c x.inbox (delivered a b w) (is_system c)
+served_delivered a b w k far is c x found = elim (one_or_not c a) [
+  | inr ne ↦ served_other a c b w x.inbox ne (is_system c)
       (k.served c x (sym (found-popped_other a c w.table ne) ∙ found))
   | inl same ↦
       (let y = found-popped a w.table b x is (ap (λ i. find_actor i (popped a w.table).actors) (sym same) ∙ found) in
-      let s = subst (IsServed [] a y.0.inbox w) space (k.served a y.0 y.1) in
+      let s = subst (IsServed [] a y.0.inbox w) far (k.served a y.0 y.1) in
       let t = subst (λ bs. IsServedBy at_object [] (16 + w.opened) w.table.rows w.table.next a
       (held_by a w) bs) y.2 s in
       let u = popped_served _ at_object [] (16 + w.opened) w.table.rows w.table.next a (held_by a w) b x.inbox t in
       let got : took_all at_object b.events (held_by a w) ≡ held_by a (delivered a b w) =
       sym (held_self a (all_delivered b.events (held_by a w)) w ∙ connection_took b.events (held_by a w)) in
-      subst (λ i. IsServed [] i x.inbox (delivered a b w) (is_space i)) (sym same)
-      (subst (IsServed [] a x.inbox (delivered a b w)) (sym space)
+      subst (λ i. IsServed [] i x.inbox (delivered a b w) (is_system i)) (sym same)
+      (subst (IsServed [] a x.inbox (delivered a b w)) (sym far)
       (subst (λ (g : Deliveries). IsServedBy at_object []
       (16 + w.opened) w.table.rows w.table.next a g x.inbox) got u)))
 ]
@@ -75,15 +74,15 @@ pub record LeavesRows (n a : ℕ) (t : TableState) (p : Plan) : Type 1 where
   pub good : AreGood n a p
   pub same : p.table ≡ t
 
-delivered_planned : (a : ℕ) (b : Batch) (w : WorldState) (p : Plan) → IsSound [] w → is_space a ≡ false
+delivered_planned : (a : ℕ) (b : Batch) (w : WorldState) (p : Plan) → IsSound [] w → is_system a ≡ false
     → first_batch a w.table ≡ Some b → is_live a w.table ≡ true → LeavesRows (16 + w.opened) a (popped a w.table) p
     → IsPlanned [] (delivered a b w) a p
-delivered_planned a b w p k space is live plan = record {
+delivered_planned a b w p k far is live plan = record {
   table = table-popped a w.table k.table;
   always = λ c l. live-popped a c w.table ∙ k.always c l;
   no_watchers = λ c l m. live-popped a c w.table ∙ k.no_watchers c l m;
   numbers = λ c here. k.numbers c (sym (live-popped a c w.table) ∙ here);
-  served = served_delivered a b w k space is;
+  served = served_delivered a b w k far is;
   known = k.known;
   held_ascends = ascend_with a (all_delivered b.events (held_by a w)) w.held k.held_ascends;
   unheld = λ c dead.
@@ -93,28 +92,16 @@ delivered_planned a b w p k space is live plan = record {
       put_other a c (all_delivered b.events (held_by a w)) w.held ne ∙ k.unheld c before;
   moves = plan.moves;
   good = plan.good;
-  met = λ c s. subst (λ (t : TableState). IsMet c (seat_of c w) t.rows) (sym plan.same) (k.met c s);
-  idle = λ h r found. k.idle h r (ap (λ (t : TableState). find_row h t.rows) (sym plan.same) ∙ found);
+  met = λ c s. subst (λ (t : TableState). IsMet (behaviour_of w.bindings c) c (resident_of c w) t.rows) (sym plan.same)
+      (k.met c s);
+  some = waits_after a w b k is;
 }
 
-plain_turned : (a : ℕ) (b : Batch) (w : WorldState) → IsSound [] w → is_space a ≡ false → is_live a w.table ≡ true
-    → first_batch a w.table ≡ Some b → IsTurned w (plain_turn a b (without_first a w))
-plain_turned a b w k space live is =
-    let says = plain_answers (16 + w.opened) a (popped a w.table) b.events (table-popped a w.table k.table) k.rows in
-    let p : Plan = all_answered b.events (plan_over (popped a w.table)) in
-    record {
-      sound = commit_sound posted_to posted_table served_after [] (delivered a b w) a p
-          (delivered_planned a b w p k space is live
-          (record { moves = says.moves; good = says.good; same = says.same }));
-      far = tt;
-      lives = λ c. live_done posted_table (delivered a b w) a c p says.moves ∙ live-popped a c w.table;
-    }
-
-connection_turned : (a : ℕ) (b : Batch) (w : WorldState) → IsSound [] w → is_space a ≡ false → is_live a w.table ≡ true
+connection_turned : (a : ℕ) (b : Batch) (w : WorldState) → IsSound [] w → is_system a ≡ false → is_live a w.table ≡ true
     → first_batch a w.table ≡ Some b → IsTurned w (connection_turn a b (without_first a w))
-connection_turned a b w k space live is = record {
+connection_turned a b w k far live is = record {
   sound = commit_sound posted_to posted_table served_after [] (delivered a b w) a (plan_over (popped a w.table))
-      (delivered_planned a b w (plan_over (popped a w.table)) k space is live
+      (delivered_planned a b w (plan_over (popped a w.table)) k far is live
       (record {
         moves = begin_moves a (popped a w.table) (table-popped a w.table k.table);
         good = begin_good (16 + w.opened) a (popped a w.table) k.rows;
@@ -128,14 +115,12 @@ connection_turned a b w k space live is = record {
 
 turned_with : (a : ℕ) (b : Batch) (w : WorldState) → IsSound [] w → is_live a w.table ≡ true
     → first_batch a w.table ≡ Some b → IsTurned w (turn_with a b (without_first a w))
-turned_with a b w k live is = by (is_space a) (is_system a) refl
+turned_with a b w k live is = by (is_system a) refl
   where
-    by : (c d : Bool) → is_space a ≡ c
-        → IsTurned w (cond c (space_turn a b (without_first a w))
-        (cond d (plain_turn a b (without_first a w)) (connection_turn a b (without_first a w))))
-    by true d space = space_turned a b w k space is
-    by false true space = plain_turned a b w k space live is
-    by false false space = connection_turned a b w k space live is
+    by : (c : Bool) → is_system a ≡ c
+        → IsTurned w (cond c (system_turn a b (without_first a w)) (connection_turn a b (without_first a w)))
+    by true system = system_turned a b w k system (system_low a w k system live) is
+    by false system = connection_turned a b w k system live is
 
 pub turn_turned : (a : ℕ) (w : WorldState) → IsSound [] w → IsTurned w (turn a w)
 turn_turned a w k = by (is_live a w.table) (first_batch a w.table) refl refl

@@ -1,4 +1,4 @@
--- The rows of a dataspace at a connection are, as a bag, one for each key that it wants there.
+-- The rows of a system actor at a connection are, as a bag, one for each key that it wants there.
 use Rattle.std.proofs.Common.{◌≡◌, ℕ, List, [], ◌∷◌, map, Bool, true, false, cond, ◌&&◌, ◌||◌, ◌==◌, filter, eqb-true}
 use Rattle.std.proofs.Common.{Option, Some, None, refl, ap, sym, ◌∙◌, subst, arith, map-id, IsPermutation}
 use Rattle.std.specs.Cmp.{eq_by_cmp_equiv, nat_cmp_total}
@@ -17,6 +17,7 @@ use Rattle.ac_table.specs.Tables.{find_row, handles}
 use Rattle.ac_table.specs.Lemmas.Lists.{all_filter, all_weaker}
 use Rattle.ac_world.specs.Turns.{handle_for}
 use Rattle.ac_world.specs.Worlds.{actor_of}
+use Rattle.ac_world.specs.Behaviours.{Behaviour}
 use Rattle.hub_laws.specs.Scratch.{Pair, pair_at}
 use Rattle.hub_laws.proofs.Distinct.{distinct_none, same_members}
 use Rattle.hub_laws.proofs.Finding.{Ascend, found_handle, all_from_found, ascend_filter}
@@ -157,7 +158,7 @@ values_apart met (e ∷ es) apart d found =
     others [] keys at = tt
     others (f ∷ fs) keys at = (other f keys.0 at.0 _ refl, others fs keys.1 at.1)
 
--- ---- the rows of dataspace d at connection n, which has these exports
+-- ---- the rows of system actor d at connection n, which has these exports
 
 abbrev pub pair_of_row : List Plain → ℕ → Row → Pair
 pair_of_row exports n r = pair_at exports n r.entity r.value
@@ -166,8 +167,9 @@ abbrev pair_found : List Plain → ℕ → Option Row → Pair
 pair_found exports n None = record { oid = 0; value = boolean false }
 pair_found exports n (Some r) = pair_of_row exports n r
 
-module _ (exports : List Plain) (n d : ℕ) (met : List (Plain × ℕ)) (rows : List Row) (rise : Ascend rows)
-    (keys : IsDistinct same (keys_of met)) (has : HasRows d met rows) where
+module _ (y : Behaviour) (exports : List Plain) (n d : ℕ) (met : List (Plain × ℕ)) (rows : List Row)
+    (rise : Ascend rows)
+    (keys : IsDistinct same (keys_of met)) (has : HasRows y d met rows) where
   abbrev is_own : Row → Bool
   is_own r = (r.target == actor_of n) && (r.owner == d)
 
@@ -175,7 +177,7 @@ module _ (exports : List Plain) (n d : ℕ) (met : List (Plain × ℕ)) (rows : 
   own = filter is_own rows
 
   abbrev meant : List (Plain × ℕ)
-  meant = filter (λ e. goes_to (actor_of n) e.0) met
+  meant = filter (λ e. goes_to y (actor_of n) e.0) met
 
   abbrev pair_under : ℕ → Pair
   pair_under h = pair_found exports n (find_row h rows)
@@ -191,11 +193,11 @@ module _ (exports : List Plain) (n d : ℕ) (met : List (Plain × ℕ)) (rows : 
       (all_from_found _ rows rise (λ h r is. ap (λ h. find_row h rows) (found_handle h rows r is) ∙ is))
 
   abbrev IsMeant : Plain × ℕ → Type 0
-  IsMeant e = (handle_for e.0 met ≡ Some e.1) × (goes_to (actor_of n) e.0 ≡ true)
+  IsMeant e = (handle_for e.0 met ≡ Some e.1) × (goes_to y (actor_of n) e.0 ≡ true)
 
   all_meant : AllByRecursion IsMeant meant
   all_meant =
-      all_filter _ IsMeant (λ e. goes_to (actor_of n) e.0) (λ e passes found. (found, passes)) met
+      all_filter _ IsMeant (λ e. goes_to y (actor_of n) e.0) (λ e passes found. (found, passes)) met
       (each_found met keys)
 
   own_pairs : map pair_under (handles own) ≡ map (pair_of_row exports n) own
@@ -205,16 +207,17 @@ module _ (exports : List Plain) (n d : ℕ) (met : List (Plain × ℕ)) (rows : 
       ∙ ap (map (pair_of_row exports n)) (map-id own)
 
   -- the row under a key's handle is told as the key's pair
-  one_pair : (e : Plain × ℕ) → IsMeant e → pair_under e.1 ≡ pair_by exports n e.0
+  one_pair : (e : Plain × ℕ) → IsMeant e → pair_under e.1 ≡ pair_by y exports n e.0
   one_pair e is =
       let m = has.stand e.0 e.1 is.0 in
       ap (pair_found exports n) m.stands ∙ (λ i. pair_at exports n (m.fits.entity i) (m.fits.value i))
       ∙ ap (pair_or exports n e.0) (sym m.fits.aimed)
 
-  meant_pairs : map pair_under (values_of meant) ≡ map (pair_by exports n) (filter (goes_to (actor_of n)) (keys_of met))
+  meant_pairs : map pair_under (values_of meant)
+      ≡ map (pair_by y exports n) (filter (goes_to y (actor_of n)) (keys_of met))
   meant_pairs =
-      maps_alike pair_under (λ e. e.1) (pair_by exports n) (λ e. e.0) meant (all_weaker _ _ one_pair meant all_meant)
-      ∙ ap (map (pair_by exports n)) (keys_filter (goes_to (actor_of n)) met)
+      maps_alike pair_under (λ e. e.1) (pair_by y exports n) (λ e. e.0) meant (all_weaker _ _ one_pair meant all_meant)
+      ∙ ap (map (pair_by y exports n)) (keys_filter (goes_to y (actor_of n)) met)
 
   equal_numbers : (g h : ℕ) → g ≡ h → (g == h) ≡ true
   equal_numbers g h is = grind (arith, nat_tests)
@@ -226,7 +229,7 @@ module _ (exports : List Plain) (n d : ℕ) (met : List (Plain × ℕ)) (rows : 
       let rows_are : Some m.row ≡ Some r = sym m.stands ∙ found in
       let one : m.row ≡ r = cc in
       let there : m.fits.aim.at.actor ≡ actor_of n = sym m.fits.target ∙ ap (λ (z : Row). z.target) one ∙ is.1 in
-      lookup_passing q (goes_to (actor_of n)) k met at
+      lookup_passing q (goes_to y (actor_of n)) k met at
       (ap (is_at_actor (actor_of n)) m.fits.aimed ∙ equal_numbers m.fits.aim.at.actor (actor_of n) there)
 
   row_own : (q : ℕ) (e : Plain × ℕ) → IsMeant e → q ≡ e.1 → list_any (same_handle q) (handles own) ≡ true
@@ -252,13 +255,13 @@ module _ (exports : List Plain) (n d : ℕ) (met : List (Plain × ℕ)) (rows : 
       row_own q one.0 one.1 (same_handle_is q one.0.1 one.2)
 
   pub own_are_meant : IsPermutation (map (pair_of_row exports n) own)
-      (map (pair_by exports n) (filter (goes_to (actor_of n)) (keys_of met)))
+      (map (pair_by y exports n) (filter (goes_to y (actor_of n)) (keys_of met)))
   own_are_meant =
-      subst (λ l. IsPermutation l (map (pair_by exports n) (filter (goes_to (actor_of n)) (keys_of met)))) own_pairs
+      subst (λ l. IsPermutation l (map (pair_by y exports n) (filter (goes_to y (actor_of n)) (keys_of met)))) own_pairs
       (subst (IsPermutation (map pair_under (handles own))) meant_pairs
       (IsPermutation-map pair_under (handles own) (values_of meant)
       (same_members same_handle (eq_by_cmp_equiv nat_cmp_total) same_handle_is (handles own) (values_of meant)
       (IsDistinct-from_sorted nat_cmp (handles own) (ascend_filter is_own rows rise))
-      (values_apart met meant has.apart (IsDistinct-keys_filter same (λ e. goes_to (actor_of n) e.0) met keys)
+      (values_apart met meant has.apart (IsDistinct-keys_filter same (λ e. goes_to y (actor_of n) e.0) met keys)
       (all_weaker _ _ (λ e is. is.0) meant all_meant))
       (λ q. same_test _ _ (there q) (back q)))))

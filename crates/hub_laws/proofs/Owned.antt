@@ -1,31 +1,33 @@
--- The rows that a dataspace owns, by the key that each is for: how they follow the keys.
-use Rattle.std.proofs.Common.{◌≡◌, ℕ, List, Bool, true, false, cond, ◌==◌, Option, Some, None, ◌⊎◌, inl, inr}
+-- The rows that a system actor owns, by the key that each is for: how they follow the keys.
+use Rattle.std.proofs.Common.{◌≡◌, ℕ, List, [], Bool, true, false, cond, ◌==◌, Option, Some, None, ◌⊎◌, inl, inr}
 use Rattle.std.proofs.Common.{refl, ap, sym, ◌∙◌, subst, arith}
 use Rattle.std.specs.Map.{keys_of, values_of}
 use Rattle.std.proofs.lemmas.Bool.Decides.{nat_tests}
 use Rattle.pv_value.specs.Plain.{Plain}
 use Rattle.pv_words.specs.Parts.{same}
-use Rattle.ds_space.specs.Wants.{wants}
 use Rattle.ds_space.specs.Lemmas.Keys.{same_is, same_self}
 use Rattle.ac_table.specs.declared.batches.Row.{Row}
 use Rattle.ac_table.specs.Tables.{find_row}
 use Rattle.ac_world.specs.Turns.{handle_for}
-use Rattle.ac_world.specs.Worlds.{Seat, no_seat}
+use Rattle.ac_world.specs.Worlds.{Resident, no_resident}
+use Rattle.ac_world.specs.Behaviours.{Behaviour}
 use Rattle.hub_laws.specs.Wanting.{passing, IsMet, IsMetBy, IsRowFor}
 
 -- under the handle of each key stands a row for it, no two keys have one handle, and the actor has no other row
-pub record HasRows (a : ℕ) (met : List (Plain × ℕ)) (rows : List Row) : Type 0 where
-  pub stand : (k : Plain) (h : ℕ) → handle_for k met ≡ Some h → IsMetBy a rows k h
+pub record HasRows (y : Behaviour) (a : ℕ) (met : List (Plain × ℕ)) (rows : List Row) : Type 0 where
+  pub stand : (k : Plain) (h : ℕ) → handle_for k met ≡ Some h → IsMetBy y a rows k h
   pub apart : (k l : Plain) (h : ℕ) → handle_for k met ≡ Some h → handle_for l met ≡ Some h → k ≡ l
   pub no_other : (h : ℕ) (r : Row) → find_row h rows ≡ Some r → r.owner ≡ a
       → (k : Plain) × (handle_for k met ≡ Some h)
 
-pub rows_of_met : (a : ℕ) (seat : Seat) (rows : List Row) → IsMet a seat rows → HasRows a seat.met rows
-rows_of_met a seat rows m = record { stand = m.rows_stand; apart = m.apart; no_other = m.no_other }
+pub rows_of_met : (y : Behaviour) (a : ℕ) (resident : Resident) (rows : List Row) → IsMet y a resident rows
+    → HasRows y a resident.handles rows
+rows_of_met y a resident rows m = record { stand = m.rows_stand; apart = m.apart; no_other = m.no_other }
 
-pub met_of_rows : (a : ℕ) (seat : Seat) (rows : List Row) → keys_of seat.met ≡ passing (wants (values_of seat.got))
-    → HasRows a seat.met rows → IsMet a seat rows
-met_of_rows a seat rows keys r = record {
+pub met_of_rows : (y : Behaviour) (a : ℕ) (resident : Resident) (rows : List Row)
+    → keys_of resident.handles ≡ passing y (y.keys (values_of resident.got))
+    → HasRows y a resident.handles rows → IsMet y a resident rows
+met_of_rows y a resident rows keys r = record {
   keys = keys;
   rows_stand = r.stand;
   apart = r.apart;
@@ -49,11 +51,11 @@ same_number h g e = grind (arith, nat_tests)
 -- ---- the same rows
 
 -- the rows of others don't matter
-pub rows_kept : (a : ℕ) (met : List (Plain × ℕ)) (rows rows2 : List Row)
+pub rows_kept : (y : Behaviour) (a : ℕ) (met : List (Plain × ℕ)) (rows rows2 : List Row)
     → ((h : ℕ) (r : Row) → r.owner ≡ a → find_row h rows ≡ Some r → find_row h rows2 ≡ Some r)
     → ((h : ℕ) (r : Row) → r.owner ≡ a → find_row h rows2 ≡ Some r → find_row h rows ≡ Some r)
-    → HasRows a met rows → HasRows a met rows2
-rows_kept a met rows rows2 there back has = record {
+    → HasRows y a met rows → HasRows y a met rows2
+rows_kept y a met rows rows2 there back has = record {
   stand = λ k h e. let old = has.stand k h e in record {
     row = old.row;
     stands = there h old.row old.fits.owner old.stands;
@@ -63,27 +65,29 @@ rows_kept a met rows rows2 there back has = record {
   no_other = λ h r e own. has.no_other h r (back h r own e) own;
 }
 
-pub met_kept : (a : ℕ) (seat : Seat) (rows rows2 : List Row)
+pub met_kept : (y : Behaviour) (a : ℕ) (resident : Resident) (rows rows2 : List Row)
     → ((h : ℕ) (r : Row) → r.owner ≡ a → find_row h rows ≡ Some r → find_row h rows2 ≡ Some r)
     → ((h : ℕ) (r : Row) → r.owner ≡ a → find_row h rows2 ≡ Some r → find_row h rows ≡ Some r)
-    → IsMet a seat rows → IsMet a seat rows2
-met_kept a seat rows rows2 there back m =
-    met_of_rows a seat rows2 m.keys (rows_kept a seat.met rows rows2 there back (rows_of_met a seat rows m))
+    → IsMet y a resident rows → IsMet y a resident rows2
+met_kept y a resident rows rows2 there back m =
+    met_of_rows y a resident rows2 m.keys (rows_kept y a resident.handles rows rows2 there back
+    (rows_of_met y a resident rows m))
 
--- where no row is the actor's, a seat with nothing got is met
-pub no_wants_met : (a : ℕ) (rows : List Row) → ((h : ℕ) (r : Row) → find_row h rows ≡ Some r → r.owner ≡ a → ⊥)
-    → IsMet a no_seat rows
-no_wants_met a rows none = record {
-  keys = refl;
+-- where no row is the actor's, a resident with nothing got is met
+pub no_wants_met : (y : Behaviour) → y.keys [] ≡ [] → (a : ℕ) (rows : List Row)
+    → ((h : ℕ) (r : Row) → find_row h rows ≡ Some r → r.owner ≡ a → ⊥)
+    → IsMet y a no_resident rows
+no_wants_met y nothing a rows none = record {
+  keys = sym (ap (passing y) nothing);
   rows_stand = λ k h e. absurd cc;
   apart = λ k l h e f. absurd cc;
   no_other = λ h r e own. absurd (none h r e own);
 }
 
 -- only what is found under a key matters
-pub rows_same : (a : ℕ) (met met2 : List (Plain × ℕ)) (rows : List Row)
-    → ((q : Plain) → handle_for q met2 ≡ handle_for q met) → HasRows a met rows → HasRows a met2 rows
-rows_same a met met2 rows keys has = record {
+pub rows_same : (y : Behaviour) (a : ℕ) (met met2 : List (Plain × ℕ)) (rows : List Row)
+    → ((q : Plain) → handle_for q met2 ≡ handle_for q met) → HasRows y a met rows → HasRows y a met2 rows
+rows_same y a met met2 rows keys has = record {
   stand = λ k h e. has.stand k h (sym (keys k) ∙ e);
   apart = λ k l h e f. has.apart k l h (sym (keys k) ∙ e) (sym (keys l) ∙ f);
   no_other = λ h r e own. let old = has.no_other h r e own in (old.0, keys old.0 ∙ old.1);
@@ -91,7 +95,8 @@ rows_same a met met2 rows keys has = record {
 
 -- ---- a key and its row go
 
-module _ (a : ℕ) (met : List (Plain × ℕ)) (rows : List Row) (has : HasRows a met rows) (k : Plain) (h : ℕ)
+module _ (y : Behaviour) (a : ℕ) (met : List (Plain × ℕ)) (rows : List Row) (has : HasRows y a met rows) (k : Plain)
+    (h : ℕ)
     (found : handle_for k met ≡ Some h) where
   -- another key has another handle
   other_handle : (q : Plain) (g : ℕ) → same k q ≡ false → handle_for q met ≡ Some g → (h == g) ≡ false
@@ -106,7 +111,7 @@ module _ (a : ℕ) (met : List (Plain × ℕ)) (rows : List Row) (has : HasRows 
 
   pub rows_less : (met2 : List (Plain × ℕ)) (rows2 : List Row)
       → ((q : Plain) → handle_for q met2 ≡ cond (same k q) None (handle_for q met))
-      → ((g : ℕ) → find_row g rows2 ≡ cond (h == g) None (find_row g rows)) → HasRows a met2 rows2
+      → ((g : ℕ) → find_row g rows2 ≡ cond (h == g) None (find_row g rows)) → HasRows y a met2 rows2
   rows_less met2 rows2 keys stand = record {
     stand = λ q g e.
         let t = taken (same k q) (handle_for q met) g (sym (keys q) ∙ e) in
@@ -137,8 +142,9 @@ module _ (a : ℕ) (met : List (Plain × ℕ)) (rows : List Row) (has : HasRows 
 
 -- ---- a key comes, with a row for it under a handle that no row has
 
-module _ (a : ℕ) (met : List (Plain × ℕ)) (rows : List Row) (has : HasRows a met rows) (k : Plain) (h : ℕ) (r : Row)
-    (new : handle_for k met ≡ None) (free : find_row h rows ≡ None) (fits : IsRowFor a k r) where
+module _ (y : Behaviour) (a : ℕ) (met : List (Plain × ℕ)) (rows : List Row) (has : HasRows y a met rows) (k : Plain)
+    (h : ℕ) (r : Row)
+    (new : handle_for k met ≡ None) (free : find_row h rows ≡ None) (fits : IsRowFor y a k r) where
   used : (q : Plain) → handle_for q met ≡ Some h → ⊥
   used q at = let old = has.stand q h at in let clash : None ≡ Some old.row = sym free ∙ old.stands in cc
 
@@ -150,15 +156,15 @@ module _ (a : ℕ) (met : List (Plain × ℕ)) (rows : List Row) (has : HasRows 
     at_key q g e = given (same k q) (handle_for q met) h g (sym (keys q) ∙ e)
 
     row_at : (q : Plain) (g : ℕ) → ((same k q ≡ true) × (h ≡ g)) ⊎ ((same k q ≡ false) × (handle_for q met ≡ Some g))
-        → IsMetBy a rows2 q g
+        → IsMetBy y a rows2 q g
     row_at q g (inl e) =
         let one : (h == h) ≡ true = grind (arith, nat_tests) in
-        let here : IsMetBy a rows2 k h = record {
+        let here : IsMetBy y a rows2 k h = record {
           row = r;
           stands = stand h ∙ ap (λ b. cond b (Some r) (find_row h rows)) one;
           fits = fits;
         } in
-        subst (λ z. IsMetBy a rows2 z g) (same_is k q e.0) (subst (IsMetBy a rows2 k) e.1 here)
+        subst (λ z. IsMetBy y a rows2 z g) (same_is k q e.0) (subst (IsMetBy y a rows2 k) e.1 here)
     row_at q g (inr e) =
         let old = has.stand q g e.1 in
         record { row = old.row; stands = stand g ∙ by (h == g) refl old.row old.stands; fits = old.fits }
@@ -178,7 +184,7 @@ module _ (a : ℕ) (met : List (Plain × ℕ)) (rows : List Row) (has : HasRows 
     one_key q l g (inr e) (inl f) = absurd (used q (e.1 ∙ ap Some (sym f.1)))
     one_key q l g (inr e) (inr f) = has.apart q l g e.1 f.1
 
-    pub rows_more : HasRows a met2 rows2
+    pub rows_more : HasRows y a met2 rows2
     rows_more = record {
       stand = λ q g e. row_at q g (at_key q g e);
       apart = λ q l g e f. one_key q l g (at_key q g e) (at_key l g f);

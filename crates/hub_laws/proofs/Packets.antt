@@ -1,15 +1,15 @@
 -- A packet that is taken keeps the hub.
-use Rattle.std.proofs.Common.{◌≡◌, ◌≢◌, ℕ, ◌+◌, ◌<◌, ◌≤◌, List, [], ◌∷◌, true, false, Some, sym, ap}
-use Rattle.std.proofs.Common.{◌∙◌, arith, inl, inr}
+use Rattle.std.proofs.Common.{◌≡◌, ◌≢◌, ℕ, ◌+◌, ◌≤◌, List, [], ◌∷◌, true, false, sym, ap, nat_lt}
+use Rattle.std.proofs.Common.{◌∙◌, arith, inl, inr, Bool, refl}
 use Rattle.std.specs.List.{AllByRecursion}
 use Rattle.std.proofs.lemmas.Bool.Decides.{nat_tests}
-use Rattle.ac_table.specs.declared.batches.Row.{Row}
 use Rattle.ac_table.specs.declared.batches.Event.TheVariants as told
-use Rattle.ac_table.specs.Tables.{TableState, find_row, is_live}
+use Rattle.ac_table.specs.Tables.{TableState, is_live}
 use Rattle.ac_world.specs.declared.acts.Act.{Act}
 use Rattle.ac_world.specs.declared.acts.Act.TheVariants as act
 use Rattle.ac_world.specs.Outboxes.{Plan, plan_over, acted, all_acted}
-use Rattle.ac_world.specs.Worlds.{WorldState, Seat, seat_of, entry_of, with_entry, without_entry, is_space, actor_of}
+use Rattle.ac_world.specs.Worlds.{WorldState, Resident, resident_of, entry_of, with_entry, without_entry, actor_of}
+use Rattle.ac_world.specs.Behaviours.{Behaviour, behaviour_of}
 use Rattle.ac_world.specs.Lemmas.Entries.{put_found, put_other, out_other, ascend_without, ascend_with}
 use Rattle.hub_machine.specs.State.{State}
 use Rattle.hub_machine.specs.Admission.{Admitting}
@@ -60,30 +60,31 @@ all_acted_plan n a t p (x ∷ xs) far live valid k =
 -- ---- the world and the hub after it
 
 -- the wants of others than the plan's actor stay met
-pub met_others : (met_kept : MetKept) (a d : ℕ) (seat : Seat) (t : TableState) (p : Plan) → d ≢ a → Moves a t p
-    → IsMet d seat t.rows → IsMet d seat p.table.rows
-met_others met_kept a d seat t p ne m k =
-    met_kept d seat t.rows p.table.rows k (λ h r own found. m.stay h r found (λ same. ne (sym own ∙ same)))
+pub met_others : (met_kept : MetKept) (y : Behaviour) (a d : ℕ) (resident : Resident) (t : TableState) (p : Plan)
+    → d ≢ a → Moves a t p
+    → IsMet y d resident t.rows → IsMet y d resident p.table.rows
+met_others met_kept y a d resident t p ne m k =
+    met_kept y d resident t.rows p.table.rows k (λ h r own found. m.stay h r found (λ same. ne (sym own ∙ same)))
     (λ h r own found. elim (m.old h r found) [
       | inl before ↦ before
       | inr new ↦ absurd (ne (sym own ∙ new.1))
     ])
 
-space_apart : (a d : ℕ) → 9 ≤ a → is_space d ≡ true → d ≢ a
-space_apart a d far is same = absurd (let l : d < 9 = grind (arith, nat_tests, is) in omega (arith, l, far, same))
+-- where one is live that isn't always, a connection has come
+pub come_some : (a : ℕ) (w : WorldState) → 9 ≤ a → is_live a w.table ≡ true → IsSound [] w → w.opened ≢ 0
+come_some a w far live k none = by (nat_lt a 17) refl
+  where
+    high : a ≤ 16 + w.opened
+    high = k.numbers a live
 
--- a plan of another than the gatekeeper makes no row of the gatekeeper's
-pub idle_after : (a : ℕ) (t : TableState) (p : Plan) → a ≢ 0 → Moves a t p
-    → ((h : ℕ) (r : Row) → find_row h t.rows ≡ Some r → r.owner ≢ 0)
-    → (h : ℕ) (r : Row) → find_row h p.table.rows ≡ Some r → r.owner ≢ 0
-idle_after a t p ne m before h r found = elim (m.old h r found) [
-  | inl old ↦ before h r old
-  | inr new ↦ λ same. ne (sym new.1 ∙ same)
-]
+    by : (b : Bool) → nat_lt a 17 ≡ b → ⊥
+    by true is =
+        let dead : is_live a w.table ≡ false = k.no_watchers a far (grind (arith, nat_tests, is)) in cc
+    by false is = let over : 17 ≤ a = grind (arith, nat_tests, is) in omega (arith, over, high, none)
 
-planned : (met_kept : MetKept) (a : ℕ) (w : WorldState) (p : Plan) → 9 ≤ a → IsSound [] w
+planned : (met_kept : MetKept) (a : ℕ) (w : WorldState) (p : Plan) → 9 ≤ a → is_live a w.table ≡ true → IsSound [] w
     → IsPlanOf (16 + w.opened) a w.table p → IsPlanned [] w a p
-planned met_kept a w p far k plan = record {
+planned met_kept a w p far live k plan = record {
   table = k.table;
   always = k.always;
   no_watchers = k.no_watchers;
@@ -94,8 +95,9 @@ planned met_kept a w p far k plan = record {
   unheld = k.unheld;
   moves = plan.moves;
   good = plan.good;
-  met = λ d is. met_others met_kept a d (seat_of d w) w.table p (space_apart a d far is) plan.moves (k.met d is);
-  idle = idle_after a w.table p (λ same. absurd (omega (arith, far, same))) plan.moves k.idle;
+  met = λ d low. met_others met_kept (behaviour_of w.bindings d) a d (resident_of d w) w.table p
+      (λ same. absurd (omega (arith, low, far, same))) plan.moves (k.met d low);
+  some = come_some a w far live k;
 }
 
 pub accepted_hub : (met_kept : MetKept) (k : ℕ) (x : Admitting) (s : State) → 9 ≤ actor_of k
@@ -110,7 +112,7 @@ accepted_hub met_kept k x s far live valid h =
     (record { moves = begin_moves a w.table h.sound.table; good = begin_good n a w.table h.sound.rows }) in
     let p : Plan = all_acted a x.acts (plan_over w.table) in
     let sound : IsSound [] (done_in w a p) =
-    commit_sound posted_to posted_table served_after [] w a p (planned met_kept a w p far h.sound plan) in
+    commit_sound posted_to posted_table served_after [] w a p (planned met_kept a w p far live h.sound plan) in
     record {
       sound = sound;
       named = λ j live_j. elim (one_or_not j k) [

@@ -10,29 +10,30 @@ use Rattle.pv_value.specs.WellFormed.{Ascend}
 use Rattle.pv_words.specs.Parts.{same}
 use Rattle.ds_space.specs.Changes.{among}
 use Rattle.ds_space.specs.Lemmas.Keys.{same_is}
-use Rattle.ac_world.specs.Turns.{aim_of}
+use Rattle.ac_world.specs.Behaviours.{Behaviour}
 use Rattle.hub_laws.specs.Wanting.{passing}
 
-pub among_passing : (q : Plain) (ks : List Plain) → among q (passing ks) ≡ (is_some (aim_of q) && among q ks)
-among_passing q ks =
-    any-filter_same (same q) (λ k. is_some (aim_of k)) (is_some (aim_of q))
-    (λ k e. ap (λ z. is_some (aim_of z)) (sym (same_is q k e))) ks
+pub among_passing : (y : Behaviour) (q : Plain) (ks : List Plain)
+    → among q (passing y ks) ≡ (is_some (y.aim q) && among q ks)
+among_passing y q ks =
+    any-filter_same (same q) (λ k. is_some (y.aim k)) (is_some (y.aim q))
+    (λ k e. ap (λ z. is_some (y.aim z)) (sym (same_is q k e))) ks
 
-above_passing : (x : Plain) (ks : List Plain) → AllByRecursion (λ k. order x k ≡ Less) ks
-    → AllByRecursion (λ k. order x k ≡ Less) (passing ks)
-above_passing x [] all = tt
-above_passing x (k ∷ ks) all = by (is_some (aim_of k)) (above_passing x ks all.1)
+above_passing : (y : Behaviour) (x : Plain) (ks : List Plain) → AllByRecursion (λ k. order x k ≡ Less) ks
+    → AllByRecursion (λ k. order x k ≡ Less) (passing y ks)
+above_passing y x [] all = tt
+above_passing y x (k ∷ ks) all = by (is_some (y.aim k)) (above_passing y x ks all.1)
   where
-    by : (b : Bool) → AllByRecursion (λ k. order x k ≡ Less) (passing ks)
-        → AllByRecursion (λ k. order x k ≡ Less) (cond b (k ∷ passing ks) (passing ks))
+    by : (b : Bool) → AllByRecursion (λ k. order x k ≡ Less) (passing y ks)
+        → AllByRecursion (λ k. order x k ≡ Less) (cond b (k ∷ passing y ks) (passing y ks))
     by true rest = (all.0, rest)
     by false rest = rest
 
-pub passing_ascends : (ks : List Plain) → Ascend ks → Ascend (passing ks)
+pub passing_ascends : (y : Behaviour) (ks : List Plain) → Ascend ks → Ascend (passing y ks)
 unfolding IsStrictlySortedBy
-passing_ascends [] s = tt
-passing_ascends (k ∷ ks) s = by (is_some (aim_of k)) (passing_ascends ks s.1)
+passing_ascends y [] s = tt
+passing_ascends y (k ∷ ks) s = by (is_some (y.aim k)) (passing_ascends y ks s.1)
   where
-    by : (b : Bool) → Ascend (passing ks) → Ascend (cond b (k ∷ passing ks) (passing ks))
-    by true rest = (above_passing k ks s.0, rest)
+    by : (b : Bool) → Ascend (passing y ks) → Ascend (cond b (k ∷ passing y ks) (passing y ks))
+    by true rest = (above_passing y k ks s.0, rest)
     by false rest = rest

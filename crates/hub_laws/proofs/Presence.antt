@@ -35,6 +35,7 @@ module _ (n : ℕ) where
 
   keeps_from : Keeps IsFrom
   keeps_from = record {
+    binds = λ b s is l. l;
     opens = λ space s l. l;
     fails = λ k f s there l. ended_from (actor_of k) s.world l;
     closes = λ k s there l. ended_from (actor_of k) s.world l;
@@ -157,6 +158,7 @@ place_turned a s p =
 
 keeps_place : Keeps IsInPlace
 keeps_place = record {
+  binds = λ b s is p. record { named = p.named; faults = p.faults };
   opens = place_opened;
   fails = place_failed;
   closes = λ k s there p. place_closed k s p;
@@ -190,6 +192,5 @@ presence steps may =
             each_found (λ e. HasCome s.world.opened e.0) k n.0 s.connections p.named n.1,
             ap (λ b. is_some (cond b (entry_of k s.connections) None)) live ∙ ap is_some n.1,
           );
-      no_rows = h.sound.idle;
       faults = p.faults;
     }

@@ -14,11 +14,12 @@ use Rattle.ac_table.specs.declared.batches.Batch.{Batch}
 use Rattle.ac_table.specs.Tables.{TableState, Actor, IsTable, find_actor, is_live, ended, rows_of}
 use Rattle.ac_table.specs.Tables.{rows_of_others}
 use Rattle.ac_world.specs.Outboxes.{Outbox, Plan, plan_over, put, dropped, said, told_to, posted, retractions}
+use Rattle.ac_world.specs.Behaviours.{Behaviour}
 use Rattle.ac_world.specs.Turns.{Turning, regot, all_turned}
 use Rattle.ac_world.specs.Lemmas.Entries.{KeysAscend}
 use Rattle.hub_laws.specs.Standing.{took_all, value_alone}
 use Rattle.hub_laws.specs.Wanting.{IsMet}
-use Rattle.hub_laws.proofs.Kept.{made_in, IsNear, IsKnown, IsGood, FitsEvent, Moves, AreGood, Runs}
+use Rattle.hub_laws.proofs.Kept.{made_in, IsNear, IsKnown, IsGood, IsLawful, FitsEvent, Moves, AreGood, Runs}
 use Rattle.hub_laws.proofs.Kept.{IsServedBy}
 
 -- ---- lists
@@ -117,36 +118,36 @@ EndedTable =
 
 -- ---- wants
 
--- a dataspace's rows follow its wants
-abbrev pub RegotMet : Type 1
-RegotMet =
-    (a n : ℕ) (t : TableState) (u : Turning) (rows : Rows) → a < 9 → 9 ≤ n → is_live a t ≡ true
-    → Moves a t u.plan → AreGood n a u.plan → IsMet a u.seat u.plan.table.rows
+-- a system actor's rows follow its wants
+abbrev pub RegotMet : Behaviour → Type 1
+RegotMet y =
+    IsLawful y → (a n : ℕ) (t : TableState) (u : Turning) (rows : Rows) → a < 9 → 9 ≤ n → is_live a t ≡ true
+    → Moves a t u.plan → AreGood n a u.plan → IsMet y a u.resident u.plan.table.rows
     → AllByRecursion (IsKnown n) (values_of rows)
-    → Moves a t (regot a rows u).plan × AreGood n a (regot a rows u).plan
-    × IsMet a (regot a rows u).seat (regot a rows u).plan.table.rows
-    × ((regot a rows u).seat.got ≡ rows) × ((regot a rows u).spreads ≡ u.spreads)
+    → Moves a t (regot y a rows u).plan × AreGood n a (regot y a rows u).plan
+    × IsMet y a (regot y a rows u).resident (regot y a rows u).plan.table.rows
+    × ((regot y a rows u).resident.got ≡ rows) × ((regot y a rows u).spreads ≡ u.spreads)
 
--- ---- a dataspace's turn
+-- ---- a system actor's turn
 
-abbrev pub TurnRuns : Type 1
-TurnRuns =
-    (n a from : ℕ) (t : TableState) (full : Rows) (u : Turning) (es : List Event) → a < 9 → 9 ≤ n
+abbrev pub TurnRuns : Behaviour → Type 1
+TurnRuns y =
+    IsLawful y → (n a from : ℕ) (t : TableState) (full : Rows) (u : Turning) (es : List Event) → a < 9 → 9 ≤ n
     → IsTable t → is_live a t ≡ true → ((b : ℕ) → 9 ≤ b → b < 17 → is_live b t ≡ false)
     → AllByRecursion (IsGood n) t.rows
     → AllByRecursion (FitsEvent n t.rows a from) es
-    → IsStrictlySortedBy nat_cmp (keys_of u.seat.got ++ made_in es)
-    → Runs n a t full u → Runs n a t (took_all value_alone es full) (all_turned a from es u)
+    → IsStrictlySortedBy nat_cmp (keys_of u.resident.got ++ made_in es)
+    → Runs y n a t full u → Runs y n a t (took_all value_alone es full) (all_turned y a from es u)
 
 -- the handles got are some of those that were got and came
-abbrev pub TurnLog : Type 0
-TurnLog =
+abbrev pub TurnLog : Behaviour → Type 0
+TurnLog y =
     (a from : ℕ) (u : Turning) (es : List Event) (rest : List ℕ)
-    → IsStrictlySortedBy nat_cmp (keys_of u.seat.got ++ made_in es ++ rest)
-    → IsStrictlySortedBy nat_cmp (keys_of (all_turned a from es u).seat.got ++ rest)
+    → IsStrictlySortedBy nat_cmp (keys_of u.resident.got ++ made_in es ++ rest)
+    → IsStrictlySortedBy nat_cmp (keys_of (all_turned y a from es u).resident.got ++ rest)
 
-abbrev pub TurnBelow : Type 0
-TurnBelow =
+abbrev pub TurnBelow : Behaviour → Type 0
+TurnBelow y =
     (a from next : ℕ) (u : Turning) (es : List Event)
-    → AllByRecursion (λ h. h < next) (keys_of u.seat.got ++ made_in es)
-    → AllByRecursion (λ h. h < next) (keys_of (all_turned a from es u).seat.got)
+    → AllByRecursion (λ h. h < next) (keys_of u.resident.got ++ made_in es)
+    → AllByRecursion (λ h. h < next) (keys_of (all_turned y a from es u).resident.got)

@@ -4,6 +4,7 @@ use Rattle.std.proofs.Common.{sym, ◌∙◌, subst, arith, is_some, length}
 use Rattle.std.specs.Prelude.{nat_lt, nat_le}
 use Rattle.std.proofs.lemmas.Bool.Decides.{nat_tests}
 use Rattle.std.specs.List.{AllByRecursion}
+use Rattle.gk_sturdy.specs.declared.bound.Binding.{Binding}
 use Rattle.ac_table.specs.declared.batches.Row.{Row}
 use Rattle.ac_table.specs.declared.batches.Batch.{Batch}
 use Rattle.ac_table.specs.Tables.{TableState, is_live, lowest}
@@ -20,11 +21,12 @@ use Rattle.hub_machine.specs.State.{State, ports_of, is_there}
 use Rattle.hub_machine.specs.Admission.{Admitted, refused, admitted, admission}
 use Rattle.hub_machine.specs.Endings.{nameless, failed, finished}
 use Rattle.hub_machine.specs.Machine.{unchanged, refusal, arrive_unless, judged, packet_at, bad_at, close_at}
+use Rattle.hub_machine.specs.Machine.{bind_unless, is_barred}
 use Rattle.hub_machine.specs.Machine.{telling_fault, told_unless, tell, fault_for, tell_fault, after_turn, turn_of, rest}
 use Rattle.hub_machine.specs.Machine.{work_by, is_worn, done, step}
 use Rattle.hub_machine.specs.Replays.{replay}
 use Rattle.hub_machine.specs.declared.steps.Step.{Step}
-use Rattle.hub_machine.specs.declared.steps.Step.TheVariants.{Arrive, Packet, Bad, Close, Turn, Work, Stop}
+use Rattle.hub_machine.specs.declared.steps.Step.TheVariants.{Bind, Arrive, Packet, Bad, Close, Turn, Work, Stop}
 use Rattle.hub_machine.specs.declared.steps.Reply.TheVariants.{Worn, Barred, Halted, Full, Idle, Refused}
 use Rattle.hub_valid.specs.Lemmas.Lasting.{live_popped}
 use Rattle.hub_valid.specs.Lemmas.Lists.{filter_same, all_from}
@@ -213,7 +215,13 @@ module _ (s : State) (are_live : AreLive s.world.table) (f : Fault) where
       by true system is = let far = (turn_left a is).far in cc
       by false far is = rest_left is
 
+  bind_left : (c : Bool) (b : Binding) → (bind_unless c b s).reply ≡ Refused f
+      → IsLeft None f s (bind_unless c b s).state
+  bind_left true b is = absurd cc
+  bind_left false b is = absurd cc
+
   done_left : (e : Step) → (done s e).reply ≡ Refused f → IsLeft (whose e) f s (done s e).state
+  done_left (Bind b) is = bind_left (is_barred b s) b is
   done_left (Arrive space) is = arrive_left space is
   done_left (Packet k es) is = packet_left k (ports_of k s) es is
   done_left (Bad k g) is = bad_left k (ports_of k s) g is

@@ -1,5 +1,5 @@
 -- To whom messages go.
-use Rattle.std.proofs.Common.{◌≡◌, ℕ, ◌≤◌, List, [], ◌∷◌, ◌++◌, Bool, true, false, cond, Option, Some, None}
+use Rattle.std.proofs.Common.{◌≡◌, ℕ, ◌≤◌, List, [], ◌∷◌, ◌++◌, Bool, true, false, cond, Option, Some, None, suc, zero}
 use Rattle.std.proofs.Common.{refl, sym, ap, ◌∙◌, subst, arith}
 use Rattle.std.specs.Prelude.{nat_lt, option_and_then}
 use Rattle.std.specs.List.{flat_map}
@@ -21,9 +21,12 @@ use Rattle.ac_table.specs.Tables.{find_actor, is_live, first_batch, popped}
 use Rattle.ac_world.specs.declared.aims.Aim.{Aim}
 use Rattle.ac_world.specs.declared.turns.Turned.TheVariants as turned
 use Rattle.ac_world.specs.Outboxes.{Plan, plan_over, told_to}
-use Rattle.ac_world.specs.Turns.{After, Turning, aim_at, observer_in, aim_for, spreading, by_message, say_at, say_all}
-use Rattle.ac_world.specs.Turns.{passed_on, answer_to, begin_turn, space_turn, plain_turn, connection_turn, turn_first}
-use Rattle.ac_world.specs.Worlds.{WorldState, seat_of, is_space, is_system}
+use Rattle.ac_world.specs.Turns.{After, Turning, spreading, by_message, say_at, say_all, all_turned, end_turn}
+use Rattle.ac_world.specs.Turns.{passes_on, system_turn, turn_with}
+use Rattle.ac_world.specs.Turns.{passed_on, answer_to, begin_turn, connection_turn, turn_first, turn}
+use Rattle.ac_world.specs.Worlds.{WorldState, resident_of, is_space, is_system}
+use Rattle.ac_world.specs.Aims.{aim_at, aim_for, observer_in}
+use Rattle.ac_world.specs.Behaviours.{behaviour_of, dataspace, fanned_weight}
 use Rattle.hub_valid.specs.Lemmas.Lists.{flat_map_append}
 use Rattle.hub_laws.specs.Posting.{IsOutbox, grown}
 use Rattle.hub_laws.specs.Saying.{message_aimed, message_by, messages_over, OnlySays, SaysMessages, AnswersSyncs}
@@ -102,12 +105,12 @@ fan_told b m (o ∷ os) =
 
 -- ---- a message
 
-passed_says : (from : ℕ) (m : Plain) (t : Turning) → fan_weight (values_of t.seat.got) m ≤ 33554432
-    → OnlySays (λ b. messages_over b (values_of t.seat.got) m) t.plan (passed_on from m t).plan
+passed_says : (from : ℕ) (m : Plain) (t : Turning) → fan_weight (values_of t.resident.got) m ≤ 33554432
+    → OnlySays (λ b. messages_over b (values_of t.resident.got) m) t.plan (passes_on dataspace from m t).plan
 passed_says from m t light = by (nat_lt 33554432 (fan_weight vs m)) refl
   where
     vs : List Plain
-    vs = values_of t.seat.got
+    vs = values_of t.resident.got
 
     by : (c : Bool) → nat_lt 33554432 (fan_weight vs m) ≡ c
         → OnlySays (λ b. messages_over b vs m) t.plan
@@ -121,7 +124,7 @@ passed_says from m t light = by (nat_lt 33554432 (fan_weight vs m)) refl
     }
 
 pub says_messages : SaysMessages
-says_messages a from entity m t light = passed_says from m t light
+says_messages = (λ a from entity m t light. passed_says from m t light, λ bs a from entity m t. refl)
 
 answer_says : (peer : Plain) (p : Plan)
     → OnlySays (λ b. message_aimed b (aim_at (boolean true) peer)) p (answer_to peer p)
@@ -135,7 +138,7 @@ answer_says peer p = record {
     one (Some aim) = refl
 
 pub answers_syncs : AnswersSyncs
-answers_syncs = (λ a from entity peer t. answer_says peer t.plan, λ entity peer p. answer_says peer p)
+answers_syncs y a from entity peer t = answer_says peer t.plan
 
 -- ---- a turn over a message
 
@@ -149,17 +152,22 @@ say_all_outbox (f ∷ fs) p is =
     let aim : Option Aim = aim_for (sequence (plains f.captures)) f.observe in
     say_all_outbox fs (say_at aim p) (say_at_outbox aim p is)
 
-passed_outbox : (from : ℕ) (m : Plain) (t : Turning) → IsOutbox t.plan.out → IsOutbox (passed_on from m t).plan.out
-passed_outbox from m t is = by (nat_lt 33554432 (fan_weight (values_of t.seat.got) m))
+passed_outbox : (from : ℕ) (fs : List Fanned) (t : Turning) → IsOutbox t.plan.out
+    → IsOutbox (passed_on from fs t).plan.out
+passed_outbox from fs t is = by (nat_lt 33554432 (fanned_weight fs))
   where
     by : (c : Bool) → IsOutbox
-        (cond c (spreading (by_message t.plan.table from (fan_weight (values_of t.seat.got) m)) t)
-        (record t { plan = say_all (fan_of (values_of t.seat.got) m) t.plan })).plan.out
+        (cond c (spreading (by_message t.plan.table from (fanned_weight fs)) t)
+        (record t { plan = say_all fs t.plan })).plan.out
     by true = is
-    by false = say_all_outbox (fan_of (values_of t.seat.got) m) t.plan is
+    by false = say_all_outbox fs t.plan is
 
-pub messages_arrive : MessagesArrive
-messages_arrive a from entity m w space live first light b = by (is_live a w.table) (first_batch a w.table) live first
+at_space : (a from entity : ℕ) (m : Plain) (w : WorldState) → is_space a ≡ true → is_live a w.table ≡ true
+    → first_batch a w.table ≡ Some (record { from = from; events = Message entity m ∷ [] })
+    → fan_weight (values_of (resident_of a w).got) m ≤ 33554432 → (b : ℕ)
+    → find_actor b (turn a w).world.table.actors
+    ≡ grown a (messages_over b (values_of (resident_of a w).got) m) (find_actor b (popped a w.table).actors)
+at_space a from entity m w space live first light b = by (is_live a w.table) (first_batch a w.table) live first
   where
     u : WorldState
     u = record w { table = popped a w.table }
@@ -168,27 +176,37 @@ messages_arrive a from entity m w space live first light b = by (is_live a w.tab
     batch = record { from = from; events = Message entity m ∷ [] }
 
     t : Turning
-    t = passed_on from m (begin_turn a u)
+    t = passes_on dataspace from m (begin_turn a u)
 
-    says : OnlySays (λ c. messages_over c (values_of (seat_of a w).got) m) (plan_over u.table) t.plan
+    says : OnlySays (λ c. messages_over c (values_of (resident_of a w).got) m) (plan_over u.table) t.plan
     says = passed_says from m (begin_turn a u) light
 
     Arrives : After → Type 0
     Arrives x = find_actor b x.world.table.actors
-        ≡ grown a (messages_over b (values_of (seat_of a w).got) m) (find_actor b (popped a w.table).actors)
+        ≡ grown a (messages_over b (values_of (resident_of a w).got) m) (find_actor b (popped a w.table).actors)
 
-    run : Arrives (space_turn a batch u)
+    run : Arrives (end_turn a u t)
     run =
         posted_grown a b t.plan.out t.plan.table outbox.0 outbox.1
         ∙ (λ i. grown a (says.told b i) (find_actor b (says.table i).actors))
       where
         outbox : IsOutbox t.plan.out
-        outbox = passed_outbox from m (begin_turn a u) are_outboxes.0
+        outbox =
+            passed_outbox from (fan_of (values_of (resident_of a u).got) m) (begin_turn a u) are_outboxes.0
 
-    kinds : (c : Bool) → c ≡ true
-        → Arrives (cond c (space_turn a batch u) (cond (is_system a) (plain_turn a batch u) (connection_turn a batch u)))
-    kinds true is = run
-    kinds false is = absurd cc
+    -- a dataspace is a system actor, and behaves as one
+    kinds : (d : ℕ) → is_space d ≡ true → is_system d ≡ true
+    kinds d is = grind (arith, nat_tests, is)
+
+    behaves : (d : ℕ) → is_space d ≡ true → behaviour_of w.bindings d ≡ dataspace
+    behaves zero is = absurd cc
+    behaves (suc d) is = refl
+
+    here : Arrives (turn_with a batch u)
+    here =
+        subst (λ c. Arrives (cond c (system_turn a batch u) (connection_turn a batch u))) (sym (kinds a space))
+        (subst (λ y. Arrives (end_turn a u (all_turned y a from (Message entity m ∷ []) (begin_turn a u))))
+        (sym (behaves a space)) run)
 
     by : (c : Bool) (o : Option Batch) → c ≡ true → o ≡ Some batch
         → Arrives (cond c (turn_first a o w) (record { world = w; turned = turned.Gone }))
@@ -196,4 +214,24 @@ messages_arrive a from entity m w space live first light b = by (is_live a w.tab
     by true None live first = absurd cc
     by true (Some d) live first =
         let same : batch ≡ d = cc in
-        subst (λ e. Arrives (turn_first a (Some e) w)) same (kinds (is_space a) space)
+        subst (λ e. Arrives (turn_first a (Some e) w)) same here
+
+at_gatekeeper : (from entity : ℕ) (m : Plain) (w : WorldState) → is_live 0 w.table ≡ true
+    → first_batch 0 w.table ≡ Some (record { from = from; events = Message entity m ∷ [] }) → (b : ℕ)
+    → find_actor b (turn 0 w).world.table.actors ≡ find_actor b (popped 0 w.table).actors
+at_gatekeeper from entity m w live first b = by (is_live 0 w.table) (first_batch 0 w.table) live first
+  where
+    batch : Batch
+    batch = record { from = from; events = Message entity m ∷ [] }
+
+    Arrives : After → Type 0
+    Arrives x = find_actor b x.world.table.actors ≡ find_actor b (popped 0 w.table).actors
+
+    by : (c : Bool) (o : Option Batch) → c ≡ true → o ≡ Some batch
+        → Arrives (cond c (turn_first 0 o w) (record { world = w; turned = turned.Gone }))
+    by false o live first = absurd cc
+    by true None live first = absurd cc
+    by true (Some d) live first = let same : batch ≡ d = cc in subst (λ e. Arrives (turn_first 0 (Some e) w)) same refl
+
+pub messages_arrive : MessagesArrive
+messages_arrive = (at_space, at_gatekeeper)

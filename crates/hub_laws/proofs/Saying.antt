@@ -1,17 +1,16 @@
 -- What is only said: messages and answers to syncs change no row.
 use Rattle.std.proofs.Common.{◌≡◌, ℕ, true, List, [], ◌∷◌, Option, Some, None, refl, ◌∙◌}
-use Rattle.std.specs.List.{AllByRecursion}
 use Rattle.pv_value.specs.Plain.{Plain, sequence, plains, boolean}
 use Rattle.ds_space.specs.declared.space.Fanned.{Fanned}
-use Rattle.ac_table.specs.declared.batches.Event.{Event}
-use Rattle.ac_table.specs.declared.batches.Event.TheVariants.{Assert, Retract, Message, Sync}
-use Rattle.ac_table.specs.Tables.{TableState, IsTable}
-use Rattle.ac_world.specs.Outboxes.{Plan, plan_over, said}
+use Rattle.ac_table.specs.declared.batches.Event.TheVariants.{Message}
+use Rattle.ac_table.specs.Tables.{TableState}
+use Rattle.ac_world.specs.Outboxes.{Plan, said}
 use Rattle.ac_world.specs.declared.aims.Aim.{Aim}
-use Rattle.ac_world.specs.Turns.{aim_at, aim_for, say_at, say_all, answer_to, answered, all_answered}
-use Rattle.hub_laws.proofs.Kept.{IsGood, Moves, AreGood}
-use Rattle.hub_laws.proofs.Good.{begin_good, said_good}
-use Rattle.hub_laws.proofs.Moving.{begin_moves, said_moves}
+use Rattle.ac_world.specs.Turns.{say_at, say_all, answer_to}
+use Rattle.ac_world.specs.Aims.{aim_at, aim_for}
+use Rattle.hub_laws.proofs.Kept.{Moves, AreGood}
+use Rattle.hub_laws.proofs.Good.{said_good}
+use Rattle.hub_laws.proofs.Moving.{said_moves}
 
 -- the plan new goes on from old, and has its table
 pub record OnlySays (n a : ℕ) (t : TableState) (old new : Plan) : Type 1 where
@@ -45,25 +44,3 @@ say_all_only n a t p (f ∷ fs) m g =
     let next : Plan = say_at aim p in
     let rest = say_all_only n a t next fs one.moves one.good in
     record { moves = rest.moves; good = rest.good; same = rest.same ∙ one.same }
-
--- a system actor that is no dataspace answers syncs, and does no more
-answered_only : (n a : ℕ) (t : TableState) (p : Plan) (e : Event) → Moves a t p → AreGood n a p
-    → OnlySays n a t p (answered e p)
-answered_only n a t p (Assert h entity v) m g = record { moves = m; good = g; same = refl }
-answered_only n a t p (Retract h entity) m g = record { moves = m; good = g; same = refl }
-answered_only n a t p (Message entity v) m g = record { moves = m; good = g; same = refl }
-answered_only n a t p (Sync entity peer) m g =
-    answer_only n a t p peer m g
-
-all_answered_only : (n a : ℕ) (t : TableState) (p : Plan) (es : List Event) → Moves a t p
-    → AreGood n a p → OnlySays n a t p (all_answered es p)
-all_answered_only n a t p [] m g = record { moves = m; good = g; same = refl }
-all_answered_only n a t p (e ∷ es) m g =
-    let one = answered_only n a t p e m g in
-    let rest = all_answered_only n a t (answered e p) es one.moves one.good in
-    record { moves = rest.moves; good = rest.good; same = rest.same ∙ one.same }
-
-pub plain_answers : (n a : ℕ) (t : TableState) (es : List Event)
-    → IsTable t → AllByRecursion (IsGood n) t.rows → OnlySays n a t (plan_over t) (all_answered es (plan_over t))
-plain_answers n a t es table good =
-    all_answered_only n a t (plan_over t) es (begin_moves a t table) (begin_good n a t good)

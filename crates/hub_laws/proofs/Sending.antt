@@ -9,6 +9,7 @@ use Rattle.std.proofs.lemmas.Grind.{flat_map-append}
 use Rattle.std.proofs.lemmas.List.{map-append}
 use Rattle.pv_value.specs.Plain.{embedded}
 use Rattle.pv_value.specs.Plain.{Plain}
+use Rattle.gk_sturdy.specs.declared.bound.Binding.{Binding}
 use Rattle.ac_table.specs.declared.batches.Event.{Event}
 use Rattle.ac_table.specs.declared.batches.Event.TheVariants.{Assert, Retract, Message, Sync}
 use Rattle.ac_table.specs.declared.batches.Batch.{Batch}
@@ -16,7 +17,7 @@ use Rattle.ac_table.specs.Tables.{Actor, find_actor, is_live, lowest, first_batc
 use Rattle.ac_table.specs.Lemmas.Lists.{all_weaker}
 use Rattle.ac_world.specs.declared.turns.Turned.TheVariants as turned
 use Rattle.ac_world.specs.Turns.{After as TurnOf, deliver, turn_with, turn_first}
-use Rattle.ac_world.specs.Worlds.{WorldState, held_by, entry_of, is_space, is_system, actor_of, all_delivered, arrived}
+use Rattle.ac_world.specs.Worlds.{WorldState, held_by, entry_of, is_system, actor_of, all_delivered, arrived, binding}
 use Rattle.ac_world.specs.Lemmas.Entries.{put_found, ascend_none, all_append}
 use Rattle.rl_packet.specs.Holding.{events_in, all_kept, holdings_in_order, held}
 use Rattle.rl_packet.specs.declared.packets.Event.TheVariants as wire
@@ -30,13 +31,14 @@ use Rattle.hub_machine.specs.Faults.{error_of}
 use Rattle.hub_machine.specs.declared.faults.Fault.{Fault}
 use Rattle.hub_machine.specs.declared.faults.Fault.TheVariants as fault
 use Rattle.hub_machine.specs.Machine.{After, unchanged, told_value, foreign_told, foreign_to, sent_event, packet_to}
+use Rattle.hub_machine.specs.Machine.{bind_unless, is_barred}
 use Rattle.hub_machine.specs.Machine.{exports_after, exporting, telling_fault, told_unless, tell, opened, refusal}
 use Rattle.hub_machine.specs.Machine.{arrive_unless, fault_for, tell_fault, after_turn, turn_of, is_worn, done, step}
 use Rattle.hub_machine.specs.Machine.{actor_reference}
 use Rattle.hub_machine.specs.Replays.{run_from, replay, packet_in, sent_by, sent_from, sent_to}
 use Rattle.hub_machine.specs.State.{State, opening, ports_of}
 use Rattle.hub_machine.specs.declared.steps.Step.{Step}
-use Rattle.hub_machine.specs.declared.steps.Step.TheVariants.{Arrive, Packet, Bad, Close, Turn, Work, Stop}
+use Rattle.hub_machine.specs.declared.steps.Step.TheVariants.{Bind, Arrive, Packet, Bad, Close, Turn, Work, Stop}
 use Rattle.hub_machine.specs.declared.steps.Reply.{Reply}
 use Rattle.hub_machine.specs.declared.steps.Reply.TheVariants.{Worn, Gone, Idle, Sent, Refused}
 use Rattle.hub_laws.specs.Laws.{AreAllowed, Holdings}
@@ -44,7 +46,7 @@ use Rattle.hub_laws.specs.Scratch.{exports_in, exports_of}
 use Rattle.hub_laws.specs.Settled.{holding_of, HasNumbers, AreWhatItGot}
 use Rattle.hub_laws.proofs.Numbered.{numbered}
 use Rattle.hub_laws.specs.Standing.{took_all, events_of, at_object}
-use Rattle.hub_laws.proofs.Growing.{arrived_grows}
+use Rattle.hub_laws.proofs.Growing.{arrived_grows, grows_alike}
 use Rattle.hub_laws.proofs.Holding.{kept_is_taken}
 use Rattle.hub_laws.proofs.Hubs.{is_far}
 use Rattle.hub_laws.proofs.Joining.{above_is_new, joined_new}
@@ -311,9 +313,8 @@ module _ (k : ℕ) (es : List TurnEvent) (s : State) (hub : IsHub [] s) (sent : 
       → AreSentAfter (turn_with own b (without_first own s.world))
   batch_sent b first =
       let far : 17 ≤ own = is_far [] s.world k hub.sound lives in
-      let space : is_space own ≡ false = grind (arith, nat_tests, far) in
       let system : is_system own ≡ false = grind (arith, nat_tests, far) in
-      rw (space, system) (taking_sent b first)
+      rw system (taking_sent b first)
 
   first_sent : (o : Option Batch) → first_batch own s.world.table ≡ o → AreSentAfter (turn_first own o s.world)
   first_sent None first = sent_nothing k es _ s s (none_by k own Idle refl) (stays_not k s) sent
@@ -354,8 +355,23 @@ arrive_sent k None space es s sound sent =
     sent_alike k es (opened space s) _ (finished_stays k [] (opened space s)) (sent_arrived k space es s sound sent)
 arrive_sent k (Some r) space es s sound sent = sent
 
+bind_sent : (k : ℕ) (c : Bool) (b : Binding) (es : List TurnEvent) (s : State) → AreSent k es s
+    → AreSentBy k (Bind b) es (bind_unless c b s)
+bind_sent k true b es s sent = sent_nothing k es [] s s refl (stays_not k s) sent
+bind_sent k false b es s sent =
+    let t : State = record s { world = binding b s.world } in
+    sent_nothing k es [] s _ refl
+    (stays_on k s t _
+    (record {
+      grows = grows_alike (actor_of k) s.world (binding b s.world) (omega arith) refl refl refl;
+      exports = λ x found. refl;
+    })
+    (finished_stays k [] t))
+    sent
+
 done_sent : (k : ℕ) (e : Step) (es : List TurnEvent) (s : State) → IsHub [] s → AreSent k es s
     → AreSentBy k e es (done s e)
+done_sent k (Bind b) es s hub sent = bind_sent k (is_barred b s) b es s sent
 done_sent k (Arrive space) es s hub sent =
     sent_nothing k es [] _ _ refl (stays_not k _) (arrive_sent k (refusal space s) space es s hub.sound sent)
 done_sent k (Packet j ts) es s hub sent =
@@ -372,6 +388,7 @@ done_sent k Stop es s hub sent =
 
 -- where the numbers are used up nothing is sent
 worn_tells : (k : ℕ) (e : Step) → events_by k e Worn ≡ []
+worn_tells k (Bind b) = refl
 worn_tells k (Arrive space) = refl
 worn_tells k (Packet j ts) = refl
 worn_tells k (Bad j f) = refl

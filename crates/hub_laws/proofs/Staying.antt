@@ -10,8 +10,8 @@ use Rattle.ac_world.specs.declared.spreads.Spread.{Spread as SpreadOf}
 use Rattle.ac_world.specs.declared.turns.Turned.{Turned}
 use Rattle.ac_world.specs.declared.turns.Turned.TheVariants as turned
 use Rattle.ac_world.specs.Outboxes.{retractions}
-use Rattle.ac_world.specs.Turns.{After as TurnOf, space_turn, plain_turn, connection_turn, turn_first, turn}
-use Rattle.ac_world.specs.Worlds.{WorldState, entry_of, with_entry, without_entry, is_space, is_system, actor_of, gone}
+use Rattle.ac_world.specs.Turns.{After as TurnOf, connection_turn, turn_first, turn, system_turn}
+use Rattle.ac_world.specs.Worlds.{WorldState, entry_of, with_entry, without_entry, is_system, actor_of, gone}
 use Rattle.ac_world.specs.Worlds.{ended_of}
 use Rattle.ac_world.specs.Lemmas.Entries.{put_found, put_other, out_other}
 use Rattle.rl_packet.specs.declared.packets.TurnEvent.{TurnEvent}
@@ -202,18 +202,16 @@ taken_by_connection a w b = by (is_live a w.table) (first_batch a w.table)
     none : TurnOf
     none = record { world = w; turned = turned.Gone }
 
-    kinds : (batch : Batch) (u : WorldState) (c d : Bool) → is_system a ≡ d
-        → (cond c (space_turn a batch u) (cond d (plain_turn a batch u) (connection_turn a batch u))).turned
-        ≡ turned.Taken b → is_system a ≡ false
-    kinds batch u true d system is = absurd cc
-    kinds batch u false true system is = absurd cc
-    kinds batch u false false system is = system
+    kinds : (batch : Batch) (u : WorldState) (c : Bool) → is_system a ≡ c
+        → (cond c (system_turn a batch u) (connection_turn a batch u)).turned ≡ turned.Taken b → is_system a ≡ false
+    kinds batch u true system is = absurd cc
+    kinds batch u false system is = system
 
     by : (c : Bool) (o : Option Batch) → (cond c (turn_first a o w) none).turned ≡ turned.Taken b
         → is_system a ≡ false
     by false o is = absurd cc
     by true None is = absurd cc
-    by true (Some batch) is = kinds batch _ (is_space a) (is_system a) refl is
+    by true (Some batch) is = kinds batch _ (is_system a) refl is
 
 pub other_turn_stays : (k a : ℕ) (s : State) → IsSound [] s.world → actor_of k ≢ a → Stays k s (turn_of a s).state
 other_turn_stays k a s sound apart =

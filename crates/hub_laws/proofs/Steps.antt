@@ -1,26 +1,34 @@
 -- Each step keeps the hub sound, and so does each run of allowed steps.
 use Rattle.std.proofs.Common.{◌≡◌, ℕ, ◌-◌, ◌≤◌, List, [], ◌∷◌, Bool, true, false, cond, Option, Some, None, refl, sym}
-use Rattle.std.proofs.Common.{◌∙◌, arith}
+use Rattle.std.proofs.Common.{nat_lt, suc, zero}
+use Rattle.std.proofs.Common.{◌∙◌, ◌||◌, arith, ap, subst, unwrap_or}
+use Rattle.std.proofs.lemmas.Bool.Decides.{nat_tests}
 use Rattle.std.specs.List.{AllByRecursion}
+use Rattle.gk_sturdy.specs.declared.bound.Binding.{Binding}
+use Rattle.gk_sturdy.specs.Bindings.{with_binding}
+use Rattle.ac_table.specs.declared.batches.Row.{Row}
 use Rattle.ac_table.specs.declared.batches.Batch.{Batch}
-use Rattle.ac_table.specs.Tables.{is_live, lowest}
+use Rattle.ac_table.specs.Tables.{TableState, Actor, is_live, lowest, find_row}
 use Rattle.ac_world.specs.Turns.{After as TurnOf, turn}
-use Rattle.ac_world.specs.Worlds.{WorldState, entry_of, without_entry, is_system, actor_of}
+use Rattle.ac_world.specs.Worlds.{WorldState, Resident, entry_of, without_entry, is_system, actor_of, binding}
+use Rattle.ac_world.specs.Worlds.{first_actors, no_resident, resident_of}
 use Rattle.ac_world.specs.declared.turns.Turned.{Turned}
 use Rattle.ac_world.specs.declared.turns.Turned.TheVariants as turned
 use Rattle.ac_world.specs.Lemmas.Entries.{each_found}
+use Rattle.ac_world.specs.Behaviours.{behaviour_of, gatekeeper}
 use Rattle.rl_packet.specs.declared.packets.TurnEvent.{TurnEvent}
 use Rattle.rl_ports.specs.Ports.{PortsState}
 use Rattle.hub_machine.specs.declared.faults.Fault.{Fault}
 use Rattle.hub_machine.specs.declared.steps.Reply.{Reply}
 use Rattle.hub_machine.specs.declared.steps.Reply.TheVariants.{Worn, Halted, Idle}
 use Rattle.hub_machine.specs.declared.steps.Step.{Step}
-use Rattle.hub_machine.specs.declared.steps.Step.TheVariants.{Arrive, Packet, Bad, Close, Turn, Work, Stop}
+use Rattle.hub_machine.specs.declared.steps.Step.TheVariants.{Bind, Arrive, Packet, Bad, Close, Turn, Work, Stop}
 use Rattle.rl_packet.specs.Wired.{IsTurnEvent}
 use Rattle.hub_machine.specs.State.{State, ports_of}
 use Rattle.hub_machine.specs.Admission.{Admitted, refused, admitted, admission}
 use Rattle.hub_machine.specs.Endings.{nameless, departed_for, closed, failed, finished}
-use Rattle.hub_machine.specs.Machine.{unchanged, opened, refusal, arrive_unless, judged, packet_at, bad_at}
+use Rattle.hub_machine.specs.Machine.{unchanged, opened, refusal, arrive_unless, judged, packet_at, bad_at, bind_unless}
+use Rattle.hub_machine.specs.Machine.{is_barred}
 use Rattle.hub_machine.specs.Machine.{close_at, fault_for, tell_fault, after_turn, turn_of, rest, work_by, is_worn}
 use Rattle.hub_machine.specs.Machine.{done, tell, telling_fault, told_unless, exporting, step, IsAllowed}
 use Rattle.hub_machine.specs.Replays.{run_from}
@@ -29,14 +37,16 @@ use Rattle.hub_laws.specs.Laws.{AreAllowed}
 use Rattle.hub_laws.proofs.Arriving.{opened_hub}
 use Rattle.hub_laws.proofs.EndingActors.{retractions_ascend, ended_table, served_after_end, others_found, others_keep}
 use Rattle.hub_laws.proofs.Hubs.{finished_hub, failed_hub, closed_hub, with_names, with_faults, with_stop}
-use Rattle.hub_laws.proofs.Kept.{IsHub}
+use Rattle.hub_laws.proofs.Kept.{IsHub, IsServed, IsSound}
 use Rattle.hub_laws.proofs.Leaving.{Endings}
 use Rattle.hub_laws.proofs.OtherTurns.{turn_turned}
+use Rattle.hub_laws.proofs.Owned.{no_wants_met}
 use Rattle.hub_laws.proofs.Packets.{accepted_hub}
 use Rattle.hub_laws.proofs.Posting.{posted_to, posted_table}
 use Rattle.hub_laws.proofs.Turns.{still_met, IsTurned, ends_of}
 use Rattle.hub_valid.specs.Lemmas.Admitted.{acts_are_valid}
 use Rattle.hub_valid.specs.Lemmas.Hubs.{stays_valid}
+use Rattle.hub_laws.specs.Wanting.{IsMet}
 
 pub endings : Endings
 endings = record {
@@ -53,6 +63,62 @@ endings = record {
 -- the end of a step in which nobody spread
 ended_well : (s : State) → IsHub [] s → IsHub [] (finished [] s)
 ended_well s h = finished_hub endings [] s tt h
+
+-- ---- bindings
+
+-- before a connection has come the gatekeeper has got nothing
+bound_sound : (b : Binding) (w : WorldState) → w.opened ≡ 0 → IsSound [] w → IsSound [] (binding b w)
+bound_sound b w none k = record {
+  table = k.table;
+  always = k.always;
+  no_watchers = k.no_watchers;
+  numbers = k.numbers;
+  rows = k.rows;
+  served = λ a x found. by a x (is_system a) (k.served a x found);
+  met = λ a low. met a (k.met a low);
+  known = k.known;
+  fresh = λ is. record { table = (k.fresh is).table; residents = (k.fresh is).residents };
+  held_ascends = k.held_ascends;
+  unheld = k.unheld;
+}
+  where
+    by : (a : ℕ) (x : Actor) (c : Bool) → IsServed [] a x.inbox w c → IsServed [] a x.inbox (binding b w) c
+    by a x true s = s
+    by a x false s = s
+
+    fresh_resident : resident_of 0 w ≡ no_resident
+    fresh_resident = ap (λ (es : List (ℕ × Resident)). unwrap_or (entry_of 0 es) no_resident) (k.fresh none).residents
+
+    no_rows : (h : ℕ) (r : Row) → find_row h w.table.rows ≡ Some r → r.owner ≡ 0 → ⊥
+    no_rows h r found own =
+        let f : find_row h (first_actors 9).rows ≡ Some r =
+        ap (λ (t : TableState). find_row h t.rows) (sym (k.fresh none).table) ∙ found in
+        cc
+
+    met : (a : ℕ) → IsMet (behaviour_of w.bindings a) a (resident_of a w) w.table.rows
+        → IsMet (behaviour_of (with_binding b w.bindings) a) a (resident_of a w) w.table.rows
+    met zero m =
+        subst (λ (r : Resident). IsMet (gatekeeper (with_binding b w.bindings)) 0 r w.table.rows) (sym fresh_resident)
+        (no_wants_met (gatekeeper (with_binding b w.bindings)) refl 0 w.table.rows no_rows)
+    met (suc a) m = m
+
+bind_hub : (c : Bool) (b : Binding) (s : State) → is_barred b s ≡ c → IsHub [] s → IsHub [] (bind_unless c b s).state
+bind_hub true b s is h = h
+bind_hub false b s is h =
+    ended_well (record s { world = binding b s.world })
+    (record {
+      sound = bound_sound b s.world none h.sound;
+      named = h.named;
+      nameless = h.nameless;
+      names_ascend = h.names_ascend;
+    })
+  where
+    first_false : (x y c z w : Bool) → (x || y || c || z || w) ≡ false → x ≡ false
+    first_false true y c z w e = absurd cc
+    first_false false y c z w e = refl
+
+    none : s.world.opened ≡ 0
+    none = grind (arith, nat_tests, first_false (nat_lt 0 s.world.opened) _ _ _ _ is)
 
 -- ---- arrivals
 
@@ -160,6 +226,7 @@ work_hub (Some a) s h = by (is_system a)
 -- ---- steps
 
 done_hub : (s : State) (e : Step) → IsAllowed s e → IsValid s → IsHub [] s → IsHub [] (done s e).state
+done_hub s (Bind b) may valid h = bind_hub (is_barred b s) b s refl h
 done_hub s (Arrive space) may valid h = arrive_hub (refusal space s) space s h
 done_hub s (Packet k es) may valid h = packet_hub k (ports_of k s) es s valid h refl may
 done_hub s (Bad k f) may valid h = bad_hub k (ports_of k s) f s h

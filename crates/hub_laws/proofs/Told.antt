@@ -1,4 +1,4 @@
--- What a dataspace tells a connection from scratch is, as a bag, what is wanted there: one pair for each key.
+-- What a system actor tells a connection from scratch is, as a bag, what is wanted there: one pair for each key.
 use Rattle.std.proofs.Common.{◌≡◌, ℕ, List, [], ◌∷◌, ◌++◌, map, Bool, true, false, cond, not, ◌&&◌, ◌||◌, ◌==◌, filter}
 use Rattle.std.proofs.Common.{flat_map, Option, Some, None, is_some, option_and_then, refl, ap, sym, ◌∙◌, subst}
 use Rattle.std.proofs.Common.{IsPermutation}
@@ -16,12 +16,16 @@ use Rattle.dp_pattern.specs.Matching.{matched}
 use Rattle.ds_space.specs.Changes.{among}
 use Rattle.ds_space.specs.Wants.{observer_of, captured, key_of, is_key, gives, wants}
 use Rattle.ds_space.specs.Lemmas.Keys.{same_is, same_self, or_false, any_same, any_flat, any_none}
-use Rattle.ds_space.specs.Lemmas.Lists.{wants_ascend, among_wants}
+use Rattle.ds_space.specs.Lemmas.Lists.{wants_ascend, among_wants, in_order}
+use Rattle.gk_sturdy.specs.declared.bound.Binding.{Binding}
 use Rattle.ac_world.specs.declared.aims.Aim.{Aim}
-use Rattle.ac_world.specs.Turns.{observer_in, aim_at, aim_of}
 use Rattle.ac_world.specs.Worlds.{actor_of}
+use Rattle.ac_world.specs.Behaviours.{Behaviour, answer_for, asks, dataspace, gatekeeper}
+use Rattle.ac_world.specs.Aims.{aim_at, observer_in}
+use Rattle.ac_world.specs.Lemmas.Asking.{among_asked}
 use Rattle.hub_laws.specs.Wanting.{passing}
 use Rattle.hub_laws.specs.Scratch.{Pair, distinct, as_sequence, captures_by, pair_at, pair_aimed, told_by, told_over}
+use Rattle.hub_laws.specs.Scratch.{told_replies, told_reply}
 use Rattle.hub_laws.proofs.Bags.{map_flat, flat_alike}
 use Rattle.hub_laws.proofs.Distinct.{distinct_none, distinct_filter, distinct_map, distinct_flat, same_members}
 
@@ -32,21 +36,22 @@ is_at_actor a None = false
 is_at_actor a (Some aim) = aim.at.actor == a
 
 -- whether what the key wants goes to an object of actor a
-abbrev pub goes_to : ℕ → Plain → Bool
-goes_to a k = is_at_actor a (aim_of k)
+abbrev pub goes_to : Behaviour → ℕ → Plain → Bool
+goes_to y a k = is_at_actor a (y.aim k)
 
 -- what goes to an actor gets through
-pub goes_passing : (a : ℕ) (ks : List Plain) → filter (goes_to a) (passing ks) ≡ filter (goes_to a) ks
-goes_passing a [] = refl
-goes_passing a (k ∷ ks) = by (aim_of k) refl (goes_passing a ks)
+pub goes_passing : (y : Behaviour) (a : ℕ) (ks : List Plain)
+    → filter (goes_to y a) (passing y ks) ≡ filter (goes_to y a) ks
+goes_passing y a [] = refl
+goes_passing y a (k ∷ ks) = by (y.aim k) refl (goes_passing y a ks)
   where
-    by : (o : Option Aim) → aim_of k ≡ o → filter (goes_to a) (passing ks) ≡ filter (goes_to a) ks
-        → filter (goes_to a) (cond (is_some o) (k ∷ passing ks) (passing ks))
-        ≡ cond (is_at_actor a o) (k ∷ filter (goes_to a) ks) (filter (goes_to a) ks)
+    by : (o : Option Aim) → y.aim k ≡ o → filter (goes_to y a) (passing y ks) ≡ filter (goes_to y a) ks
+        → filter (goes_to y a) (cond (is_some o) (k ∷ passing y ks) (passing y ks))
+        ≡ cond (is_at_actor a o) (k ∷ filter (goes_to y a) ks) (filter (goes_to y a) ks)
     by None is rest = rest
     by (Some aim) is rest =
-        ap (λ q. cond (is_at_actor a q) (k ∷ filter (goes_to a) (passing ks)) (filter (goes_to a) (passing ks))) is
-        ∙ ap (λ l. cond (aim.at.actor == a) (k ∷ l) l) rest
+        ap (λ q. cond (is_at_actor a q) (k ∷ filter (goes_to y a) (passing y ks)) (filter (goes_to y a) (passing y ks)))
+        is ∙ ap (λ l. cond (aim.at.actor == a) (k ∷ l) l) rest
 
 -- n is the number of a connection, which has these exports
 abbrev pub pair_or : List Plain → ℕ → Plain → Option Aim → Pair
@@ -54,8 +59,8 @@ pair_or exports n k None = record { oid = 0; value = k }
 pair_or exports n k (Some aim) = pair_at exports n aim.at.entity aim.value
 
 -- what the connection holds by the key
-abbrev pub pair_by : List Plain → ℕ → Plain → Pair
-pair_by exports n k = pair_or exports n k (aim_of k)
+abbrev pub pair_by : Behaviour → List Plain → ℕ → Plain → Pair
+pair_by y exports n k = pair_or exports n k (y.aim k)
 
 -- ---- each value once
 
@@ -113,23 +118,24 @@ all_told a vs = flat_map (told_of a vs) (distinct vs)
 
 -- the keys of these lists of captures are told as the pairs of what gets through
 abbrev AreTold : List Plain → ℕ → Plain → Plain → List Plain → Type 0
-AreTold exports n o r cs = map (pair_by exports n) (map (key_with o) (filter (gets_to (actor_of n) r) cs))
+AreTold exports n o r cs = map (pair_by dataspace exports n) (map (key_with o) (filter (gets_to (actor_of n) r) cs))
     ≡ flat_map (λ c. pair_aimed exports n (aim_at c r)) cs
 
 -- each is told as its pair
 pairs_told : (exports : List Plain) (n : ℕ) (vs : List Plain) (o : Plain)
-    → map (pair_by exports n) (told_of (actor_of n) vs o) ≡ told_by exports n vs (observer_in o) (observer_of o)
+    → map (pair_by dataspace exports n) (told_of (actor_of n) vs o)
+    ≡ told_by exports n vs (observer_in o) (observer_of o)
 pairs_told exports n vs o = by (observer_in o) (observer_of o) refl
   where
     -- the key of a list of captures, where it gets through
     key_pair : (r c : Plain) (aim : Aim) → observer_in o ≡ Some r → aim_at c r ≡ Some aim
-        → pair_by exports n (key_with o c) ≡ pair_at exports n aim.at.entity aim.value
+        → pair_by dataspace exports n (key_with o c) ≡ pair_at exports n aim.at.entity aim.value
     key_pair r c aim is gets =
         ap (pair_or exports n (key_with o c)) (ap (λ q. option_and_then (aim_at c) q) is ∙ gets)
 
     here : (r c : Plain) (cs : List Plain) (aim : Aim) (b : Bool) → observer_in o ≡ Some r → aim_at c r ≡ Some aim
         → AreTold exports n o r cs
-        → map (pair_by exports n) (map (key_with o)
+        → map (pair_by dataspace exports n) (map (key_with o)
         (cond b (c ∷ filter (gets_to (actor_of n) r) cs) (filter (gets_to (actor_of n) r) cs)))
         ≡ cond b (pair_at exports n aim.at.entity aim.value ∷ []) []
         ++ flat_map (λ c. pair_aimed exports n (aim_at c r)) cs
@@ -138,7 +144,7 @@ pairs_told exports n vs o = by (observer_in o) (observer_of o) refl
 
     aimed : (r c : Plain) (cs : List Plain) (q : Option Aim) → observer_in o ≡ Some r → aim_at c r ≡ q
         → AreTold exports n o r cs
-        → map (pair_by exports n) (map (key_with o)
+        → map (pair_by dataspace exports n) (map (key_with o)
         (cond (is_at_actor (actor_of n) q) (c ∷ filter (gets_to (actor_of n) r) cs)
         (filter (gets_to (actor_of n) r) cs)))
         ≡ pair_aimed exports n q ++ flat_map (λ c. pair_aimed exports n (aim_at c r)) cs
@@ -150,7 +156,7 @@ pairs_told exports n vs o = by (observer_in o) (observer_of o) refl
     each r (c ∷ cs) is = aimed r c cs (aim_at c r) is refl (each r cs is)
 
     by : (r : Option Plain) (p : Option Pattern) → observer_in o ≡ r
-        → map (pair_by exports n) (keys_told (actor_of n) vs o r p) ≡ told_by exports n vs r p
+        → map (pair_by dataspace exports n) (keys_told (actor_of n) vs o r p) ≡ told_by exports n vs r p
     by None p is = refl
     by (Some r) None is = refl
     by (Some r) (Some p) is = each r (distinct (captures_by p vs)) is
@@ -212,29 +218,29 @@ and_false false = refl
 
 -- a key that is given by what observes nothing goes nowhere
 goes_nowhere : (a : ℕ) (k o : Plain) (found : Option (List Plain)) → observer_in o ≡ None
-    → (goes_to a k && is_key k o found) ≡ false
-goes_nowhere a k o None none = and_false (goes_to a k)
+    → (goes_to dataspace a k && is_key k o found) ≡ false
+goes_nowhere a k o None none = and_false (goes_to dataspace a k)
 goes_nowhere a k o (Some cs) none = by (same k (key_of o cs)) refl
   where
-    by : (b : Bool) → same k (key_of o cs) ≡ b → (goes_to a k && b) ≡ false
+    by : (b : Bool) → same k (key_of o cs) ≡ b → (goes_to dataspace a k && b) ≡ false
     by true is =
-        ap (λ z. goes_to a z && true) (same_is k (key_of o cs) is)
+        ap (λ z. goes_to dataspace a z && true) (same_is k (key_of o cs) is)
         ∙ ap (λ q. is_at_actor a (option_and_then (aim_at (sequence (plains cs))) q) && true) none
-    by false is = and_false (goes_to a k)
+    by false is = and_false (goes_to dataspace a k)
 
 -- of an observation's keys those are told that go to the actor
 told_keys : (a : ℕ) (o r : Plain) (cs : List Plain) → observer_in o ≡ Some r
-    → map (key_with o) (filter (gets_to a r) cs) ≡ filter (goes_to a) (map (key_with o) cs)
+    → map (key_with o) (filter (gets_to a r) cs) ≡ filter (goes_to dataspace a) (map (key_with o) cs)
 told_keys a o r [] is = refl
 told_keys a o r (c ∷ cs) is = by (gets_to a r c) goes (told_keys a o r cs is)
   where
-    goes : goes_to a (key_with o c) ≡ gets_to a r c
+    goes : goes_to dataspace a (key_with o c) ≡ gets_to a r c
     goes = ap (λ q. is_at_actor a (option_and_then (aim_at c) q)) is
 
-    by : (b : Bool) → goes_to a (key_with o c) ≡ b
-        → map (key_with o) (filter (gets_to a r) cs) ≡ filter (goes_to a) (map (key_with o) cs)
+    by : (b : Bool) → goes_to dataspace a (key_with o c) ≡ b
+        → map (key_with o) (filter (gets_to a r) cs) ≡ filter (goes_to dataspace a) (map (key_with o) cs)
         → map (key_with o) (cond b (c ∷ filter (gets_to a r) cs) (filter (gets_to a r) cs))
-        ≡ filter (goes_to a) (key_with o c ∷ map (key_with o) cs)
+        ≡ filter (goes_to dataspace a) (key_with o c ∷ map (key_with o) cs)
     by true here rest = rw here (ap (λ l. key_with o c ∷ l) rest)
     by false here rest = rw here rest
 
@@ -263,7 +269,7 @@ captures_give vs o k p is =
     one (Some cs) = or_false (same k (key_of o cs))
 
 told_where : (a : ℕ) (vs : List Plain) (o k : Plain)
-    → among k (told_of a vs o) ≡ (goes_to a k && list_any (gives k o) vs)
+    → among k (told_of a vs o) ≡ (goes_to dataspace a k && list_any (gives k o) vs)
 told_where a vs o k = by (observer_in o) (observer_of o) refl refl
   where
     none : observer_of o ≡ None → list_any (gives k o) vs ≡ false
@@ -272,43 +278,106 @@ told_where a vs o k = by (observer_in o) (observer_of o) refl refl
         (λ v. ap (λ (q : Option Pattern). is_key k o (option_and_then (λ p. matched p v) q)) is)
 
     by : (r : Option Plain) (p : Option Pattern) → observer_in o ≡ r → observer_of o ≡ p
-        → among k (keys_told a vs o r p) ≡ (goes_to a k && list_any (gives k o) vs)
+        → among k (keys_told a vs o r p) ≡ (goes_to dataspace a k && list_any (gives k o) vs)
     by None p nobody is =
-        sym (sym (any_and (goes_to a k) (gives k o) vs)
+        sym (sym (any_and (goes_to dataspace a k) (gives k o) vs)
         ∙ any_none _ vs (λ v. goes_nowhere a k o (captured o v) nobody))
-    by (Some r) None there is = sym (ap (λ b. goes_to a k && b) (none is) ∙ and_false (goes_to a k))
+    by (Some r) None there is = sym (ap (λ b. goes_to dataspace a k && b) (none is) ∙ and_false (goes_to dataspace a k))
     by (Some r) (Some p) there is =
         ap (among k) (told_keys a o r (distinct (captures_by p vs)) there)
-        ∙ any-filter_same (same k) (goes_to a) (goes_to a k) (λ q e. ap (goes_to a) (sym (same_is k q e)))
+        ∙ any-filter_same (same k) (goes_to dataspace a) (goes_to dataspace a k)
+        (λ q e. ap (goes_to dataspace a) (sym (same_is k q e)))
         (map (key_with o) (distinct (captures_by p vs)))
-        ∙ ap (λ b. goes_to a k && b) (captures_give vs o k p is)
+        ∙ ap (λ b. goes_to dataspace a k && b) (captures_give vs o k p is)
 
 -- the keys that are wanted at the actor are those that are told
 told_wanted : (a : ℕ) (vs : List Plain) (k : Plain)
-    → among k (filter (goes_to a) (wants vs)) ≡ among k (all_told a vs)
+    → among k (filter (goes_to dataspace a) (wants vs)) ≡ among k (all_told a vs)
 told_wanted a vs k =
-    any-filter_same (same k) (goes_to a) (goes_to a k) (λ q e. ap (goes_to a) (sym (same_is k q e))) (wants vs)
-    ∙ ap (λ b. goes_to a k && b) (among_wants k vs)
+    any-filter_same (same k) (goes_to dataspace a) (goes_to dataspace a k)
+    (λ q e. ap (goes_to dataspace a) (sym (same_is k q e))) (wants vs)
+    ∙ ap (λ b. goes_to dataspace a k && b) (among_wants k vs)
     ∙ sym (any_flat (same k) (told_of a vs) (distinct vs)
     ∙ distinct_any (λ o. among k (told_of a vs o)) vs
     ∙ any_same _ _ vs (λ o. told_where a vs o k)
-    ∙ any_and (goes_to a k) (λ o. list_any (gives k o) vs) vs)
+    ∙ any_and (goes_to dataspace a k) (λ o. list_any (gives k o) vs) vs)
 
 pub wants_are_told : (exports : List Plain) (n : ℕ) (vs : List Plain)
-    → IsPermutation (map (pair_by exports n) (filter (goes_to (actor_of n)) (wants vs))) (told_over exports n vs)
+    → IsPermutation (map (pair_by dataspace exports n) (filter (goes_to dataspace (actor_of n)) (wants vs)))
+    (told_over exports n vs)
 wants_are_told exports n vs =
-    subst (IsPermutation (map (pair_by exports n) (filter (goes_to (actor_of n)) (wants vs))))
-    (map_flat (pair_by exports n) (told_of (actor_of n) vs) (distinct vs)
+    subst (IsPermutation (map (pair_by dataspace exports n) (filter (goes_to dataspace (actor_of n)) (wants vs))))
+    (map_flat (pair_by dataspace exports n) (told_of (actor_of n) vs) (distinct vs)
     ∙ flat_alike _ _ (distinct vs) (each (distinct vs)))
-    (IsPermutation-map (pair_by exports n) (filter (goes_to (actor_of n)) (wants vs)) (all_told (actor_of n) vs)
-    (same_members same (eq_by_cmp_equiv order_total) same_is (filter (goes_to (actor_of n)) (wants vs))
+    (IsPermutation-map (pair_by dataspace exports n) (filter (goes_to dataspace (actor_of n)) (wants vs))
     (all_told (actor_of n) vs)
-    (distinct_filter same (goes_to (actor_of n)) (wants vs) (IsDistinct-from_sorted order (wants vs) (wants_ascend vs)))
+    (same_members same (eq_by_cmp_equiv order_total) same_is (filter (goes_to dataspace (actor_of n)) (wants vs))
+    (all_told (actor_of n) vs)
+    (distinct_filter same (goes_to dataspace (actor_of n)) (wants vs)
+    (IsDistinct-from_sorted order (wants vs) (wants_ascend vs)))
     (told_apart (actor_of n) vs) (told_wanted (actor_of n) vs)))
   where
     each : (os : List Plain)
         → AllByRecursion
-        (λ o. map (pair_by exports n) (told_of (actor_of n) vs o)
+        (λ o. map (pair_by dataspace exports n) (told_of (actor_of n) vs o)
         ≡ told_by exports n vs (observer_in o) (observer_of o)) os
     each [] = tt
     each (o ∷ os) = (pairs_told exports n vs o, each os)
+
+-- ---- what the gatekeeper replies
+
+module _ (exports : List Plain) (n : ℕ) (bs : List Binding) where
+  abbrev to_here : Plain → Bool
+  to_here k = goes_to (gatekeeper bs) (actor_of n) k
+
+  -- of the distinct values those that ask and whose reply goes to the connection
+  abbrev replied : List Plain → List Plain
+  replied vs = filter to_here (filter asks vs)
+
+  reply_pairs : (vs : List Plain)
+      → map (pair_by (gatekeeper bs) exports n) (replied vs) ≡ flat_map (told_reply exports n bs) vs
+  reply_pairs [] = refl
+  reply_pairs (v ∷ vs) = by (asks v) (answer_for bs v) refl (reply_pairs vs)
+    where
+      here : (aim : Aim) (c : Bool) → answer_for bs v ≡ Some aim
+          → map (pair_by (gatekeeper bs) exports n) (replied vs) ≡ flat_map (told_reply exports n bs) vs
+          → map (pair_by (gatekeeper bs) exports n) (cond c (v ∷ replied vs) (replied vs))
+          ≡ cond c (pair_at exports n aim.at.entity aim.value ∷ []) [] ++ flat_map (told_reply exports n bs) vs
+      here aim true is rest = λ i. pair_or exports n v (is i) ∷ rest i
+      here aim false is rest = rest
+
+      by : (b : Bool) (o : Option Aim) → answer_for bs v ≡ o
+          → map (pair_by (gatekeeper bs) exports n) (replied vs) ≡ flat_map (told_reply exports n bs) vs
+          → map (pair_by (gatekeeper bs) exports n) (filter to_here (cond b (v ∷ filter asks vs) (filter asks vs)))
+          ≡ cond b (pair_aimed exports n (answer_for bs v)) [] ++ flat_map (told_reply exports n bs) vs
+      by false o is rest = rest
+      by true None is rest = rw is rest
+      by true (Some aim) is rest = rw is (here aim (aim.at.actor == actor_of n) is rest)
+
+  pub keys_are_replied : (vs : List Plain)
+      → IsPermutation
+      (map (pair_by (gatekeeper bs) exports n) (filter to_here ((gatekeeper bs).keys vs)))
+      (told_replies exports n bs vs)
+  keys_are_replied vs =
+      subst (IsPermutation (map (pair_by (gatekeeper bs) exports n) (filter to_here ((gatekeeper bs).keys vs))))
+      (reply_pairs (distinct vs))
+      (IsPermutation-map (pair_by (gatekeeper bs) exports n) (filter to_here ((gatekeeper bs).keys vs))
+      (replied (distinct vs))
+      (same_members same (eq_by_cmp_equiv order_total) same_is (filter to_here ((gatekeeper bs).keys vs))
+      (replied (distinct vs))
+      (distinct_filter same to_here ((gatekeeper bs).keys vs)
+      (IsDistinct-from_sorted order ((gatekeeper bs).keys vs) (in_order (filter asks vs))))
+      (distinct_filter same to_here (filter asks (distinct vs))
+      (distinct_filter same asks (distinct vs) (distinct_apart vs)))
+      members))
+    where
+      picks : (p : Plain → Bool) (k : Plain) (ks : List Plain) → among k (filter p ks) ≡ (p k && among k ks)
+      picks p k ks = any-filter_same (same k) p (p k) (λ q e. ap p (sym (same_is k q e))) ks
+
+      members : (k : Plain)
+          → among k (filter to_here ((gatekeeper bs).keys vs)) ≡ among k (replied (distinct vs))
+      members k =
+          picks to_here k ((gatekeeper bs).keys vs) ∙ ap (λ b. to_here k && b) (among_asked k vs)
+          ∙ sym (picks to_here k (filter asks (distinct vs))
+          ∙ ap (λ b. to_here k && b) (picks asks k (distinct vs)
+          ∙ ap (λ b. asks k && b) (distinct_any (same k) vs)))

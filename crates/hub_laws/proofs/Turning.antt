@@ -1,5 +1,5 @@
--- A dataspace's turn, event by event: its rows stay those of its wants, also where an assertion is passed over, whose
--- maker is listed to end.
+-- A system actor's turn, event by event: its rows stay those of its wants, also where an assertion is passed over,
+-- whose maker is listed to end.
 use Rattle.std.proofs.Common.{◌≡◌, ℕ, ◌<◌, ◌≤◌, ◌==◌, List, [], ◌∷◌, ◌++◌, Bool, true, false, Option, Some, None}
 use Rattle.std.proofs.Common.{◌⊎◌, inl, inr, refl, ap, sym, subst, arith, ◌∙◌, cond, ◌&&◌, not, nat_le}
 use Rattle.std.proofs.Common.{if◌then◌else◌, is_some, Ordering, Less, Equal, Greater}
@@ -11,7 +11,6 @@ use Rattle.std.specs.Ordering.{nat_cmp, match_ordering}
 use Rattle.std.proofs.lemmas.Bool.Decides.{nat_tests}
 use Rattle.pv_value.specs.Plain.{Plain}
 use Rattle.ds_space.specs.Spaces.{Rows, has_row}
-use Rattle.ds_space.specs.Fans.{fan_of}
 use Rattle.ac_table.specs.declared.batches.Row.{Row}
 use Rattle.ac_table.specs.declared.batches.Event.{Event}
 use Rattle.ac_table.specs.declared.batches.Event.TheVariants.{Assert, Retract, Message, Sync}
@@ -22,9 +21,10 @@ use Rattle.ac_world.specs.Turns.{Turning, is_listed, spread_by, by_assertion, by
 use Rattle.ac_world.specs.Turns.{taken_in, turned_by, all_turned}
 use Rattle.ac_world.specs.Worlds.{entry_of, with_entry, without_entry}
 use Rattle.ac_world.specs.Lemmas.Entries.{entry_of_with, ascend_with}
+use Rattle.ac_world.specs.Behaviours.{Behaviour}
 use Rattle.hub_laws.specs.Standing.{took, took_all, value_alone}
 use Rattle.hub_laws.specs.Wanting.{IsMet}
-use Rattle.hub_laws.proofs.Kept.{made_by, made_in, is_in, IsExcused, IsNear, IsKnown, IsGood, IsOwnedBy}
+use Rattle.hub_laws.proofs.Kept.{made_by, made_in, is_in, IsExcused, IsNear, IsKnown, IsGood, IsOwnedBy, IsLawful}
 use Rattle.hub_laws.proofs.Kept.{FitsEvent, actors_in, Runs}
 use Rattle.hub_laws.proofs.Promised.{TurnRuns}
 use Rattle.hub_laws.proofs.Finding.{found_all, found_owner}
@@ -145,7 +145,7 @@ near_passed {X = X} ends rows h x should kept none out n = record {
 
 -- ---- who makes a batch
 
--- who made an assertion that waits for a dataspace, and whose row stands, is live and may end
+-- who made an assertion that waits for a system actor, and whose row stands, is live and may end
 maker_ends : (n a from h : ℕ) (t : TableState) → a < 9 → IsTable t → AllByRecursion (IsGood n) t.rows
     → ((b : ℕ) → 9 ≤ b → b < 17 → is_live b t ≡ false) → (r : Row) → find_row h t.rows ≡ Some r
     → (r.owner ≡ from) × (r.target ≡ a) → (17 ≤ from) × (is_live from t ≡ true)
@@ -156,8 +156,9 @@ maker_ends n a from h t low table good no_watchers r is own =
     let clash : from < 17 → true ≡ false = λ l. sym live ∙ no_watchers from high l in
     (grind (arith, clash), live)
 
--- what is known throughout the turn of a dataspace
-record IsSet (n a from : ℕ) (t : TableState) : Type 0 where
+-- what is known throughout the turn of a system actor
+record IsSet (y : Behaviour) (n a from : ℕ) (t : TableState) : Type 0 where
+  lawful : IsLawful y
   low : a < 9
   high : 9 ≤ n
   table : IsTable t
@@ -172,9 +173,10 @@ live_from_actors : (c : ℕ) (s t : TableState) → s.actors ≡ t.actors → is
 live_from_actors c s t same = ap (λ xs. is_some (find_actor c xs)) same
 
 -- who is listed may end
-assertion_ends : (n a from weight : ℕ) (t s : TableState) (ss : List Spread) → IsSet n a from t → s.actors ≡ t.actors
+assertion_ends : (y : Behaviour) (n a from weight : ℕ) (t s : TableState) (ss : List Spread) → IsSet y n a from t
+    → s.actors ≡ t.actors
     → AllByRecursion (Ends t) (actors_in ss) → AllByRecursion (Ends t) (actors_in (by_assertion s from weight ss))
-assertion_ends n a from weight t s ss set same all =
+assertion_ends y n a from weight t s ss set same all =
     spread_all (Ends t) (nat_le 9 from && is_live from s) from weight ss all ends
   where
     ends : (nat_le 9 from && is_live from s) ≡ true → Ends t from
@@ -193,11 +195,12 @@ message_ends from weight t s ss same all =
     ends is = (grind (arith, nat_tests, is), sym (live_from_actors from s t same) ∙ grind (arith, is))
 
 -- an assertion that is passed over is excused: its row has gone, or its maker is listed
-assertion_excused : (n a from h weight : ℕ) (t s : TableState) (ss : List Spread) (r : Option Row) → IsSet n a from t
+assertion_excused : (y : Behaviour) (n a from h weight : ℕ) (t s : TableState) (ss : List Spread) (r : Option Row)
+    → IsSet y n a from t
     → s.actors ≡ t.actors → find_row h t.rows ≡ r → IsOwnedBy from a r
     → IsExcused (actors_in (by_assertion s from weight ss)) r
-assertion_excused n a from h weight t s ss None set same is own = tt
-assertion_excused n a from h weight t s ss (Some r) set same is own =
+assertion_excused y n a from h weight t s ss None set same is own = tt
+assertion_excused y n a from h weight t s ss (Some r) set same is own =
     let ends : Ends t from = maker_ends n a from h t set.low set.table set.good set.no_watchers r is own in
     let live : is_live from s ≡ true = live_from_actors from s t same ∙ ends.1 in
     let test : (nat_le 9 from && is_live from s) ≡ true = grind (arith, nat_tests, live, ends.0) in
@@ -205,48 +208,53 @@ assertion_excused n a from h weight t s ss (Some r) set same is own =
 
 -- ---- an event that is passed over
 
-with_spreads : (n a : ℕ) (t : TableState) (full new : Rows) (u : Turning) (change : List Spread → List Spread)
-    → IsNear (actors_in (change u.spreads)) t.rows new u.seat.got
-    → AllByRecursion (Ends t) (actors_in (change u.spreads)) → Runs n a t full u → Runs n a t new (spreading change u)
-with_spreads n a t full new u change near ends r =
+with_spreads : (y : Behaviour) (n a : ℕ) (t : TableState) (full new : Rows) (u : Turning)
+    (change : List Spread → List Spread)
+    → IsNear (actors_in (change u.spreads)) t.rows new u.resident.got
+    → AllByRecursion (Ends t) (actors_in (change u.spreads)) → Runs y n a t full u
+    → Runs y n a t new (spreading change u)
+with_spreads y n a t full new u change near ends r =
     record { moves = r.moves; good = r.good; met = r.met; near = near; known = r.known; ends = ends }
 
-assertion_passed : (n a from h entity weight : ℕ) (v : Plain) (t : TableState) (full : Rows) (u : Turning)
-    → IsSet n a from t → IsOwnedBy from a (find_row h t.rows) → entry_of h u.seat.got ≡ None → Runs n a t full u
-    → Runs n a t (took value_alone (Assert h entity v) full) (spreading (by_assertion u.plan.table from weight) u)
-assertion_passed n a from h entity weight v t full u set own none r =
+assertion_passed : (y : Behaviour) (n a from h entity weight : ℕ) (v : Plain) (t : TableState) (full : Rows)
+    (u : Turning)
+    → IsSet y n a from t → IsOwnedBy from a (find_row h t.rows) → entry_of h u.resident.got ≡ None → Runs y n a t full u
+    → Runs y n a t (took value_alone (Assert h entity v) full) (spreading (by_assertion u.plan.table from weight) u)
+assertion_passed y n a from h entity weight v t full u set own none r =
     let more : List ℕ = actors_in (by_assertion u.plan.table from weight u.spreads) in
-    let near : IsNear more t.rows full u.seat.got
-    = near_more (actors_in u.spreads) more t.rows full u.seat.got
+    let near : IsNear more t.rows full u.resident.got
+    = near_more (actors_in u.spreads) more t.rows full u.resident.got
     (λ c. spread_keeps (nat_le 9 from && is_live from u.plan.table) from weight c u.spreads) r.near
     in
     let out : IsExcused more (find_row h t.rows)
-    = assertion_excused n a from h weight t u.plan.table u.spreads (find_row h t.rows) set r.moves.actors refl own
+    = assertion_excused y n a from h weight t u.plan.table u.spreads (find_row h t.rows) set r.moves.actors refl own
     in
-    with_spreads n a t full (with_entry h v full) u (by_assertion u.plan.table from weight)
-    (near_passed more t.rows h v full u.seat.got none out near)
-    (assertion_ends n a from weight t u.plan.table u.spreads set r.moves.actors r.ends) r
+    with_spreads y n a t full (with_entry h v full) u (by_assertion u.plan.table from weight)
+    (near_passed more t.rows h v full u.resident.got none out near)
+    (assertion_ends y n a from weight t u.plan.table u.spreads set r.moves.actors r.ends) r
 
-message_passed : (n a from weight : ℕ) (t : TableState) (full : Rows) (u : Turning) → Runs n a t full u
-    → Runs n a t full (spreading (by_message u.plan.table from weight) u)
-message_passed n a from weight t full u r =
+message_passed : (y : Behaviour) (n a from weight : ℕ) (t : TableState) (full : Rows) (u : Turning)
+    → Runs y n a t full u
+    → Runs y n a t full (spreading (by_message u.plan.table from weight) u)
+message_passed y n a from weight t full u r =
     let more : List ℕ = actors_in (by_message u.plan.table from weight u.spreads) in
-    with_spreads n a t full full u (by_message u.plan.table from weight)
-    (near_more (actors_in u.spreads) more t.rows full u.seat.got
+    with_spreads y n a t full full u (by_message u.plan.table from weight)
+    (near_more (actors_in u.spreads) more t.rows full u.resident.got
     (λ c. spread_keeps (nat_le 17 from && is_live from u.plan.table) from weight c u.spreads) r.near)
     (message_ends from weight t u.plan.table u.spreads r.moves.actors r.ends) r
 
--- ---- an event that changes what the dataspace has got
+-- ---- an event that changes what the actor has got
 
-regot_runs : (n a from : ℕ) (t : TableState) (full : Rows) (u : Turning) (e : Event) → IsSet n a from t
-    → AllByRecursion (IsKnown n) (values_of (took value_alone e u.seat.got)) → Runs n a t full u
-    → Runs n a t (took value_alone e full) (regot a (took value_alone e u.seat.got) u)
-regot_runs n a from t full u e set known r =
-    let rows : Rows = took value_alone e u.seat.got in
+regot_runs : (y : Behaviour) (n a from : ℕ) (t : TableState) (full : Rows) (u : Turning) (e : Event)
+    → IsSet y n a from t
+    → AllByRecursion (IsKnown n) (values_of (took value_alone e u.resident.got)) → Runs y n a t full u
+    → Runs y n a t (took value_alone e full) (regot y a (took value_alone e u.resident.got) u)
+regot_runs y n a from t full u e set known r =
+    let rows : Rows = took value_alone e u.resident.got in
     let near : IsNear (actors_in u.spreads) t.rows (took value_alone e full) rows
-    = near_took Plain value_alone (actors_in u.spreads) t.rows (e ∷ []) full u.seat.got r.near
+    = near_took Plain value_alone (actors_in u.spreads) t.rows (e ∷ []) full u.resident.got r.near
     in
-    let kept = regot_met a n t u rows set.low set.high set.lives r.moves r.good r.met known in
+    let kept = regot_met y set.lawful a n t u rows set.low set.high set.lives r.moves r.good r.met known in
     record {
       moves = kept.0;
       good = kept.1;
@@ -258,12 +266,12 @@ regot_runs n a from t full u e set known r =
 
 -- ---- an event that only says
 
-says_runs : (n a : ℕ) (t : TableState) (full : Rows) (u : Turning) (p : Plan) → OnlySays n a t u.plan p
-    → Runs n a t full u → Runs n a t full (record u { plan = p })
-says_runs n a t full u p o r = record {
+says_runs : (y : Behaviour) (n a : ℕ) (t : TableState) (full : Rows) (u : Turning) (p : Plan) → OnlySays n a t u.plan p
+    → Runs y n a t full u → Runs y n a t full (record u { plan = p })
+says_runs y n a t full u p o r = record {
   moves = o.moves;
   good = o.good;
-  met = subst (λ (s : TableState). IsMet a u.seat s.rows) (sym o.same) r.met;
+  met = subst (λ (s : TableState). IsMet y a u.resident s.rows) (sym o.same) r.met;
   near = r.near;
   known = r.known;
   ends = r.ends;
@@ -271,10 +279,10 @@ says_runs n a t full u p o r = record {
 
 -- ---- each kind of event
 
-either_runs : (n a : ℕ) (t : TableState) (full : Rows) (b : Bool) (u w : Turning) → Runs n a t full u
-    → Runs n a t full w → Runs n a t full (if b then u else w)
-either_runs n a t full true u w r s = r
-either_runs n a t full false u w r s = s
+either_runs : (y : Behaviour) (n a : ℕ) (t : TableState) (full : Rows) (b : Bool) (u w : Turning) → Runs y n a t full u
+    → Runs y n a t full w → Runs y n a t full (if b then u else w)
+either_runs y n a t full true u w r s = r
+either_runs y n a t full false u w r s = s
 
 -- what is got is below what is to come
 none_yet : (h : ℕ) (es : Rows) (rest : List ℕ) → IsStrictlySortedBy nat_cmp (keys_of es ++ h ∷ rest)
@@ -285,44 +293,52 @@ none_yet h (e ∷ es) rest s =
     let lower : nat_cmp e.0 h ≡ Less = one_of_all (λ j. nat_cmp e.0 j ≡ Less) (keys_of es) h rest s.0 in
     grind (arith, nat_tests, lower, none_yet h es rest s.1)
 
-taken_in_runs : (n a from h entity : ℕ) (v : Plain) (t : TableState) (full : Rows) (u : Turning)
-    → IsSet n a from t → FitsEvent n t.rows a from (Assert h entity v) → entry_of h u.seat.got ≡ None
-    → Runs n a t full u → Runs n a t (took value_alone (Assert h entity v) full) (taken_in a from h v u)
-taken_in_runs n a from h entity v t full u set fits none r =
-    let is_new : has_row h u.seat.got ≡ false = ap is_some none in
+taken_in_runs : (y : Behaviour) (n a from h entity : ℕ) (v : Plain) (t : TableState) (full : Rows) (u : Turning)
+    → IsSet y n a from t → FitsEvent n t.rows a from (Assert h entity v) → entry_of h u.resident.got ≡ None
+    → Runs y n a t full u → Runs y n a t (took value_alone (Assert h entity v) full) (taken_in y a from h v u)
+taken_in_runs y n a from h entity v t full u set fits none r =
+    let is_new : has_row h u.resident.got ≡ false = ap is_some none in
     rw is_new
-    (either_runs n a t (took value_alone (Assert h entity v) full) _ _ _
-    (assertion_passed n a from h entity _ v t full u set fits.0 none r)
-    (regot_runs n a from t full u (Assert h entity v) set
-    (values_with (IsKnown n) h v u.seat.got (fits.1 set.low) r.known) r))
+    (either_runs y n a t (took value_alone (Assert h entity v) full) _ _ _
+    (assertion_passed y n a from h entity _ v t full u set fits.0 none r)
+    (regot_runs y n a from t full u (Assert h entity v) set
+    (values_with (IsKnown n) h v u.resident.got (fits.1 set.low) r.known) r))
 
-turned_by_runs : (n a from : ℕ) (t : TableState) (full : Rows) (u : Turning)
-    (e : Event) (rest : List ℕ) → IsSet n a from t → FitsEvent n t.rows a from e
-    → IsStrictlySortedBy nat_cmp (keys_of u.seat.got ++ (made_by e ++ rest)) → Runs n a t full u
-    → Runs n a t (took value_alone e full) (turned_by a from e u)
-turned_by_runs n a from t full u (Assert h entity v) rest set fits s r =
-    taken_in_runs n a from h entity v t full u set fits (none_yet h u.seat.got rest s) r
-turned_by_runs n a from t full u (Retract h entity) rest set fits s r =
-    regot_runs n a from t full u (Retract h entity) set
-    (values_without (IsKnown n) h u.seat.got r.known) r
-turned_by_runs n a from t full u (Message entity v) rest set fits s r =
-    either_runs n a t full _ _ _ (message_passed n a from _ t full u r)
-    (says_runs n a t full u _
-    (say_all_only n a t u.plan (fan_of (values_of u.seat.got) v) r.moves r.good) r)
-turned_by_runs n a from t full u (Sync entity peer) rest set fits s r =
-    says_runs n a t full u _ (answer_only n a t u.plan peer r.moves r.good) r
+turned_by_runs : (y : Behaviour) (n a from : ℕ) (t : TableState) (full : Rows) (u : Turning)
+    (e : Event) (rest : List ℕ) → IsSet y n a from t → FitsEvent n t.rows a from e
+    → IsStrictlySortedBy nat_cmp (keys_of u.resident.got ++ (made_by e ++ rest)) → Runs y n a t full u
+    → Runs y n a t (took value_alone e full) (turned_by y a from e u)
+turned_by_runs y n a from t full u (Assert h entity v) rest set fits s r =
+    taken_in_runs y n a from h entity v t full u set fits (none_yet h u.resident.got rest s) r
+turned_by_runs y n a from t full u (Retract h entity) rest set fits s r =
+    regot_runs y n a from t full u (Retract h entity) set
+    (values_without (IsKnown n) h u.resident.got r.known) r
+turned_by_runs y n a from t full u (Message entity v) rest set fits s r =
+    either_runs y n a t full _ _ _ (message_passed y n a from _ t full u r)
+    (says_runs y n a t full u _
+    (say_all_only n a t u.plan (y.fan (values_of u.resident.got) v) r.moves r.good) r)
+turned_by_runs y n a from t full u (Sync entity peer) rest set fits s r =
+    says_runs y n a t full u _ (answer_only n a t u.plan peer r.moves r.good) r
 
-all_turned_runs : (n a from : ℕ) (t : TableState) (full : Rows) (u : Turning)
-    (es : List Event) → IsSet n a from t → AllByRecursion (FitsEvent n t.rows a from) es
-    → IsStrictlySortedBy nat_cmp (keys_of u.seat.got ++ made_in es) → Runs n a t full u
-    → Runs n a t (took_all value_alone es full) (all_turned a from es u)
-all_turned_runs n a from t full u [] set fits s r = r
-all_turned_runs n a from t full u (e ∷ es) set fits s r =
-    all_turned_runs n a from t (took value_alone e full) (turned_by a from e u) es set
-    fits.1 (log_turned_by a from e u (made_in es) s)
-    (turned_by_runs n a from t full u e (made_in es) set fits.0 s r)
+all_turned_runs : (y : Behaviour) (n a from : ℕ) (t : TableState) (full : Rows) (u : Turning)
+    (es : List Event) → IsSet y n a from t → AllByRecursion (FitsEvent n t.rows a from) es
+    → IsStrictlySortedBy nat_cmp (keys_of u.resident.got ++ made_in es) → Runs y n a t full u
+    → Runs y n a t (took_all value_alone es full) (all_turned y a from es u)
+all_turned_runs y n a from t full u [] set fits s r = r
+all_turned_runs y n a from t full u (e ∷ es) set fits s r =
+    all_turned_runs y n a from t (took value_alone e full) (turned_by y a from e u) es set
+    fits.1 (log_turned_by y a from e u (made_in es) s)
+    (turned_by_runs y n a from t full u e (made_in es) set fits.0 s r)
 
-pub turn_runs : TurnRuns
-turn_runs n a from t full u es low high table lives no_watchers good fits s r =
-    all_turned_runs n a from t full u es
-    (record { low = low; high = high; table = table; lives = lives; no_watchers = no_watchers; good = good }) fits s r
+pub turn_runs : (y : Behaviour) → TurnRuns y
+turn_runs y law n a from t full u es low high table lives no_watchers good fits s r =
+    all_turned_runs y n a from t full u es
+    (record {
+      lawful = law;
+      low = low;
+      high = high;
+      table = table;
+      lives = lives;
+      no_watchers = no_watchers;
+      good = good;
+    }) fits s r

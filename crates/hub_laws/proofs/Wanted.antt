@@ -1,19 +1,21 @@
 -- The keys that are wanted: each that passes aims at an actor numbered 9 or more that was live, and those that leave or
 -- come are what the one list has and the other hasn't.
 use Rattle.std.proofs.Common.{◌≡◌, ℕ, ◌<◌, ◌≤◌, ◌^◌, nat_lt, nat_le, List, Bool, true, false, cond, ◌&&◌, not, Option}
+use Rattle.std.proofs.Common.{suc, zero}
 use Rattle.std.proofs.Common.{Some, None, option_map, option_and_then}
-use Rattle.std.specs.Prelude.{IfSome}
-use Rattle.std.proofs.Common.{Contains, refl, ap, sym, ◌∙◌, subst, arith}
-use Rattle.std.specs.List.{AllByRecursion}
+use Rattle.std.proofs.Common.{refl, ap, sym, ◌∙◌, subst, arith}
 use Rattle.std.specs.Cmp.{eq_by_cmp_equiv}
+use Rattle.std.specs.Prelude.{IfSome, codes}
+use Rattle.std.specs.List.{AllByRecursion, filter}
 use Rattle.std.proofs.lemmas.Bool.Decides.{nat_tests}
 use Rattle.std.proofs.lemmas.List.Elements.{All-contains, All-from_recursion, recursion_from_All}
-use Rattle.std.proofs.lemmas.Map.Views.{All-from_any, Contains-from_any, any-filter_same}
+use Rattle.std.proofs.lemmas.Map.Views.{All-from_any, Contains-from_any}
 use Rattle.pv_value.specs.Plain.{Plain, symbol, record_of, sequence, embedded, no_more, then_more, plains}
-use Rattle.pv_value.specs.WellFormed.{Ascend}
 use Rattle.pv_value.specs.Lemmas.OrderLaws.{order_total}
+use Rattle.pv_value.specs.Sets.{ascending_by}
+use Rattle.pv_value.specs.Order.{order}
 use Rattle.dp_pattern.specs.Patterns.{Pattern}
-use Rattle.pv_words.specs.Parts.{same}
+use Rattle.pv_words.specs.Words.{is_word}
 use Rattle.ds_space.specs.declared.references.Reference.{Reference}
 use Rattle.ds_space.specs.References.{reference_of, is_observers}
 use Rattle.sr_caveat.specs.declared.caps.Cap.{Cap}
@@ -23,16 +25,14 @@ use Rattle.sr_caveat.specs.Lemmas.Capped.{cap_is, cap_sound}
 use Rattle.ds_space.specs.Wants.{is_observer, observer_of, key_of, wants}
 use Rattle.ds_space.specs.Changes.{among, without}
 use Rattle.ds_space.specs.Lemmas.Keys.{same_is}
-use Rattle.ds_space.specs.Lemmas.Lists.{of_the_rule}
-use Rattle.ds_space.specs.Lemmas.Walks.{lacking_ascends}
-use Rattle.ds_space.specs.Lemmas.Exact.{without_is}
+use Rattle.ds_space.specs.Lemmas.Lists.{of_the_rule, in_order, wants_ascend}
+use Rattle.gk_sturdy.specs.declared.bound.Binding.{Binding}
+use Rattle.gk_sturdy.specs.Answers.{reply_to}
 use Rattle.ac_world.specs.declared.aims.Aim.{Aim}
-use Rattle.ac_world.specs.Turns.{aim_by, aim_at, observer_in, aim_of}
-use Rattle.hub_laws.proofs.Kept.{IsKnown}
-
--- what the key wants, where it gets through, goes to an object of an actor numbered 9 or more, and n or less
-abbrev pub IsAimed : ℕ → Plain → Type 0
-IsAimed n k = (aim : Aim) → aim_of k ≡ Some aim → (9 ≤ aim.at.actor) × (aim.at.actor ≤ n)
+use Rattle.ac_world.specs.Behaviours.{Behaviour, asks, behaviour_of, dataspace, gatekeeper}
+use Rattle.ac_world.specs.Aims.{aim_at, aim_by, aim_for, aim_of, observer_in}
+use Rattle.ac_world.specs.Lemmas.Asking.{among_asked, among_without}
+use Rattle.hub_laws.proofs.Kept.{IsKnown, IsAimed, IsLawful}
 
 -- ---- the aim of each key
 
@@ -97,45 +97,81 @@ observes o p e = absurd cc
 pub observer_there : (o : Plain) (p : Pattern) → observer_in o ≡ None → observer_of o ≡ Some p → ⊥
 observer_there o p none is = let by = observes o p is in let clash : None ≡ Some by.observer = sym none ∙ by.names in cc
 
-aimed_key : (n : ℕ) (k o : Plain) (cs : List Plain) → Observes o → IsKnown n o → k ≡ key_of o cs → IsAimed n k
-aimed_key n k o cs by known is aim aims =
-    let v = sequence (plains cs) in
-    let here : aim_at v by.observer ≡ Some aim =
-    ap (option_and_then (aim_at v)) (sym by.names) ∙ sym (ap aim_of is) ∙ aims in
+-- what is sent to the observer of a value that is known goes to an actor that was live
+sent_far : (n : ℕ) (v o : Plain) (aim : Aim) → Observes o → IsKnown n o → aim_for v o ≡ Some aim
+    → (9 ≤ aim.at.actor) × (aim.at.actor ≤ n)
+sent_far n v o aim by known aims =
+    let here : aim_at v by.observer ≡ Some aim = ap (option_and_then (aim_at v)) (sym by.names) ∙ aims in
     let c = aim_from v by.observer aim here in
     let low : IfSome (cap_of by.observer) (λ (d : Cap). d.actor ≤ n) =
     subst (λ q. IfSome q (λ r. IfSome (cap_of r) (λ (d : Cap). d.actor ≤ n))) by.names known in
     let under : c.0.actor ≤ n = subst (λ q. IfSome q (λ (d : Cap). d.actor ≤ n)) c.1 low in
     (subst (λ m. 9 ≤ m) (sym c.2) (by.far c.0 c.1), subst (λ m. m ≤ n) (sym c.2) under)
 
+-- ---- a dataspace
+
+aimed_key : (n : ℕ) (k o : Plain) (cs : List Plain) → Observes o → IsKnown n o → k ≡ key_of o cs
+    → IsAimed dataspace n k
+aimed_key n k o cs by known is aim aims =
+    sent_far n (sequence (plains cs)) o aim by known (sym (ap aim_of is) ∙ aims)
+
 -- over values whose observers were live
-pub wanted_aimed : (n : ℕ) (vs : List Plain) (k : Plain) → AllByRecursion (IsKnown n) vs → Contains (wants vs) k
-    → IsAimed n k
-wanted_aimed n vs k known c =
-    let rule = of_the_rule vs k c in
+wanted_aimed : (n : ℕ) (vs : List Plain) (k : Plain) → AllByRecursion (IsKnown n) vs → among k (wants vs) ≡ true
+    → IsAimed dataspace n k
+wanted_aimed n vs k known is =
+    let rule = of_the_rule vs k (Contains-from_any same_is k (wants vs) is) in
     aimed_key n k rule.observation rule.captures (observes rule.observation rule.pattern rule.is_pattern)
     (All-contains (IsKnown n) vs rule.observation (All-from_recursion (IsKnown n) vs known) rule.observes) rule.key
 
--- ---- the keys of one list that aren't in another
+dataspace_lawful : IsLawful dataspace
+dataspace_lawful = record { ascend = wants_ascend; nothing = refl; aimed = wanted_aimed }
 
-pub without_ascends : (ks ls : List Plain) → Ascend ks → Ascend ls → Ascend (without ks ls)
-without_ascends ks ls s t = subst Ascend (without_is ks ls s t) (lacking_ascends ks ls s)
-
-pub among_without : (q : Plain) (ks ls : List Plain) → among q (without ks ls) ≡ (not (among q ls) && among q ks)
-among_without q ks ls =
-    any-filter_same (same q) (λ k. not (among k ls)) (not (among q ls))
-    (λ k e. ap (λ z. not (among z ls)) (sym (same_is q k e))) ks
+-- ---- the gatekeeper
 
 both_true : (a b : Bool) → (a && b) ≡ true → b ≡ true
 both_true true b e = e
 both_true false b e = absurd cc
 
+-- a value that asks has an observer
+asks_observer : (v : Plain) → asks v ≡ true → Observes v
+asks_observer (record_of (symbol l) (then_more s (then_more r no_more))) e =
+    named (symbol l) s r (both_true (is_word l (codes "resolve")) (is_observer r) e)
+asks_observer v e = absurd cc
+
+asked_aimed : (bs : List Binding) (n : ℕ) (vs : List Plain) (k : Plain) → AllByRecursion (IsKnown n) vs
+    → among k (ascending_by order (filter asks vs)) ≡ true → IsAimed (gatekeeper bs) n k
+asked_aimed bs n vs k known is = aimed (asks k) refl (among k vs) refl (sym (among_asked k vs) ∙ is)
+  where
+    known_one : among k vs ≡ true → IsKnown n k
+    known_one there =
+        All-contains (IsKnown n) vs k (All-from_recursion (IsKnown n) vs known) (Contains-from_any same_is k vs there)
+
+    at : (v : Plain) → asks v ≡ true → IsKnown n v → IsAimed (gatekeeper bs) n v
+    at (record_of l (then_more s rest)) e here aim aims =
+        sent_far n (reply_to bs s) (record_of l (then_more s rest)) aim (asks_observer _ e) here aims
+    at v e here aim aims = absurd cc
+
+    aimed : (a : Bool) → asks k ≡ a → (b : Bool) → among k vs ≡ b → (a && b) ≡ true
+        → IsAimed (gatekeeper bs) n k
+    aimed true e true there is = at k e (known_one there)
+    aimed true e false there is = absurd cc
+    aimed false e b there is = absurd cc
+
+gatekeeper_lawful : (bs : List Binding) → IsLawful (gatekeeper bs)
+gatekeeper_lawful bs =
+    record { ascend = λ vs. in_order (filter asks vs); nothing = refl; aimed = asked_aimed bs }
+
+pub lawful : (bs : List Binding) (a : ℕ) → IsLawful (behaviour_of bs a)
+lawful bs zero = gatekeeper_lawful bs
+lawful bs (suc a) = dataspace_lawful
+
+-- ---- the keys of one list that aren't in another
+
 -- of the keys that come each has an aim
-pub came_aimed : (n : ℕ) (vs ls : List Plain) → AllByRecursion (IsKnown n) vs
-    → AllByRecursion (IsAimed n) (without (wants vs) ls)
-came_aimed n vs ls known =
-    recursion_from_All (IsAimed n) (without (wants vs) ls)
-    (All-from_any (eq_by_cmp_equiv order_total) (IsAimed n) (without (wants vs) ls)
-    (λ q e. wanted_aimed n vs q known
-    (Contains-from_any same_is q (wants vs)
-    (both_true (not (among q ls)) (among q (wants vs)) (sym (among_without q (wants vs) ls) ∙ e)))))
+pub came_aimed : (y : Behaviour) → IsLawful y → (n : ℕ) (vs ls : List Plain) → AllByRecursion (IsKnown n) vs
+    → AllByRecursion (IsAimed y n) (without (y.keys vs) ls)
+came_aimed y law n vs ls known =
+    recursion_from_All (IsAimed y n) (without (y.keys vs) ls)
+    (All-from_any (eq_by_cmp_equiv order_total) (IsAimed y n) (without (y.keys vs) ls)
+    (λ q e. law.aimed n vs q known
+    (both_true (not (among q ls)) (among q (y.keys vs)) (sym (among_without q (y.keys vs) ls) ∙ e))))

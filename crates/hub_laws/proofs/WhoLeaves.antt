@@ -5,6 +5,7 @@ use Rattle.std.specs.Prelude.{nat_lt}
 use Rattle.std.specs.Option.{option_or}
 use Rattle.std.proofs.lemmas.Bool.Decides.{nat_tests}
 use Rattle.std.specs.List.{AllByRecursion}
+use Rattle.gk_sturdy.specs.declared.bound.Binding.{Binding}
 use Rattle.ac_table.specs.declared.batches.Batch.{Batch}
 use Rattle.ac_table.specs.Tables.{is_live, lowest}
 use Rattle.ac_world.specs.declared.spreads.Spread.{Spread as SpreadOf}
@@ -13,7 +14,7 @@ use Rattle.ac_world.specs.declared.turns.Turned.{Turned}
 use Rattle.ac_world.specs.declared.turns.Turned.TheVariants as turned
 use Rattle.ac_world.specs.Sums.{top_load, deliveries}
 use Rattle.ac_world.specs.Turns.{turn}
-use Rattle.ac_world.specs.Worlds.{actor_of, entry_of, without_entry, is_system}
+use Rattle.ac_world.specs.Worlds.{actor_of, entry_of, without_entry, is_system, binding}
 use Rattle.ac_world.specs.Lemmas.Entries.{put_found, put_other}
 use Rattle.rl_packet.specs.declared.packets.TurnEvent.{TurnEvent}
 use Rattle.rl_ports.specs.Ports.{PortsState}
@@ -23,10 +24,11 @@ use Rattle.hub_machine.specs.State.{State, ports_of, is_there}
 use Rattle.hub_machine.specs.Admission.{Admitted, refused, admitted, admission}
 use Rattle.hub_machine.specs.Endings.{nameless, closed, failed, overrun_by, finished}
 use Rattle.hub_machine.specs.Machine.{After, unchanged, opened, refusal, arrive_unless, accepted, judged, packet_at}
+use Rattle.hub_machine.specs.Machine.{bind_unless, is_barred}
 use Rattle.hub_machine.specs.Machine.{bad_at, close_at, telling_fault, exporting, told_unless, tell, fault_for}
 use Rattle.hub_machine.specs.Machine.{tell_fault, after_turn, turn_of, rest, work_by, is_worn, done, step}
 use Rattle.hub_machine.specs.declared.steps.Step.{Step}
-use Rattle.hub_machine.specs.declared.steps.Step.TheVariants.{Arrive, Packet, Bad, Close, Turn, Work, Stop}
+use Rattle.hub_machine.specs.declared.steps.Step.TheVariants.{Bind, Arrive, Packet, Bad, Close, Turn, Work, Stop}
 use Rattle.hub_machine.specs.declared.steps.Reply.{Reply}
 use Rattle.hub_machine.specs.declared.steps.Reply.TheVariants as reply
 use Rattle.hub_valid.specs.Lemmas.Lasting.{lasts_sent, lasts_turn}
@@ -231,7 +233,13 @@ module _ (k : ℕ) where
       by true system = turn_left Work a s live (λ far. absurd cc)
       by false far = rest_left Work (spreads_in (turn a s.world).turned) s live
 
+  bind_left : (c : Bool) (b : Binding) (s : State) → is_live (actor_of k) s.world.table ≡ true
+      → HasLeft (Bind b) [] (bind_unless c b s)
+  bind_left true b s live = stays (Bind b) [] s reply.Barred live
+  bind_left false b s live = ends_left (Bind b) [] (record s { world = binding b s.world }) reply.Taken live
+
   done_left : (s : State) (e : Step) → is_live (actor_of k) s.world.table ≡ true → HasLeft e (spreads_of e s) (done s e)
+  done_left s (Bind b) live = bind_left (is_barred b s) b s live
   done_left s (Arrive space) live = arrive_left (Arrive space) (refusal space s) space s live
   done_left s (Packet j es) live = packet_left (Packet j es) j (ports_of j s) es s live refl
   done_left s (Bad j f) live = bad_left (Bad j f) j (ports_of j s) f s live refl

@@ -1,8 +1,7 @@
 -- Presence: who is always live, and of whom names, rows and faults are kept.
-use Rattle.std.specs.Prelude.{◌≡◌, ◌≢◌, ℕ, ◌<◌, ◌≤◌, true, false, Some}
+use Rattle.std.specs.Prelude.{◌≡◌, ℕ, ◌<◌, ◌≤◌, true, false}
 use Rattle.std.specs.List.{AllByRecursion}
-use Rattle.ac_table.specs.declared.batches.Row.{Row}
-use Rattle.ac_table.specs.Tables.{is_live, find_row}
+use Rattle.ac_table.specs.Tables.{is_live}
 use Rattle.ac_world.specs.Worlds.{actor_of}
 use Rattle.hub_machine.specs.State.{State, is_there}
 use Rattle.hub_valid.specs.Validity.{HasCome}
@@ -17,7 +16,5 @@ pub record ArePresent (s : State) : Type 0 where
   pub no_watchers : (a : ℕ) → 9 ≤ a → a < 17 → is_live a s.world.table ≡ false
   -- a live connection has come, and has names
   pub names : (k : ℕ) → is_live (actor_of k) s.world.table ≡ true → HasCome s.world.opened k × (is_there k s ≡ true)
-  -- the gatekeeper owns no row
-  pub no_rows : (h : ℕ) (r : Row) → find_row h s.world.table.rows ≡ Some r → r.owner ≢ 0
   -- faults are kept of ended connections alone
   pub faults : AllByRecursion (λ e. HasEnded e.0 s) s.faults

@@ -14,8 +14,11 @@ use Rattle.ac_table.specs.declared.batches.Event.TheVariants.{Message, Sync}
 use Rattle.ac_table.specs.Tables.{find_actor, is_live, first_batch, popped}
 use Rattle.ac_world.specs.declared.aims.Aim.{Aim}
 use Rattle.ac_world.specs.Outboxes.{Plan, told_to}
-use Rattle.ac_world.specs.Turns.{Turning, aim_at, observer_in, turned_by, answered, turn}
-use Rattle.ac_world.specs.Worlds.{WorldState, seat_of, is_space}
+use Rattle.gk_sturdy.specs.declared.bound.Binding.{Binding}
+use Rattle.ac_world.specs.Aims.{aim_at, observer_in}
+use Rattle.ac_world.specs.Behaviours.{Behaviour, dataspace, gatekeeper}
+use Rattle.ac_world.specs.Turns.{Turning, turned_by, turn}
+use Rattle.ac_world.specs.Worlds.{WorldState, resident_of, is_space}
 use Rattle.hub_laws.specs.Posting.{grown}
 use Rattle.hub_laws.specs.Scratch.{as_sequence}
 
@@ -39,25 +42,30 @@ pub record OnlySays (said : ℕ → List Event) (t u : Plan) : Type 0 where
   pub table : u.table ≡ t.table
   pub told : (b : ℕ) → told_to b u.out ≡ told_to b t.out ++ said b
 
--- a message that comes to a dataspace in its turn, where the captures don't weigh too much
+-- a message that comes to a dataspace in its turn, where the captures don't weigh too much; the gatekeeper drops it
 abbrev pub SaysMessages : Type 0
 SaysMessages =
-    (a from entity : ℕ) (m : Plain) (t : Turning) → fan_weight (values_of t.seat.got) m ≤ 33554432
-    → OnlySays (λ b. messages_over b (values_of t.seat.got) m) t.plan (turned_by a from (Message entity m) t).plan
+    ((a from entity : ℕ) (m : Plain) (t : Turning) → fan_weight (values_of t.resident.got) m ≤ 33554432
+    → OnlySays (λ b. messages_over b (values_of t.resident.got) m) t.plan
+    (turned_by dataspace a from (Message entity m) t).plan)
+    × ((bs : List Binding) (a from entity : ℕ) (m : Plain) (t : Turning)
+    → turned_by (gatekeeper bs) a from (Message entity m) t ≡ t)
 
--- a sync that comes to a dataspace, or to the gatekeeper, is answered by the message `#t` through its peer
+-- a sync that comes to a system actor is answered by the message `#t` through its peer
 abbrev pub AnswersSyncs : Type 0
 AnswersSyncs =
-    ((a from entity : ℕ) (peer : Plain) (t : Turning)
-    → OnlySays (λ b. message_aimed b (aim_at (boolean true) peer)) t.plan (turned_by a from (Sync entity peer) t).plan)
-    × ((entity : ℕ) (peer : Plain) (p : Plan)
-    → OnlySays (λ b. message_aimed b (aim_at (boolean true) peer)) p (answered (Sync entity peer) p))
+    (y : Behaviour) (a from entity : ℕ) (peer : Plain) (t : Turning)
+    → OnlySays (λ b. message_aimed b (aim_at (boolean true) peer)) t.plan (turned_by y a from (Sync entity peer) t).plan
 
--- so after a dataspace's turn over a message each inbox has grown by one batch of just these
+-- so after a dataspace's turn over a message each inbox has grown by one batch of just these; after the gatekeeper's
+-- none has grown
 abbrev pub MessagesArrive : Type 0
 MessagesArrive =
-    (a from entity : ℕ) (m : Plain) (w : WorldState) → is_space a ≡ true → is_live a w.table ≡ true
+    ((a from entity : ℕ) (m : Plain) (w : WorldState) → is_space a ≡ true → is_live a w.table ≡ true
     → first_batch a w.table ≡ Some (record { from = from; events = Message entity m ∷ [] })
-    → fan_weight (values_of (seat_of a w).got) m ≤ 33554432 → (b : ℕ)
+    → fan_weight (values_of (resident_of a w).got) m ≤ 33554432 → (b : ℕ)
     → find_actor b (turn a w).world.table.actors
-    ≡ grown a (messages_over b (values_of (seat_of a w).got) m) (find_actor b (popped a w.table).actors)
+    ≡ grown a (messages_over b (values_of (resident_of a w).got) m) (find_actor b (popped a w.table).actors))
+    × ((from entity : ℕ) (m : Plain) (w : WorldState) → is_live 0 w.table ≡ true
+    → first_batch 0 w.table ≡ Some (record { from = from; events = Message entity m ∷ [] }) → (b : ℕ)
+    → find_actor b (turn 0 w).world.table.actors ≡ find_actor b (popped 0 w.table).actors)

@@ -1,6 +1,6 @@
--- What a live connection holds once nothing is pending, from the rows and its exports alone. Syndicate Protocol,
--- "dataspaces": each observer is told of each distinct list of captures of its observation, once, unless the caveats of
--- its reference refuse it.
+-- What a live connection holds once nothing is pending, from the rows, what is bound and its exports alone. Syndicate
+-- Protocol, "dataspaces" and "gatekeeper": each observer is told of each distinct list of captures of its observation,
+-- once, and who asks for a signed reference is told the reply, unless the caveats of its own reference refuse it.
 use Rattle.std.specs.Prelude.{ℕ, List, [], ◌∷◌, ◌++◌, map, not, ◌==◌, ◌&&◌, nat_le, Option, Some, None, filter}
 use Rattle.std.specs.Prelude.{if◌then◌else◌}
 use Rattle.std.specs.List.{flat_map}
@@ -11,7 +11,9 @@ use Rattle.dp_pattern.specs.Matching.{matched}
 use Rattle.ds_space.specs.Wants.{observer_of}
 use Rattle.ac_table.specs.declared.batches.Row.{Row}
 use Rattle.ac_world.specs.declared.aims.Aim.{Aim}
-use Rattle.ac_world.specs.Turns.{aim_at, observer_in}
+use Rattle.gk_sturdy.specs.declared.bound.Binding.{Binding}
+use Rattle.ac_world.specs.Aims.{aim_at, observer_in}
+use Rattle.ac_world.specs.Behaviours.{asks, answer_for}
 use Rattle.ac_world.specs.Worlds.{actor_of}
 use Rattle.rl_ports.specs.Ports.{PortsState}
 use Rattle.rl_wire.specs.Crossing.{crossed_out}
@@ -60,6 +62,14 @@ told_by exports k vs None o = []
 abbrev pub told_over : List Plain → ℕ → List Plain → List Pair
 told_over exports k vs = flat_map (λ o. told_by exports k vs (observer_in o) (observer_of o)) (distinct vs)
 
+-- the reply of the gatekeeper to one that asks
+abbrev pub told_reply : List Plain → ℕ → List Binding → Plain → List Pair
+told_reply exports k bs v = if asks v then pair_aimed exports k (answer_for bs v) else []
+
+-- to each distinct value that asks
+abbrev pub told_replies : List Plain → ℕ → List Binding → List Plain → List Pair
+told_replies exports k bs vs = flat_map (told_reply exports k bs) (distinct vs)
+
 -- and what connections assert at it directly
 abbrev pub told_directly : List Plain → ℕ → List Row → List Pair
 told_directly exports k rows =
@@ -69,9 +79,10 @@ told_directly exports k rows =
 abbrev pub dataspaces : List ℕ
 dataspaces = 1 ∷ 2 ∷ 3 ∷ 4 ∷ 5 ∷ 6 ∷ 7 ∷ 8 ∷ []
 
-abbrev pub scratch_at : List Plain → ℕ → List Row → List Pair
-scratch_at exports k rows =
-    flat_map (λ d. told_over exports k (asserted_at d rows)) dataspaces ++ told_directly exports k rows
+abbrev pub scratch_at : List Plain → ℕ → List Binding → List Row → List Pair
+scratch_at exports k bs rows =
+    told_replies exports k bs (asserted_at 0 rows)
+    ++ flat_map (λ d. told_over exports k (asserted_at d rows)) dataspaces ++ told_directly exports k rows
 
 abbrev pub exports_in : Option PortsState → List Plain
 exports_in None = []
@@ -81,6 +92,6 @@ exports_in (Some ports) = ports.exports
 abbrev pub exports_of : ℕ → State → List Plain
 exports_of k s = exports_in (ports_of k s)
 
--- connection k, from scratch: from the rows and its exports alone
+-- connection k, from scratch: from the rows, what is bound and its exports alone
 abbrev pub scratch : ℕ → State → List Pair
-scratch k s = scratch_at (exports_of k s) k s.world.table.rows
+scratch k s = scratch_at (exports_of k s) k s.world.bindings s.world.table.rows

@@ -30,7 +30,7 @@ took_all f (e ∷ es) got = took_all f es (took f e got)
 abbrev pub events_of : List Batch → List Event
 events_of bs = flat_map (λ b. b.events) bs
 
--- a dataspace keeps the value alone, another actor the object too
+-- a system actor keeps the value alone, a connection the object too
 abbrev pub value_alone : ℕ → Plain → Plain
 value_alone entity v = v
 

@@ -20,8 +20,8 @@ pub fn what_stands_is_got()
     ensures { SettledDelivery }
 {}
 
-/// Wants: the rows that a dataspace owns are those of what it wants by what it has got, one for
-/// each key, and no others.
+/// Wants: the rows that the gatekeeper or a dataspace owns are those of what it wants by what it
+/// has got, one for each key that gets through, and no others.
 pub fn rows_are_wants()
     ensures { Wants }
 {}
@@ -42,8 +42,8 @@ pub fn settled_holdings_are_from_scratch()
     ensures { SettledHoldings }
 {}
 
-/// Presence: the gatekeeper and the dataspaces are always live, a live connection has names, the
-/// gatekeeper owns no row, and faults are kept of ended connections alone.
+/// Presence: the gatekeeper and the dataspaces are always live, a live connection has names, and
+/// faults are kept of ended connections alone.
 pub fn the_live_have_names()
     ensures { Presence }
 {}
@@ -79,8 +79,8 @@ pub fn posted_as_one_batch()
 {}
 
 /// Messages: of one that comes to a dataspace each distinct observation is told what it captures,
-/// as the caveats of its reference let it pass, and nobody else is told anything; a sync is
-/// answered.
+/// as the caveats of its reference let it pass, and nobody else is told anything; the gatekeeper
+/// drops it; a sync is answered.
 pub fn messages_go_to_observers()
     ensures messages { SaysMessages }
     ensures syncs { AnswersSyncs }

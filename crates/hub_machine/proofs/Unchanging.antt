@@ -2,7 +2,8 @@
 use Rattle.std.proofs.Common.{◌≡◌, ℕ, ◌-◌, Bool, true, false, cond, List, Option, Some, None, refl}
 use Rattle.ac_table.specs.declared.batches.Batch.{Batch}
 use Rattle.ac_table.specs.Tables.{is_live, first_batch, lowest}
-use Rattle.ac_world.specs.Worlds.{WorldState, is_space, is_system}
+use Rattle.gk_sturdy.specs.declared.bound.Binding.{Binding}
+use Rattle.ac_world.specs.Worlds.{WorldState, is_system}
 use Rattle.ac_world.specs.Turns.{After as TurnOf, turn_first, turn_with}
 use Rattle.rl_packet.specs.declared.packets.TurnEvent.{TurnEvent}
 use Rattle.rl_ports.specs.Ports.{PortsState}
@@ -11,17 +12,22 @@ use Rattle.hub_machine.specs.State.{State, ports_of}
 use Rattle.hub_machine.specs.Admission.{Admitted, refused, admitted, admission}
 use Rattle.hub_machine.specs.Endings.{nameless}
 use Rattle.hub_machine.specs.Laws.{IsRefusal, RefusalChangesNothing}
-use Rattle.hub_machine.specs.Machine.{After, done, is_worn, unchanged, refusal, arrive_unless, judged, packet_at}
+use Rattle.hub_machine.specs.Machine.{After, done, is_worn, unchanged, is_barred, bind_unless, refusal, arrive_unless}
+use Rattle.hub_machine.specs.Machine.{judged, packet_at}
 use Rattle.hub_machine.specs.Machine.{bad_at, close_at, tell, told_unless, telling_fault, tell_fault, fault_for}
 use Rattle.hub_machine.specs.Machine.{after_turn, turn_of, rest, work_by}
 use Rattle.hub_machine.specs.declared.steps.Step.{Step}
-use Rattle.hub_machine.specs.declared.steps.Step.TheVariants.{Arrive, Packet, Bad, Close, Turn, Work, Stop}
+use Rattle.hub_machine.specs.declared.steps.Step.TheVariants.{Bind, Arrive, Packet, Bad, Close, Turn, Work, Stop}
 use Rattle.hub_machine.specs.declared.steps.Reply.{Reply}
 use Rattle.hub_machine.specs.declared.steps.Reply.TheVariants.{Worn, Halted, Idle}
 use Rattle.ac_world.specs.declared.turns.Turned.TheVariants as turning
 
 abbrev Keeps : State → After → Type 0
 Keeps s x = IsRefusal x.reply → x.state ≡ s
+
+bind : (c : Bool) (b : Binding) (s : State) → Keeps s (bind_unless c b s)
+bind true b s is = refl
+bind false b s is = absurd is
 
 arrival : (o : Option Reply) (space : ℕ) (s : State) → Keeps s (arrive_unless o space s)
 arrival (Some r) space s is = refl
@@ -63,12 +69,11 @@ abbrev follows : ℕ → State → TurnOf → After
 follows a s t = after_turn a t.turned (record s { world = t.world })
 
 with_batch : (a : ℕ) (b : Batch) (w : WorldState) (s : State) → Keeps s (follows a s (turn_with a b w))
-with_batch a b w s = by (is_space a) (is_system a) refl refl
+with_batch a b w s = by (is_system a) refl
   where
-    by : (x y : Bool) → is_space a ≡ x → is_system a ≡ y → Keeps s (follows a s (turn_with a b w))
-    by true y p q = rw p (λ is. absurd is)
-    by false true p q = rw (p, q) (λ is. absurd is)
-    by false false p q = rw (p, q) (told (a - 16) _ b _ s)
+    by : (y : Bool) → is_system a ≡ y → Keeps s (follows a s (turn_with a b w))
+    by true q = rw q (λ is. absurd is)
+    by false q = rw q (told (a - 16) _ b _ s)
 
 first : (a : ℕ) (o : Option Batch) (s : State) → Keeps s (follows a s (turn_first a o s.world))
 first a None s is = refl
@@ -100,6 +105,7 @@ worked (Some a) s = by (is_system a)
 -- ---- steps
 
 all_done : (s : State) (e : Step) → Keeps s (done s e)
+all_done s (Bind b) = bind (is_barred b s) b s
 all_done s (Arrive space) = arrival (refusal space s) space s
 all_done s (Packet k es) = packet k (ports_of k s) es s
 all_done s (Bad k f) = bad k (ports_of k s) f s

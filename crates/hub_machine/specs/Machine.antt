@@ -1,5 +1,5 @@
 -- The machine: what a step makes of the state, and its reply. What actors do is the world's (`ac_world`).
-use Rattle.std.specs.Prelude.{◌≢◌, ℕ, ◌+◌, ◌-◌, ◌^◌, List, [], Bool, true, ◌||◌, nat_lt, nat_le, map}
+use Rattle.std.specs.Prelude.{ℕ, ◌+◌, ◌-◌, ◌^◌, List, [], Bool, true, false, ◌||◌, ◌&&◌, not, ◌==◌, nat_lt, nat_le, map}
 use Rattle.std.specs.Prelude.{Option, Some, None, option_and_then, length, if◌then◌else◌}
 use Rattle.std.specs.List.{flat_map}
 use Rattle.pv_value.specs.Plain.{Plain, embedded}
@@ -10,7 +10,12 @@ use Rattle.ac_table.specs.Tables.{lowest}
 use Rattle.ac_world.specs.declared.spreads.Spread.{Spread}
 use Rattle.ac_world.specs.declared.turns.Turned.{Turned}
 use Rattle.ac_world.specs.declared.turns.Turned.TheVariants as turned
-use Rattle.ac_world.specs.Worlds.{arrived, sent, actor_of, is_system, entry_of, with_entry, without_entry}
+use Rattle.sr_caveat.specs.Embedded.{has_embedded}
+use Rattle.sr_caveat.specs.Caps.{Cap, cap_value, IsSound}
+use Rattle.gk_sturdy.specs.declared.bound.Binding.{Binding}
+use Rattle.gk_sturdy.specs.Bindings.{bound}
+use Rattle.ac_world.specs.Worlds.{binding, arrived, sent, actor_of, is_system, is_space, entry_of, with_entry}
+use Rattle.ac_world.specs.Worlds.{without_entry}
 use Rattle.ac_world.specs.Turns.{turn}
 use Rattle.rl_packet.specs.declared.packets.Event.TheVariants.{Assert, Retract, Message, Sync}
 use Rattle.rl_packet.specs.declared.packets.TurnEvent.{TurnEvent}
@@ -27,7 +32,7 @@ use Rattle.hub_machine.specs.State.{State, ports_of}
 use Rattle.hub_machine.specs.Admission.{Admitted, refused, admitted, Admitting, admission}
 use Rattle.hub_machine.specs.Endings.{nameless, departed_for, closed, failed, finished}
 use Rattle.hub_machine.specs.declared.steps.Step.{Step}
-use Rattle.hub_machine.specs.declared.steps.Step.TheVariants.{Arrive, Packet, Bad, Close, Turn, Work, Stop}
+use Rattle.hub_machine.specs.declared.steps.Step.TheVariants.{Bind, Arrive, Packet, Bad, Close, Turn, Work, Stop}
 use Rattle.hub_machine.specs.declared.steps.Reply.{Reply}
 use Rattle.hub_machine.specs.declared.steps.Reply.TheVariants.{Worn, Barred, Halted, Full, Opened, Gone, Refused, Idle}
 use Rattle.hub_machine.specs.declared.steps.Reply.TheVariants.{Sent, Ran, Taken}
@@ -44,13 +49,30 @@ unchanged s r = record { state = s; reply = r }
 abbrev pub ends : List Spread → State → Reply → After
 ends xs s r = record { state = finished xs s; reply = r }
 
+-- ---- a binding
+
+-- a dataspace itself
+abbrev pub is_to_space : Cap → Bool
+is_to_space c = is_space c.actor && c.entity == 0
+
+-- why no reference is bound: a connection has come, its oid is bound, it isn't to a dataspace itself, or something is
+-- embedded in its oid or in a caveat
+abbrev pub is_barred : Binding → State → Bool
+is_barred b s =
+    nat_lt 0 s.world.opened || bound b.oid s.world.bindings || not (is_to_space b.cap) || has_embedded b.oid
+    || has_embedded (cap_value b.cap)
+
+abbrev pub bind_unless : Bool → Binding → State → After
+bind_unless true b s = unchanged s Barred
+bind_unless false b s = ends [] (record s { world = binding b s.world }) Taken
+
 -- ---- an arrival
 
 -- the reference to an actor itself
 abbrev pub actor_reference : ℕ → Plain
 actor_reference a = reference_value (record { actor = a; entity = 0 })
 
--- a connection comes, with actor `space` as its object 0
+-- a connection comes, with actor `space`, the gatekeeper or a dataspace, as its object 0
 abbrev pub opened : ℕ → State → State
 opened space s = record s {
   world = arrived s.world;
@@ -185,6 +207,7 @@ is_worn s (Arrive space) = nat_le (2 ^ 62) s.world.table.next || nat_le (2 ^ 31)
 is_worn s e = nat_le (2 ^ 62) s.world.table.next
 
 abbrev pub done : State → Step → After
+done s (Bind b) = bind_unless (is_barred b s) b s
 done s (Arrive space) = arrive_unless (refusal space s) space s
 done s (Packet k es) = packet_at k (ports_of k s) es s
 done s (Bad k f) = bad_at k (ports_of k s) f s
@@ -196,19 +219,11 @@ done s Stop = ends [] (record s { stopped = true }) Taken
 abbrev pub step : State → Step → After
 step s e = if is_worn s e then unchanged s Worn else done s e
 
--- what a caller sees to: until the gatekeeper is built, that an arrival names a dataspace
-abbrev pub IsBuilt : Step → Type 0
-IsBuilt (Arrive space) = space ≢ 0
-IsBuilt (Packet k es) = Unit {0}
-IsBuilt (Bad k f) = Unit {0}
-IsBuilt (Close k) = Unit {0}
-IsBuilt (Turn a) = Unit {0}
-IsBuilt Work = Unit {0}
-IsBuilt Stop = Unit {0}
-
--- and what the type of steps keeps beside: the events of a packet may stand on the wire
+-- what the type of steps keeps: a reference that is bound is one that is read back, and the events of a packet may
+-- stand on the wire
 abbrev pub IsAllowed : State → Step → Type 0
-IsAllowed s (Arrive space) = space ≢ 0
+IsAllowed s (Bind b) = IsSound b.cap
+IsAllowed s (Arrive space) = Unit {0}
 IsAllowed s (Packet k es) = AllByRecursion IsTurnEvent es
 IsAllowed s (Bad k f) = Unit {0}
 IsAllowed s (Close k) = Unit {0}

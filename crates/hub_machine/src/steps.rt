@@ -1,12 +1,15 @@
 //! What can happen to the server, and what it answers.
 
 use crate::faults::Fault;
+use gk_sturdy::Binding;
 use rl_packet::{Packet, Turn};
 
 /// What can happen to the server. Connections are named by their numbers, which count from 1.
 #[derive(Drop)]
 pub enum Step {
-    /// A connection comes, whose object 0 is the dataspace of this number.
+    /// An oid is bound to a key and to the reference that it gives. No connection has come yet.
+    Bind(Binding),
+    /// A connection comes, whose object 0 is the gatekeeper, for 0, or the dataspace of this number.
     Arrive(u8),
     /// A connection sends a turn.
     Packet(u32, Turn),
@@ -27,7 +30,7 @@ pub enum Step {
 pub enum Reply {
     /// The numbers of handles or of connections are used up. Nothing changes.
     Worn,
-    /// There is no such dataspace. Nothing changes.
+    /// There is no such dataspace, or the reference can't be bound. Nothing changes.
     Barred,
     /// The server is to stop: no connection comes, and the system's actors have nothing to do.
     /// Nothing changes.

@@ -2,15 +2,13 @@
 ghost use Rattle.std.specs.Prelude.{◌≡◌, [], OnOk, OnErr};
 ghost use Rattle.hub_outs.specs.Outs.{sent_of, with_sent, turning, kept};
 
+use ac_world::BEFORE_CONNECTIONS;
 use hub_machine::Step;
 use pv_value::NoMemory;
 use rl_packet::Packet;
 use std::alloc::Global;
 use std::collections::BTreeMap;
 use std::marker::Model;
-
-/// Connection k is actor 16 + k.
-const BEFORE_CONNECTIONS: u32 = 16;
 
 /// The packets that one connection was sent, in order.
 #[derive(Drop)]

@@ -14,7 +14,7 @@ ghost use Rattle.hub_packets.specs.Refusals.{IsWhyRefused, IsRefusedFor};
 ghost use Rattle.hub_packets.specs.Counting.{taking_cause, counted_cause};
 
 use crate::refusals::{Refusal, refuse_for};
-use ac_world::{Act, Load, World};
+use ac_world::{Act, FIRST_CONNECTION, Load, World};
 use ds_space::Space;
 use hub_machine::{BACKLOG, BACKLOG_WEIGHT, Fault, HANDLES, ROWS_WEIGHT, TURN_EVENTS, over};
 use pv_value::{NoMemory, Node, Value, weight};
@@ -26,9 +26,6 @@ use sr_pass::{NoNames, pass};
 use std::alloc::Global;
 use std::collections::BTreeMap;
 use std::marker::Model;
-
-/// The actors from this one on are connections: connection k is actor 16 + k.
-pub const FIRST_CONNECTION: u32 = 17;
 
 /// What the events of a packet so far do, and what is counted after them.
 #[derive(Drop)]

@@ -10,6 +10,6 @@ mod admitting;
 mod refusals;
 mod telling;
 
-pub use admitting::{Admitting, FIRST_CONNECTION, admission};
+pub use admitting::{Admitting, admission};
 pub use refusals::Refusal;
 pub use telling::all_to_send;

@@ -1,20 +1,22 @@
 -- What the parts of the proof promise one another, and what the hub's code rests on.
-use Rattle.std.specs.Prelude.{◌≡◌, ℕ, ◌+◌, ◌^◌, ◌<◌, ◌≤◌, List, Some, length, map}
+use Rattle.std.specs.Prelude.{◌≡◌, ℕ, ◌+◌, ◌^◌, ◌<◌, ◌≤◌, List, false, Some, length, map}
 use Rattle.std.specs.List.{AllByRecursion}
 use Rattle.pv_value.specs.Plain.{Plain}
 use Rattle.ac_table.specs.declared.batches.Batch.{Batch}
+use Rattle.gk_sturdy.specs.declared.bound.Binding.{Binding}
+use Rattle.ac_world.specs.Worlds.{binding}
 use Rattle.ac_world.specs.Turns.{turn}
 use Rattle.ac_world.specs.declared.turns.Turned.TheVariants as turned
 use Rattle.rl_packet.specs.declared.packets.TurnEvent.{TurnEvent}
 use Rattle.rl_packet.specs.Wired.{IsTurnEvent}
 use Rattle.rl_ports.specs.Ports.{PortsState}
 use Rattle.sr_caveat.specs.declared.caps.Cap.{Cap}
-use Rattle.sr_caveat.specs.Caps.{cap_of}
+use Rattle.sr_caveat.specs.Caps.{cap_of, IsSound}
 use Rattle.sr_pass.specs.Passing.{passed, no_names}
 use Rattle.hub_machine.specs.State.{State}
 use Rattle.hub_machine.specs.Admission.{Admitting, admission, admitted}
 use Rattle.hub_machine.specs.Endings.{nameless, departed}
-use Rattle.hub_machine.specs.Machine.{opened, accepted, exporting, sent_event}
+use Rattle.hub_machine.specs.Machine.{is_barred, opened, accepted, exporting, sent_event}
 use Rattle.hub_valid.specs.Validity.{IsValid, IsValidEntry, IsValidAct, IsValidBatch, HoldsObjects}
 
 -- what a reference's caveats let pass holds references to no other actors' objects than those that were live
@@ -22,6 +24,12 @@ abbrev pub PassedIsValid : Type 0
 PassedIsValid =
     (n : ℕ) (x v w : Plain) (c : Cap) → cap_of x ≡ Some c → HoldsObjects n v → passed no_names c.caveats v ≡ Some w
     → HoldsObjects n w
+
+-- a reference is bound, which the machine takes
+abbrev pub BindingIsValid : Type 0
+BindingIsValid =
+    (b : Binding) (s : State) → IsSound b.cap → is_barred b s ≡ false → IsValid s
+    → IsValid (record s { world = binding b s.world })
 
 -- a connection comes, whose first object is a system actor's
 abbrev pub OpenedIsValid : Type 0

@@ -4,7 +4,8 @@ use Rattle.std.specs.List.{AllByRecursion}
 use Rattle.std.specs.Map.{values_of}
 use Rattle.pv_value.specs.Plain.{Plain}
 use Rattle.sr_caveat.specs.declared.caps.Cap.{Cap}
-use Rattle.sr_caveat.specs.Caps.{cap_of}
+use Rattle.sr_caveat.specs.Caps.{cap_of, IsSound}
+use Rattle.gk_sturdy.specs.declared.bound.Binding.{Binding}
 use Rattle.ac_table.specs.declared.batches.Row.{Row}
 use Rattle.ac_table.specs.declared.batches.Event.{Event}
 use Rattle.ac_table.specs.declared.batches.Event.TheVariants.{Assert, Retract, Message, Sync}
@@ -12,7 +13,7 @@ use Rattle.ac_table.specs.declared.batches.Batch.{Batch}
 use Rattle.ac_table.specs.Tables.{Actor}
 use Rattle.ac_world.specs.declared.acts.Act.{Act}
 use Rattle.ac_world.specs.declared.acts.Act.TheVariants as act
-use Rattle.ac_world.specs.Worlds.{WorldState, Seat, Deliveries}
+use Rattle.ac_world.specs.Worlds.{WorldState, Resident, Deliveries}
 use Rattle.ac_world.specs.declared.held.Held.{Held}
 use Rattle.rl_ports.specs.Ports.{PortsState}
 use Rattle.rl_wire.specs.Crossing.{held_in}
@@ -22,8 +23,8 @@ use Rattle.hub_machine.specs.declared.steps.Step.{Step}
 
 -- ---- objects and values
 
--- An object of an actor that is or was live. Of the system's actors those are the gatekeeper and the dataspaces, and each
--- has object 0 alone.
+-- An object of an actor that is or was live. Of the system's actors those are the gatekeeper and the dataspaces, and
+-- each has object 0 alone.
 abbrev pub IsObjectAt : ℕ → ℕ → ℕ → Type 0
 IsObjectAt n actor entity = (actor ≤ n) × (entity < 2 ^ 63) × (actor < 17 → (actor < 9) × (entity ≡ 0))
 
@@ -56,11 +57,11 @@ IsValidBatch n next b = AllByRecursion (IsValidEvent n next) b.events
 abbrev pub IsValidActor : ℕ → ℕ → Actor → Type 0
 IsValidActor n next x = AllByRecursion (IsValidBatch n next) x.inbox
 
--- what a dataspace has got
-abbrev pub IsValidSeat : ℕ → ℕ × Seat → Type 0
-IsValidSeat n e = AllByRecursion (HoldsObjects n) (values_of e.1.got)
+-- what a system actor has got
+abbrev pub IsValidResident : ℕ → ℕ × Resident → Type 0
+IsValidResident n e = AllByRecursion (HoldsObjects n) (values_of e.1.got)
 
--- what another actor has got
+-- what a connection has got
 abbrev pub IsValidDelivery : ℕ → ℕ × Held → Type 0
 IsValidDelivery n e = (e.1.entity < 2 ^ 63) × HoldsObjects n e.1.value
 
@@ -73,11 +74,16 @@ IsValidAct n (act.Retract h) = Unit {0}
 IsValidAct n (act.Message target entity v) = IsObjectAt n target entity × HoldsObjects n v
 IsValidAct n (act.Sync target entity peer) = IsObjectAt n target entity × IsObjectValue n peer
 
+-- what a binding gives is a reference that is read back, to such an object
+abbrev pub IsValidBinding : ℕ → Binding → Type 0
+IsValidBinding n b = IsSound b.cap × IsObject n b.cap
+
 pub record IsValidWorld (w : WorldState) : Type 0 where
   pub rows : AllByRecursion (IsValidRow (16 + w.opened) w.table.next) w.table.rows
   pub inboxes : AllByRecursion (IsValidActor (16 + w.opened) w.table.next) w.table.actors
-  pub got : AllByRecursion (IsValidSeat (16 + w.opened)) w.spaces
+  pub got : AllByRecursion (IsValidResident (16 + w.opened)) w.residents
   pub held : AllByRecursion (AreValidDeliveries (16 + w.opened)) w.held
+  pub bound : AllByRecursion (IsValidBinding (16 + w.opened)) w.bindings
 
 -- ---- the hub
 

@@ -2,14 +2,17 @@
 ghost use Rattle.std.specs.Prelude.{◌≡◌, [], ◌∷◌, codes, IfOk};
 ghost use Rattle.pv_value.specs.Plain.{symbol};
 ghost use Rattle.pv_words.specs.Words.{labelled, number as number_value};
-ghost use Rattle.row_asking.specs.Asking.{Asks, IsTurnAt, IsCause, assertions as assertions_of};
+ghost use Rattle.row_asking.specs.Asking.{Asks, AsksBinding, IsTurnAt, IsCause};
+ghost use Rattle.row_asking.specs.Asking.{assertions as assertions_of};
 ghost use Rattle.hub_machine.specs.declared.faults.Fault.TheVariants.{BadBytes};
 
+use gk_sturdy::Binding;
 use hub_machine::{Fault as Cause, Step};
 use pv_value::{Node, Value};
 use pv_words::{is_word, number_in, worded};
 use rl_packet::{Event, Packet, PacketFault, Turn, TurnEvent, packet_of};
 use row_cases::Fault;
+use sc_events::reference_to;
 use std::alloc::Global;
 
 /// What a case does, or what it asks.
@@ -62,6 +65,10 @@ fn asked_by_record(alloc: Global, word: &str, fields: &[Value]) -> Result<Asked,
             let turn = assertions(alloc, value, number(handle)?, small_number(count)?)?;
             Ok(Asked::Step(Step::Packet(small_number(connection)?, turn)))
         }
+        [oid, key, actor, caveats] if word == "bind" => {
+            let binding = binding(alloc, oid, key, actor, caveats)?;
+            Ok(Asked::Step(Step::Bind(binding)))
+        }
         _ => Err(Fault::Form("no step or question of so many fields")),
     }
 }
@@ -96,6 +103,28 @@ fn sent_by(alloc: Global, word: &str, connection: u32, what: &Value) -> Result<A
         "bad" => Ok(Asked::Step(Step::Bad(connection, cause_of(what)?))),
         _ => Err(Fault::Form("no step of this name")),
     }
+}
+
+/// What is bound: an oid, to a key and to the reference to an actor itself with these caveats.
+fn binding(
+    alloc: Global,
+    oid: &Value,
+    key: &Value,
+    actor: &Value,
+    caveats: &Value,
+) -> Result<Binding, Fault>
+    ensures { IfOk result (λ b. AsksBinding
+        (labelled (codes "bind") (oid.now ∷ key.now ∷ actor.now ∷ caveats.now ∷ [])) b) }
+{
+    let (Node::Bytes(key), Node::Seq(caveats)) = (&key.node, &caveats.node) else {
+        return Err(Fault::Form("no key, or no caveats"));
+    };
+    let actor = small_number(actor)?;
+    Ok(Binding {
+        oid: oid.copy()?,
+        key: key.copy()?,
+        cap: reference_to(alloc, actor, caveats.as_slice())?,
+    })
 }
 
 /// A turn as it stands on the wire.

@@ -13,11 +13,10 @@ use Rattle.row_asking.specs.Asking.{Asks}
 use Rattle.row_steps.specs.Hands.{Hand, first_hand}
 use Rattle.row_steps.specs.Stepping.{IsAnswered}
 use Rattle.row_asking.specs.declared.asking.Asked.{Asked}
-use Rattle.row_steps.specs.declared.machines.Answer.TheVariants.{Given}
 
 -- what the value asks is done or asked, and this is answered
 abbrev pub AnswersOnce : Plain → Plain → Hand → Hand → Type 0
-AnswersOnce asked wanted old new = (a : Asked) × Asks asked a × IsAnswered old a new (Given wanted)
+AnswersOnce asked wanted old new = (a : Asked) × Asks asked a × IsAnswered old a new wanted
 
 -- so often, one after another
 abbrev pub AnswersSo : ℕ → Plain → Plain → Hand → Hand → Type 0

@@ -1,7 +1,6 @@
 //! The machine that a row of steps is tried on.
-ghost use Rattle.std.specs.Prelude.{◌≡◌, None, IfOk};
+ghost use Rattle.std.specs.Prelude.{◌≡◌, IfOk};
 ghost use Rattle.rl_packet.specs.Holding.{held as held_by};
-ghost use Rattle.hub_machine.specs.Machine.{IsBuilt};
 ghost use Rattle.hub_outs.specs.Outs.{sent_of};
 ghost use Rattle.row_asking.specs.Replies.{holdings_value};
 ghost use Rattle.row_steps.specs.Hands.{first_hand, hand_of};
@@ -23,25 +22,6 @@ pub struct Machine {
     outs: Outs,
 }
 
-/// What comes of a case.
-#[derive(Drop)]
-pub enum Answer {
-    /// What is answered.
-    Given(Value),
-    /// The step isn't done, since a caller of the hub has to see that it isn't such a one.
-    Unfit(&'static str),
-}
-
-/// What a caller of the hub has to see to, where the step lacks it.
-fn unfit(step: &Step) -> Option<&'static str>
-    ensures { result ≡ None → IsBuilt step.now }
-{
-    match step {
-        Step::Arrive(space) if *space == 0 => Some("an arrival at the gatekeeper"),
-        _ => None,
-    }
-}
-
 impl Machine {
     /// A machine at its beginning.
     pub fn begin(alloc: Global) -> Result<Machine, NoMemory>
@@ -53,8 +33,8 @@ impl Machine {
         })
     }
 
-    /// The machine after a case, and what comes of that.
-    pub fn answer(self, alloc: Global, asked: Asked) -> Result<(Machine, Answer), NoMemory>
+    /// The machine after a case, and what is answered.
+    pub fn answer(self, alloc: Global, asked: Asked) -> Result<(Machine, Value), NoMemory>
         ensures { IfOk result (λ done.
             IsAnswered (hand_of self) asked (hand_of done.0) done.1) }
     {
@@ -65,7 +45,7 @@ impl Machine {
             Asked::Live(connection) => Value::boolean(self.hub.live(connection)),
             Asked::Holds(connection) => self.holdings(alloc, connection)?,
         };
-        Ok((self, Answer::Given(given)))
+        Ok((self, given))
     }
 
     /// What the peer of a connection holds by the packets that it was sent.
@@ -78,13 +58,10 @@ impl Machine {
     }
 
     /// The machine after a step, and its reply.
-    fn step(self, alloc: Global, step: Step) -> Result<(Machine, Answer), NoMemory>
+    fn step(self, alloc: Global, step: Step) -> Result<(Machine, Value), NoMemory>
         ensures { IfOk result (λ done.
             IsStepped (hand_of self) step (hand_of done.0) done.1) }
     {
-        if let Some(why) = unfit(&step) {
-            return Ok((self, Answer::Unfit(why)));
-        }
         let Machine { hub, mut outs } = self;
         let actor = turning(&step);
         let (hub, reply) = hub.step(alloc, step)?;
@@ -92,6 +69,6 @@ impl Machine {
         if let Reply::Sent(packet) = reply {
             outs.keep(actor, packet)?;
         }
-        Ok((Machine { hub, outs }, Answer::Given(given)))
+        Ok((Machine { hub, outs }, given))
     }
 }

@@ -6,9 +6,8 @@ ghost use Rattle.row_files.specs.Lines.{lines_of, is_case_line};
 ghost use Rattle.row_steps.specs.Hands.{Hand, first_hand, hand_of, hand_in};
 ghost use Rattle.row_steps.specs.Rows.{AnswersOnce, AnswersSo, IsJudged, LinesHold, FileHolds};
 ghost use Rattle.row_steps.specs.Rows.{case_told};
-ghost use Rattle.row_steps.specs.declared.machines.Answer.TheVariants as answered;
 
-use crate::machines::{Answer, Machine};
+use crate::machines::Machine;
 use pv_print::print;
 use pv_value::{NoMemory, Value};
 use row_asking::asked_of;
@@ -102,20 +101,19 @@ fn answer_once(
         → AnswersOnce case.now.asked case.now.wanted (hand_of machine) (hand_of done.0)) }
 {
     let asked = asked_of(alloc, &case.asked)?;
-    let (after, answer) = machine.answer(alloc, asked)?;
-    let difference = difference(alloc, &case.wanted, &answer)?;
+    let (after, given) = machine.answer(alloc, asked)?;
+    let difference = difference(alloc, &case.wanted, &given)?;
     Ok((after, difference))
 }
 
-/// What differs between what is wanted and what comes, none where nothing does.
-fn difference(alloc: Global, wanted: &Value, answer: &Answer) -> Result<Option<String>, Fault>
-    ensures { IfOk result (λ found. found ≡ None → answer.now ≡ answered.Given wanted.now) }
+/// What differs between what is wanted and what is given, none where nothing does.
+fn difference(alloc: Global, wanted: &Value, given: &Value) -> Result<Option<String>, Fault>
+    ensures { IfOk result (λ found. found ≡ None → given.now ≡ wanted.now) }
 {
-    match answer {
-        Answer::Given(given) if given == wanted => Ok(None),
-        Answer::Given(given) => Ok(Some(unlike(alloc, wanted, given)?)),
-        Answer::Unfit(why) => Ok(Some(String::from_str(alloc, why)?)),
+    if given == wanted {
+        return Ok(None);
     }
+    Ok(Some(unlike(alloc, wanted, given)?))
 }
 
 fn unlike(alloc: Global, wanted: &Value, given: &Value) -> Result<String, NoMemory> {

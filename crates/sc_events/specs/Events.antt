@@ -1,14 +1,19 @@
 -- The events of scripts, and the values that write them: records whose label is a symbol.
-use Rattle.std.specs.Prelude.{◌≡◌, ◌≢◌, ℕ, ◌^◌, zero, suc, pos, Bool, true, false, ◌&&◌, not, nat_lt, nat_le, List}
-use Rattle.std.specs.Prelude.{codes}
+use Rattle.std.specs.Prelude.{◌≡◌, ℕ, ◌^◌, zero, suc, pos, Bool, true, false, ◌&&◌, not, nat_lt, nat_le, List}
+use Rattle.std.specs.Prelude.{codes, ◌||◌}
 use Rattle.std.specs.Prelude.{Option, Some, None, is_some, option_map, if◌then◌else◌}
 use Rattle.pv_value.specs.Plain.{Plain, integer, string, byte_string, symbol, record_of, sequence, Plains, no_more}
 use Rattle.pv_value.specs.Plain.{then_more}
 use Rattle.pv_words.specs.Words.{is_word}
 use Rattle.dp_pattern.specs.Written.{pattern_of}
-use Rattle.sr_caveat.specs.Embedded.{has_embedded}
+use Rattle.pv_words.specs.Parts.{same}
+use Rattle.sr_caveat.specs.Caps.{Cap, IsSound, caveats_from}
+use Rattle.sr_caveat.specs.Embedded.{has_embedded, any_embedded}
+use Rattle.sr_caveat.specs.Spelled.{caveat_value}
+use Rattle.sr_caveat.specs.Written.{caveat_of}
+use Rattle.gk_sturdy.specs.declared.bound.Binding.{Binding}
 pub use Rattle.sc_events.specs.declared.events.ScriptEvent.{ScriptEvent}
-pub use Rattle.sc_events.specs.declared.events.ScriptEvent.TheVariants.{Open, Bytes, Close, Turn, Drain, LongDrain}
+pub use Rattle.sc_events.specs.declared.events.ScriptEvent.TheVariants.{Bind, Open, Bytes, Close, Turn, Drain, LongDrain}
 pub use Rattle.sc_events.specs.declared.events.ScriptEvent.TheVariants.{Schema, Unbuilt}
 
 -- ---- numbers
@@ -22,6 +27,10 @@ number_below bound v = None
 abbrev pub name_in : Plain → Option ℕ
 name_in v = number_below (2 ^ 32) v
 
+-- the gatekeeper, 0, or a dataspace
+abbrev pub arrival_in : Plain → Option ℕ
+arrival_in v = number_below 9 v
+
 -- a dataspace
 abbrev pub space_in : Plain → Option ℕ
 space_in (integer (pos (suc n))) = if nat_lt n 8 then Some (suc n) else None
@@ -29,10 +38,9 @@ space_in v = None
 
 -- ---- events with one field
 
--- `<open s>`; the gatekeeper, 0, isn't built
+-- `<open s>`
 abbrev pub open_event : Plain → Option ScriptEvent
-open_event (integer (pos zero)) = Some Unbuilt
-open_event v = option_map Open (space_in v)
+open_event v = option_map Open (arrival_in v)
 
 abbrev pub close_event : Plain → Option ScriptEvent
 close_event v = option_map Close (name_in v)
@@ -66,27 +74,36 @@ bytes_event v w = None
 abbrev pub event_of_two : List ℕ → Plain → Plain → Option ScriptEvent
 event_of_two word f g = if is_word word (codes "bytes") then bytes_event f g else None
 
--- ---- events with four, which aren't built
+-- ---- events with four
 
-abbrev pub is_byte_string : Plain → Bool
-is_byte_string (byte_string b) = true
-is_byte_string v = false
+-- a caveat has a guard: it is read otherwise where guards are unknown
+abbrev pub is_guarded : Plain → Bool
+is_guarded c = not (same (caveat_value (caveat_of true c)) (caveat_value (caveat_of false c)))
 
-abbrev pub is_sequence : Plain → Bool
-is_sequence (sequence xs) = true
-is_sequence v = false
+abbrev pub any_guarded : Plains → Bool
+any_guarded no_more = false
+any_guarded (then_more c cs) = is_guarded c || any_guarded cs
+
+-- the reference to an actor itself, with these caveats
+abbrev pub reference_to : ℕ → Plains → Cap
+reference_to actor cs = record { actor = actor; entity = 0; caveats = caveats_from cs }
+
+-- one with a guard isn't built
+abbrev pub bound_to : Plain → List ℕ → Plains → ℕ → ScriptEvent
+bound_to oid key cs space =
+    if any_guarded cs then Unbuilt else Bind (record { oid = oid; key = key; cap = reference_to space cs })
+
+-- `<bind oid key space caveats>`
+abbrev pub binding_event : Plain → Plain → Plain → Plain → Option ScriptEvent
+binding_event oid (byte_string key) space (sequence cs) =
+    if has_embedded oid || any_embedded cs then None else option_map (bound_to oid key cs) (space_in space)
+binding_event oid key space caveats = None
 
 abbrev pub is_symbol : Plain → Bool
 is_symbol (symbol s) = true
 is_symbol v = false
 
--- `<bind oid key space caveats>`
-abbrev pub is_binding : Plain → Plain → Plain → Plain → Bool
-is_binding oid key space caveats =
-    not (has_embedded oid) && is_byte_string key && is_some (space_in space) && is_sequence caveats
-    && not (has_embedded caveats)
-
--- `<watch from pattern to name>`
+-- `<watch from pattern to name>`, which isn't built
 abbrev pub is_watch : Plain → Plain → Plain → Plain → Bool
 is_watch from pattern to name =
     is_some (space_in from) && not (has_embedded pattern) && is_some (pattern_of pattern) && is_some (space_in to)
@@ -97,7 +114,7 @@ unbuilt_where b = if b then Some Unbuilt else None
 
 abbrev pub event_of_four : List ℕ → Plain → Plain → Plain → Plain → Option ScriptEvent
 event_of_four word f g h i =
-    if is_word word (codes "bind") then unbuilt_where (is_binding f g h i)
+    if is_word word (codes "bind") then binding_event f g h i
     else if is_word word (codes "watch") then unbuilt_where (is_watch f g h i) else None
 
 -- ---- the event that a value writes, where it writes one
@@ -112,6 +129,6 @@ abbrev pub event_of : Plain → Option ScriptEvent
 event_of (record_of (symbol word) fs) = event_of_record word fs
 event_of v = None
 
--- an event that opens a connection names a dataspace
-abbrev pub NamesASpace : ScriptEvent → Type 0
-NamesASpace e = (s : ℕ) → e ≡ Open s → s ≢ 0
+-- what the type of events keeps: a reference that is bound is one that is read back
+abbrev pub IsSoundEvent : ScriptEvent → Type 0
+IsSoundEvent e = (b : Binding) → e ≡ Bind b → IsSound b.cap

@@ -1,3 +1,3 @@
 -- Lemmas on the definitions, which proofs here and above cite. A reader of the contracts needs none of them.
-pub mod Opening
 pub mod Reading
+pub mod Sound

@@ -1,16 +1,18 @@
 //! The events of scripts, and the values that write them.
 ghost use Rattle.std.specs.Prelude.{◌≡◌, codes, IfOk, IfSome, option_map, ◌<◌, ◌^◌};
 ghost use Rattle.pv_value.specs.Plain.{plains};
-ghost use Rattle.sc_events.specs.Events.{number_below, name_in, space_in, open_event, close_event};
-ghost use Rattle.sc_events.specs.Events.{turn_event, drain_event, schema_event, event_of_one};
-ghost use Rattle.sc_events.specs.Events.{bytes_event, event_of_two, is_byte_string, is_sequence};
-ghost use Rattle.sc_events.specs.Events.{is_symbol, is_binding, is_watch, unbuilt_where};
-ghost use Rattle.sc_events.specs.Events.{event_of_four, event_of_record, event_of};
+ghost use Rattle.sc_events.specs.Events.{number_below, name_in, arrival_in, space_in, open_event};
+ghost use Rattle.sc_events.specs.Events.{close_event, turn_event, drain_event, schema_event};
+ghost use Rattle.sc_events.specs.Events.{event_of_one, bytes_event, event_of_two, is_guarded};
+ghost use Rattle.sc_events.specs.Events.{any_guarded, reference_to, bound_to, binding_event};
+ghost use Rattle.sc_events.specs.Events.{is_symbol, is_watch, unbuilt_where, event_of_four};
+ghost use Rattle.sc_events.specs.Events.{event_of_record, event_of};
 
 use dp_pattern::parse;
+use gk_sturdy::Binding;
 use pv_value::{Blob, NoMemory, Node, Text, Value};
 use pv_words::worded;
-use sr_caveat::has_embedded;
+use sr_caveat::{Cap, Caveats, has_embedded, parse_caveat};
 use std::alloc::Global;
 
 /// Dataspaces have the numbers from 1 to this.
@@ -22,7 +24,9 @@ const DRAIN_TURNS: i128 = 1_000_000;
 /// An event of a script.
 #[derive(Drop)]
 pub enum ScriptEvent {
-    /// A connection comes, to this dataspace.
+    /// An oid is bound.
+    Bind(Binding),
+    /// A connection comes, to the gatekeeper, for 0, or to this dataspace.
     Open(u8),
     /// Bytes of a connection come.
     Bytes(u32, Blob),
@@ -36,7 +40,7 @@ pub enum ScriptEvent {
     LongDrain,
     /// The schema of all guards, which isn't built; it may stand first alone.
     Schema,
-    /// A binding, a watcher, or a connection to the gatekeeper, which aren't built.
+    /// A binding with a guard, or a watcher, which aren't built.
     Unbuilt,
 }
 
@@ -46,6 +50,16 @@ fn name_in(value: &Value) -> Option<u32>
 {
     match &value.node {
         Node::Int(n) if *n >= 0 && *n < 1 << 32 => Some(*n as u32),
+        _ => None,
+    }
+}
+
+/// The number of the gatekeeper or of a dataspace.
+fn arrival_in(value: &Value) -> Option<u8>
+    ensures { result ≡ arrival_in value.now }
+{
+    match &value.node {
+        Node::Int(n) if *n >= 0 && *n <= DATASPACES => Some(*n as u8),
         _ => None,
     }
 }
@@ -63,10 +77,7 @@ fn space_in(value: &Value) -> Option<u8>
 fn open_event(value: &Value) -> Option<ScriptEvent>
     ensures { result ≡ open_event value.now }
 {
-    match &value.node {
-        Node::Int(0) => Some(ScriptEvent::Unbuilt),
-        _ => Some(ScriptEvent::Open(space_in(value)?)),
-    }
+    Some(ScriptEvent::Open(arrival_in(value)?))
 }
 
 fn close_event(value: &Value) -> Option<ScriptEvent>
@@ -137,33 +148,87 @@ fn event_of_two(word: &Text, first: &Value, second: &Value) -> Result<Option<Scr
     }
 }
 
-fn is_byte_string(value: &Value) -> bool
-    ensures { result ≡ is_byte_string value.now }
+/// Whether one of the caveats has a guard.
+fn any_guarded(alloc: Global, caveats: &[Value]) -> Result<bool, NoMemory>
+    ensures { IfOk result (λ b. b ≡ any_guarded (plains caveats.now)) }
 {
-    matches!(&value.node, Node::Bytes(_))
+    for caveat in caveats {
+        if is_guarded(alloc, caveat)? {
+            return Ok(true);
+        }
+    }
+    Ok(false)
 }
 
-fn is_sequence(value: &Value) -> bool
-    ensures { result ≡ is_sequence value.now }
+/// Whether a caveat has a guard: then it is read otherwise where guards are unknown.
+fn is_guarded(alloc: Global, caveat: &Value) -> Result<bool, NoMemory>
+    ensures { IfOk result (λ b. b ≡ is_guarded caveat.now) }
 {
-    matches!(&value.node, Node::Seq(_))
+    let own = parse_caveat(alloc, caveat, true)?.to_value(alloc)?;
+    let other = parse_caveat(alloc, caveat, false)?.to_value(alloc)?;
+    Ok(own != other)
+}
+
+/// The reference to an actor itself, with these caveats, each read as one of the server's own.
+pub fn reference_to(alloc: Global, actor: u32, caveats: &[Value]) -> Result<Cap, NoMemory>
+    ensures { IfOk result (λ c. c ≡ reference_to actor (plains caveats.now)) }
+{
+    let mut own = Vec::new(alloc);
+    for caveat in caveats {
+        own.push(parse_caveat(alloc, caveat, true)?)?;
+    }
+    Ok(Cap {
+        actor,
+        entity: 0,
+        caveats: Caveats::from_vec(alloc, own)?,
+    })
+}
+
+/// `<bind oid key space caveats>` with these parts.
+fn bound_to(
+    alloc: Global,
+    oid: &Value,
+    key: &Blob,
+    caveats: &[Value],
+    space: u8,
+) -> Result<ScriptEvent, NoMemory>
+    ensures { IfOk result (λ e. e ≡ bound_to oid.now key.now (plains caveats.now) space) }
+{
+    if any_guarded(alloc, caveats)? {
+        return Ok(ScriptEvent::Unbuilt);
+    }
+    Ok(ScriptEvent::Bind(Binding {
+        oid: oid.copy()?,
+        key: key.copy()?,
+        cap: reference_to(alloc, u32::from(space), caveats)?,
+    }))
+}
+
+fn binding_event(
+    alloc: Global,
+    oid: &Value,
+    key: &Value,
+    space: &Value,
+    caveats: &Value,
+) -> Result<Option<ScriptEvent>, NoMemory>
+    ensures { IfOk result (λ e. e ≡ binding_event oid.now key.now space.now caveats.now) }
+{
+    let (Node::Bytes(key), Node::Seq(items)) = (&key.node, &caveats.node) else {
+        return Ok(None);
+    };
+    if has_embedded(oid) || has_embedded(caveats) {
+        return Ok(None);
+    }
+    match space_in(space) {
+        Some(space) => Ok(Some(bound_to(alloc, oid, key, items.as_slice(), space)?)),
+        None => Ok(None),
+    }
 }
 
 fn is_symbol(value: &Value) -> bool
     ensures { result ≡ is_symbol value.now }
 {
     matches!(&value.node, Node::Sym(_))
-}
-
-/// Whether `<bind oid key space caveats>` with these fields is well formed.
-fn is_binding(oid: &Value, key: &Value, space: &Value, caveats: &Value) -> bool
-    ensures { result ≡ is_binding oid.now key.now space.now caveats.now }
-{
-    !has_embedded(oid)
-        && is_byte_string(key)
-        && space_in(space).is_some()
-        && is_sequence(caveats)
-        && !has_embedded(caveats)
 }
 
 /// Whether `<watch from pattern to name>` with these fields is well formed.
@@ -206,7 +271,7 @@ fn event_of_four(
         ≡ event_of_four word.now first.now second.now third.now fourth.now) }
 {
     match word.as_str() {
-        "bind" => Ok(unbuilt_where(is_binding(first, second, third, fourth))),
+        "bind" => binding_event(alloc, first, second, third, fourth),
         "watch" => Ok(unbuilt_where(is_watch(alloc, first, second, third, fourth)?)),
         _ => Ok(None),
     }

@@ -9,6 +9,6 @@ mod events;
 mod inputs;
 mod laws;
 
-pub use events::{ScriptEvent, event_of};
+pub use events::{ScriptEvent, event_of, reference_to};
 pub use inputs::{Form, INPUT_BYTES, NextFault, Values};
 pub use laws::one_reading;

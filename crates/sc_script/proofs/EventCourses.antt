@@ -1,11 +1,12 @@
--- The course of an event, where its test holds: that of the bytes, of the step or of the turn that it is.
+-- The course of an event, where its test holds: that of the binding, of the bytes, of the step or of the turn that it is.
 use Rattle.std.proofs.Common.{◌≡◌, ℕ, Bool, true, List, sym, ap, ◌∙◌, if◌then◌else◌}
 use Rattle.rl_stream.specs.Nexts.{Decider}
+use Rattle.gk_sturdy.specs.declared.bound.Binding.{Binding}
 use Rattle.hub_machine.specs.declared.steps.Step.TheVariants as step
 use Rattle.sc_events.specs.declared.events.ScriptEvent.{ScriptEvent}
-use Rattle.sc_events.specs.declared.events.ScriptEvent.TheVariants.{Open, Bytes, Close, Turn, Drain}
+use Rattle.sc_events.specs.declared.events.ScriptEvent.TheVariants.{Bind, Open, Bytes, Close, Turn, Drain}
 use Rattle.sc_script.specs.Runs.{Running, Course, stops, bad, stepped, turned, drained, bytes_come, was_opened}
-use Rattle.sc_script.specs.Runs.{may_turn, after_event}
+use Rattle.sc_script.specs.Runs.{may_turn, binds, after_event}
 use Rattle.sc_script.specs.Keeping.{RunState, IsAt}
 
 -- the event runs as this part does, from where the run is
@@ -22,6 +23,9 @@ where_so n b c is = ap (λ x. if x then c else stops (bad n)) is
 module _ (s : RunState) (n : ℕ) (e : ScriptEvent) where
   same_event : (f : ScriptEvent) (N : Decider) (r : Running) → e ≡ f → after_event N n f r ≡ after_event N n e r
   same_event f N r is = ap (λ x. after_event N n x r) (sym is)
+
+  pub bind_part : (b : Binding) → e ≡ Bind b → IsPart s n e (λ N. binds n b)
+  bind_part b is N r at = same_event (Bind b) N r is
 
   pub open_part : (space : ℕ) → e ≡ Open space → IsPart s n e (λ N. stepped (step.Arrive space))
   open_part space is N r at = same_event (Open space) N r is

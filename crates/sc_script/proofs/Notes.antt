@@ -9,6 +9,6 @@ pub noted_by : (a : Option ℕ) (p : Packet) (s now : RunState) → now.state �
 noted_by a p s now by_state by_outs by_size by_streams =
     λ i. record { state = by_state i; outs = by_outs i; size = by_size i; streams = by_streams i }
 
-pub sum_of : {a b m n sum : ℕ} → a ≡ b → m ≡ n → sum ≡ min (a + m) 18446744073709551615 → sum ≤ 268435456
-    → sum ≡ b + n
-sum_of before one is few = omega arith
+pub sum_of : {a b m sum : ℕ} (n : ℕ) → a ≡ b → m ≡ min n 18446744073709551615 → sum ≡ min (a + m) 18446744073709551615
+    → sum ≤ 268435456 → sum ≡ b + n
+sum_of n before one is few = omega arith

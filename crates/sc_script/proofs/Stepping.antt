@@ -1,19 +1,22 @@
--- A step of a run, by its reply: the run goes on from what is kept behind it, or sends too much.
+-- A step of a run, by its reply: the run goes on from what is kept behind it, or sends too much, or binds what is barred.
 use Rattle.std.proofs.Common.{◌≡◌, ℕ, ◌+◌, ◌≤◌, ◌<◌, true, false, [], ◌∷◌, ◌++◌, refl, sym, ap, ◌∙◌, subst}
-use Rattle.std.proofs.Common.{append-nil, arith, nat_lt, length, if◌then◌else◌, Option}
+use Rattle.std.proofs.Common.{append-nil, arith, nat_lt, length, if◌then◌else◌, Bool, Option}
 use Rattle.std.proofs.lemmas.Bool.Decides.{nat_tests}
 use Rattle.pv_binary.specs.Written.{written}
 use Rattle.rl_packet.specs.Packets.{packet_value}
 use Rattle.rl_packet.specs.declared.packets.Packet.{Packet}
-use Rattle.hub_machine.specs.Machine.{step, IsAllowed}
+use Rattle.gk_sturdy.specs.declared.bound.Binding.{Binding}
+use Rattle.hub_machine.specs.State.{State}
+use Rattle.hub_machine.specs.Machine.{step, is_worn, is_barred, bind_unless, unchanged, IsAllowed}
 use Rattle.hub_machine.specs.Replays.{packet_in, sent_by}
 use Rattle.hub_machine.specs.declared.steps.Step.{Step}
+use Rattle.hub_machine.specs.declared.steps.Step.TheVariants.{Bind}
 use Rattle.hub_machine.specs.declared.steps.Reply.{Reply}
 use Rattle.hub_machine.specs.declared.steps.Reply.TheVariants.{Worn, Barred, Halted, Full, Opened, Gone, Refused, Idle}
 use Rattle.hub_machine.specs.declared.steps.Reply.TheVariants.{Sent, Ran, Taken}
 use Rattle.sc_script.specs.declared.faults.ScriptFault.{ScriptFault}
 use Rattle.sc_script.specs.declared.faults.ScriptFault.TheVariants as fault
-use Rattle.sc_script.specs.Runs.{Running, Course, goes, stops, limit, by_reply, stepped, with_step}
+use Rattle.sc_script.specs.Runs.{Running, Course, goes, stops, limit, by_reply, stepped, with_step, bound_by, binds}
 use Rattle.sc_script.specs.Keeping.{RunState}
 use Rattle.hub_outs.specs.Outs.{sent_of, kept, turning}
 use Rattle.sc_script.specs.Runs.{unless_too_much, sent_size}
@@ -78,15 +81,21 @@ stops_sending e r s p at is many =
 
 module _ (e : Step) (r : Running) (s now : RunState) (at : IsAt r s) (may : IsAllowed s.state e)
     (is_state : now.state ≡ (step s.state e).state) where
-  pub goes_quietly : (reply : Reply) → reply ≡ (step s.state e).reply → IsQuiet reply → now.outs ≡ s.outs
-      → now.size ≡ s.size → now.streams ≡ s.streams → HasRun (stepped e r) now
-  goes_quietly reply is none is_outs is_size is_streams =
-      let nothing : packet_in (step s.state e).reply ≡ [] = ap packet_in (sym is) ∙ none.1 in
-      subst (λ c. HasRun c now) (sym (by_the_reply e r s reply at is ∙ none.0 (with_step e r)))
+  -- a course that goes on behind the step, which sends nothing
+  pub goes_silently : (course : Course) → course ≡ goes (with_step e r) → packet_in (step s.state e).reply ≡ []
+      → now.outs ≡ s.outs → now.size ≡ s.size → now.streams ≡ s.streams → HasRun course now
+  goes_silently course on nothing is_outs is_size is_streams =
+      subst (λ c. HasRun c now) (sym on)
       (at_more r e s now at may is_state
       (λ k. ap (sent_of k) is_outs ∙ sym (append-nil (sent_of k s.outs))
       ∙ ap (λ ps. sent_of k s.outs ++ ps) (sym (none_sent e k (step s.state e).reply nothing)))
       (sum_none is_size (ap bytes_of nothing)) is_streams)
+
+  pub goes_quietly : (reply : Reply) → reply ≡ (step s.state e).reply → IsQuiet reply → now.outs ≡ s.outs
+      → now.size ≡ s.size → now.streams ≡ s.streams → HasRun (stepped e r) now
+  goes_quietly reply is none is_outs is_size is_streams =
+      goes_silently (stepped e r) (by_the_reply e r s reply at is ∙ none.0 (with_step e r))
+      (ap packet_in (sym is) ∙ none.1) is_outs is_size is_streams
 
   pub goes_sending : (p : Packet) → (step s.state e).reply ≡ Sent p → now.outs ≡ kept (turning e) p s.outs
       → now.size ≡ s.size + size_of p → now.streams ≡ s.streams → now.size ≤ 268435456 → HasRun (stepped e r) now
@@ -111,6 +120,50 @@ goes_noted e r s before now p a at may is who is_state is_outs is_size is_stream
     ap (λ (x : RunState). x.size) is ∙ ap (λ n. n + size_of p) is_size in
     let streams : now.streams ≡ s.streams = ap (λ (x : RunState). x.streams) is ∙ is_streams in
     goes_sending e r s now at may state p sent outs size streams few
+
+-- ---- a binding
+
+-- a binding may be answered so
+abbrev IsSaid : Reply → Type 0
+IsSaid Worn = Unit {0}
+IsSaid Barred = Unit {0}
+IsSaid Taken = Unit {0}
+IsSaid reply = ⊥
+
+said_by : (worn barred : Bool) (b : Binding) (s : State)
+    → IsSaid (if worn then unchanged s Worn else bind_unless barred b s).reply
+said_by true barred b s = tt
+said_by false true b s = tt
+said_by false false b s = tt
+
+said : (b : Binding) (s : State) → IsSaid (step s (Bind b)).reply
+said b s = said_by (is_worn s (Bind b)) (is_barred b s) b s
+
+abbrev IsQuietlyBound : ℕ → Reply → Type 0
+IsQuietlyBound n reply = ((r : Running) → bound_by n reply r ≡ goes r) × (packet_in reply ≡ [])
+
+bound_quietly : (n : ℕ) (reply : Reply) → IsSaid reply → (reply ≡ Worn → ⊥) → (reply ≡ Barred → ⊥)
+    → IsQuietlyBound n reply
+bound_quietly n Worn so worn barred = absurd (worn refl)
+bound_quietly n Barred so worn barred = absurd (barred refl)
+bound_quietly n Taken so worn barred = (λ r. refl, refl)
+bound_quietly n reply so worn barred = absurd so
+
+-- the reply is that of the run
+pub bound_by_the_reply : (n : ℕ) (b : Binding) (r : Running) (s : RunState) (reply : Reply) → IsAt r s
+    → reply ≡ (step s.state (Bind b)).reply → binds n b r ≡ bound_by n reply (with_step (Bind b) r)
+bound_by_the_reply n b r s reply at is =
+    ap (λ x. bound_by n x (with_step (Bind b) r)) (sym (is ∙ ap (λ t. (step t (Bind b)).reply) at.state))
+
+pub goes_bound : (n : ℕ) (b : Binding) (r : Running) (s now : RunState) (reply : Reply) → IsAt r s
+    → IsAllowed s.state (Bind b) → now.state ≡ (step s.state (Bind b)).state
+    → reply ≡ (step s.state (Bind b)).reply → (reply ≡ Worn → ⊥) → (reply ≡ Barred → ⊥) → now.outs ≡ s.outs
+    → now.size ≡ s.size → now.streams ≡ s.streams → HasRun (binds n b r) now
+goes_bound n b r s now reply at may is_state is worn barred is_outs is_size is_streams =
+    let none = bound_quietly n reply (subst IsSaid (sym is) (said b s.state)) worn barred in
+    goes_silently (Bind b) r s now at may is_state (binds n b r)
+    (bound_by_the_reply n b r s reply at is ∙ none.0 (with_step (Bind b) r)) (ap packet_in (sym is) ∙ none.1) is_outs
+    is_size is_streams
 
 -- ---- what a fault tells
 

@@ -4,6 +4,7 @@ use Rattle.std.specs.Prelude.{nat_le, Option, Some, None, unwrap_or, if◌then�
 use Rattle.std.specs.List.{flat_map}
 use Rattle.pv_value.specs.Plain.{Plain}
 use Rattle.pv_binary.specs.Written.{written}
+use Rattle.gk_sturdy.specs.declared.bound.Binding.{Binding}
 use Rattle.ac_world.specs.Worlds.{entry_of, with_entry, without_entry}
 use Rattle.rl_packet.specs.Packets.{packet_value}
 use Rattle.rl_packet.specs.declared.packets.Packet.{Packet}
@@ -22,8 +23,8 @@ use Rattle.hub_machine.specs.declared.steps.Reply.{Reply}
 use Rattle.hub_machine.specs.declared.steps.Reply.TheVariants as reply
 use Rattle.sc_events.specs.Events.{event_of}
 use Rattle.sc_events.specs.declared.events.ScriptEvent.{ScriptEvent}
-use Rattle.sc_events.specs.declared.events.ScriptEvent.TheVariants.{Open, Bytes, Close, Turn, Drain, LongDrain, Schema}
-use Rattle.sc_events.specs.declared.events.ScriptEvent.TheVariants.{Unbuilt}
+use Rattle.sc_events.specs.declared.events.ScriptEvent.TheVariants.{Bind, Open, Bytes, Close, Turn, Drain, LongDrain}
+use Rattle.sc_events.specs.declared.events.ScriptEvent.TheVariants.{Schema, Unbuilt}
 use Rattle.sc_script.specs.declared.faults.ScriptFault.{ScriptFault}
 use Rattle.sc_script.specs.declared.faults.ScriptFault.TheVariants as script
 
@@ -34,8 +35,8 @@ pub record Running : Type 0 where
   pub steps : List Step
   pub streams : List (ℕ × StreamState)
 
--- value n is malformed, is no event, or names a connection that was never opened; limit w is passed; or in event n what
--- isn't built yet would be done
+-- value n is malformed, is no event, names a connection that was never opened, or binds what can't be bound; limit w is
+-- passed; or in event n what isn't built yet would be done
 pub data Cause : Type 0 where
   bad : (n : ℕ) → Cause
   limit : (w : ℕ) → Cause
@@ -152,6 +153,14 @@ bytes_come N k b r =
 
 -- ---- events
 
+-- a reference is bound; the event is bad where that is barred
+abbrev pub bound_by : ℕ → Reply → Running → Course
+bound_by n reply.Barred r = stops (bad n)
+bound_by n answer r = by_reply answer r
+
+abbrev pub binds : ℕ → Binding → Running → Course
+binds n b r = bound_by n (step_of (state_of r) (step.Bind b)).reply (with_step (step.Bind b) r)
+
 -- whether a connection was ever opened
 abbrev pub was_opened : ℕ → Running → Bool
 was_opened k r = nat_le 1 k && nat_le k (state_of r).world.opened
@@ -161,6 +170,7 @@ abbrev pub may_turn : ℕ → Running → Bool
 may_turn a r = nat_le a 16 || was_opened (a - 16) r
 
 abbrev pub after_event : Decider → ℕ → ScriptEvent → Running → Course
+after_event N n (Bind b) r = binds n b r
 after_event N n (Open s) r = stepped (step.Arrive s) r
 after_event N n (Bytes k b) r = if was_opened k r then bytes_come N k b r else stops (bad n)
 after_event N n (Close k) r = if was_opened k r then stepped (step.Close k) r else stops (bad n)

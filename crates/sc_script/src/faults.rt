@@ -8,8 +8,8 @@ use thiserror::Error;
 /// Why an input has no report: the first cause.
 #[derive(Clone, Copy, Debug, PartialEq, Eq, Error)]
 pub enum ScriptFault {
-    /// Value n, counted from 0, is malformed, is no event, or names a connection that was never
-    /// opened.
+    /// Value n, counted from 0, is malformed, is no event, names a connection that was never
+    /// opened, or binds what can't be bound.
     #[error("bad value {0}")]
     Bad(u64),
     /// A limit is passed: 1, the bytes of the input; 2, live connections; 3, turns of a drain;

@@ -1,21 +1,25 @@
 //! Runs of scripts, over any body of a dataspace.
-ghost use Rattle.std.specs.Prelude.{◌≡◌, ◌≢◌, ◌+◌, ◌<◌, ◌≤◌, ℕ, IfOk, IfErr, IfSome};
+ghost use Rattle.std.specs.Prelude.{◌≡◌, ◌≢◌, ◌+◌, ◌-◌, ◌^◌, ◌<◌, ◌≤◌, ℕ, min};
+ghost use Rattle.std.specs.Prelude.{IfOk, IfErr, IfSome};
 ghost use Rattle.rl_stream.specs.Nexts.{Decider, Decides};
 ghost use Rattle.hub_machine.specs.Machine.{IsAllowed};
 ghost use Rattle.hub_machine.specs.declared.steps.Step.TheVariants as steps;
 ghost use Rattle.hub_outs.specs.Outs.{turning};
-ghost use Rattle.sc_events.specs.Events.{event_of, NamesASpace};
+ghost use Rattle.sr_caveat.specs.Caps.{IsSound};
+ghost use Rattle.sc_events.specs.Events.{event_of, IsSoundEvent};
 ghost use Rattle.sc_script.specs.declared.faults.ScriptFault.TheVariants as fault;
 ghost use Rattle.sc_script.specs.Runs.{Running, Course, goes, beginning, stepped, turned, drained};
 ghost use Rattle.sc_script.specs.Runs.{with_stream, with_no_packet, packets_read, bytes_come};
-ghost use Rattle.sc_script.specs.Runs.{was_opened, may_turn, after_event, after_value, with_packet};
+ghost use Rattle.sc_script.specs.Runs.{binds, was_opened, may_turn, after_event, after_value, with_packet};
 ghost use Rattle.sc_script.specs.Keeping.{size_of, noted, IsAt, RunsAs, StopsAs, ReadsOn};
 
 use crate::faults::ScriptFault;
+use ac_world::BEFORE_CONNECTIONS;
 use ds_space::Space;
+use gk_sturdy::Binding;
 use hub_core::{Fault, Hub, Reply, Step};
 use hub_outs::{Outs, turning};
-use pv_binary::write_into;
+use pv_canon::{canon_len, canonical_is_exact};
 use pv_value::{NoMemory, Value};
 use rl_packet::{Packet, Turn, packet_value};
 use rl_stream::{Next, Stream};
@@ -23,9 +27,6 @@ use sc_events::{ScriptEvent, event_of};
 use sc_streams::Streams;
 use std::alloc::Global;
 use std::marker::Model;
-
-/// Connection k is actor 16 + k.
-const BEFORE_CONNECTIONS: u32 = 16;
 
 /// The most bytes that a run sends.
 const SENT_BYTES: u64 = 268_435_456;
@@ -42,11 +43,12 @@ pub(crate) struct Run<S: Space + Drop> {
 impl<S: Space + Drop> Model for Run<S> {
     ghost use Rattle.std.specs.Coded.{codes};
     ghost use Rattle.pv_value.specs.Lemmas.Coded.{plain_code};
+    ghost use Rattle.sr_caveat.specs.Lemmas.Coded.{caveat_code};
     ghost use Rattle.sc_script.specs.Keeping.{RunState};
 
     ghost Value = { RunState };
 
-    ghost coded = { Prim.hlevel (codes, plain_code) };
+    ghost coded = { Prim.hlevel (codes, plain_code, caveat_code) };
 
     ghost view = { λ r. record {
       state = r.hub;
@@ -60,14 +62,14 @@ impl<S: Space + Drop> Model for Run<S> {
     ghost invariant = { λ r. r.size ≤ 268435456 };
 }
 
-/// How many bytes a packet has on the wire.
-fn size_of(alloc: Global, packet: &Packet) -> Result<usize, NoMemory>
-    ensures { IfOk result (λ n. n ≡ size_of packet.now) }
+/// How many bytes a packet has on the wire, of which none is made. It stops at `u64::MAX`.
+fn size_of(alloc: Global, packet: &Packet) -> Result<u64, NoMemory>
+    ensures { IfOk result (λ n. n ≡ min (size_of packet.now) (2 ^ 64 - 1)) }
 {
+    // the canonical form is as long as what is written
+    canonical_is_exact();
     let value = packet_value(alloc, packet)?;
-    let mut bytes = Vec::new(alloc);
-    write_into(&mut bytes, &value)?;
-    Ok(bytes.len())
+    Ok(canon_len(&value))
 }
 
 impl<S: Space + Drop> Run<S> {
@@ -96,7 +98,7 @@ impl<S: Space + Drop> Run<S> {
             size,
             streams,
         } = self;
-        let size = size.saturating_add(size_of(alloc, &packet)? as u64);
+        let size = size.saturating_add(size_of(alloc, &packet)?);
         if size > SENT_BYTES {
             return Err(ScriptFault::Limit(4));
         }
@@ -107,6 +109,31 @@ impl<S: Space + Drop> Run<S> {
             size,
             streams,
         })
+    }
+
+    /// Event `place` binds a reference, and is bad where that is barred.
+    fn bind(self, alloc: Global, place: u64, binding: Binding) -> Result<Run<S>, ScriptFault>
+        requires { IsSound binding.cap }
+        ensures run { IfOk result (RunsAs self (λ N. binds place binding)) }
+        ensures stop { IfErr result (StopsAs self (λ N. binds place binding)) }
+    {
+        let Run {
+            hub,
+            outs,
+            size,
+            streams,
+        } = self;
+        let (hub, reply) = hub.step(alloc, Step::Bind(binding))?;
+        match reply {
+            Reply::Worn => Err(ScriptFault::Limit(5)),
+            Reply::Barred => Err(ScriptFault::Bad(place)),
+            _ => Ok(Run {
+                hub,
+                outs,
+                size,
+                streams,
+            }),
+        }
     }
 
     /// A step, whose condition is seen to.
@@ -319,11 +346,12 @@ impl<S: Space + Drop> Run<S> {
 
     /// Event `place` of a script.
     fn event(self, alloc: Global, place: u64, event: ScriptEvent) -> Result<Run<S>, ScriptFault>
-        requires { NamesASpace event }
+        requires { IsSoundEvent event }
         ensures run { IfOk result (RunsAs self (λ N. after_event N place event)) }
         ensures stop { IfErr result (StopsAs self (λ N. after_event N place event)) }
     {
         match event {
+            ScriptEvent::Bind(binding) => self.bind(alloc, place, binding),
             ScriptEvent::Open(space) => self.step(alloc, Step::Arrive(space)),
             ScriptEvent::Bytes(connection, bytes) if self.was_opened(connection) => {
                 self.bytes(alloc, connection, bytes.as_slice())

@@ -1,7 +1,7 @@
 //! The hub as a value that a gate holds.
 ghost use Rattle.std.specs.Prelude.{◌≡◌, IfOk};
 ghost use Rattle.hub_machine.specs.State.{opening};
-ghost use Rattle.hub_machine.specs.Machine.{IsAllowed, IsBuilt};
+ghost use Rattle.hub_machine.specs.Machine.{IsAllowed};
 ghost use Rattle.srv_session.specs.Allowed.{allowed_once};
 
 use ds_space::Space;
@@ -9,8 +9,8 @@ use hub_core::{Hub, Reply, Step};
 use std::alloc::Global;
 use turn_gate::{NoMemory, Replayed};
 
-/// A step that may come: one that is built, and of a packet's events only such as may stand on the
-/// wire.
+/// A step that may come: a reference that it binds is one that is read back, and the events of a
+/// packet may stand on the wire.
 #[derive(Drop)]
 pub struct ServedStep {
     pub step: Step,
@@ -18,14 +18,16 @@ pub struct ServedStep {
 }
 
 impl ServedStep {
-    /// The step, of which the type `Step` keeps the rest.
+    /// The step, of whose parts their types keep this.
     pub fn new(step: Step) -> ServedStep
-        requires { IsBuilt step }
         ensures { result.step ≡ step }
     {
         match step {
             Step::Packet(connection, turn) => ServedStep {
                 step: Step::Packet(connection, turn),
+            },
+            Step::Bind(binding) => ServedStep {
+                step: Step::Bind(binding),
             },
             step => ServedStep { step },
         }

@@ -9,7 +9,7 @@ use Rattle.sr_caveat.specs.declared.caps.Cap.{Cap}
 use Rattle.ac_table.specs.declared.batches.Batch.{Batch}
 use Rattle.ac_table.specs.Tables.{Actor, first_batch, first_in, find_actor, is_live, popped, with_inbox}
 use Rattle.ac_world.specs.declared.sums.Load.{Load}
-use Rattle.ac_world.specs.Worlds.{WorldState, is_system, is_space, actor_of}
+use Rattle.ac_world.specs.Worlds.{WorldState, is_system, actor_of}
 use Rattle.ac_world.specs.Sums.{top}
 use Rattle.ac_world.specs.Turns.{After as TurnOf, turn, turn_with, connection_turn}
 use Rattle.rl_packet.specs.declared.packets.Event.{Event}
@@ -28,7 +28,7 @@ use Rattle.hub_machine.specs.Machine.{step, unchanged, packet_at, judged, turn_o
 use Rattle.hub_machine.specs.Machine.{telling_fault}
 use Rattle.hub_machine.specs.Endings.{nameless}
 use Rattle.hub_machine.specs.declared.steps.Step.{Step}
-use Rattle.hub_machine.specs.declared.steps.Step.TheVariants.{Arrive, Packet, Bad, Close, Turn, Work, Stop}
+use Rattle.hub_machine.specs.declared.steps.Step.TheVariants.{Bind, Arrive, Packet, Bad, Close, Turn, Work, Stop}
 use Rattle.hub_machine.specs.declared.steps.Reply.{Reply}
 use Rattle.hub_machine.specs.declared.steps.Reply.TheVariants.{Worn, Taken}
 use Rattle.hub_machine.specs.Completeness.{IsLight, MayWait, IsFineValue, IsFineRow, IsFineAssertion, IsFineMessage}
@@ -173,22 +173,21 @@ turn_reply : (a : ℕ) (s : State) (b : Batch) → first_batch a s.world.table �
     → IsTurnReply (is_system a) a b s (turn_of a s).reply
 turn_reply a s b is =
     subst (λ (t : TurnOf). IsTurnReply (is_system a) a b s (after_turn a t.turned (record s { world = t.world })).reply)
-    (sym (turn_is a s b is)) (by (is_space a) (is_system a) refl refl)
+    (sym (turn_is a s b is)) (by (is_system a) refl)
   where
     w : WorldState
     w = record s.world { table = popped a s.world.table }
 
-    by : (x y : Bool) → is_space a ≡ x → is_system a ≡ y
+    by : (y : Bool) → is_system a ≡ y
         → IsTurnReply y a b s
         (after_turn a (turn_with a b w).turned (record s { world = (turn_with a b w).world })).reply
-    by true true p q = rw p refl
-    by true false p q = absurd (grind (arith, nat_tests, p, q))
-    by false true p q = rw (p, q) refl
-    by false false p q = rw (p, q) (told_after (a - 16) a s b)
+    by true q = rw q refl
+    by false q = rw q (told_after (a - 16) a s b)
 
 -- ---- steps
 
 pub complete : (s : State) (e : Step) → IsComplete s e (step s e).reply
+complete s (Bind b) = tt
 complete s (Arrive space) = tt
 complete s (Packet k es) = λ fresh fine.
     ap (λ b. (cond b (unchanged s Worn) (packet_at k (ports_of k s) es s)).reply) fresh

@@ -1,18 +1,32 @@
 -- What is sent through a reference is aimed at an object, and holds objects.
-use Rattle.std.proofs.Common.{◌≡◌, ℕ, ◌++◌, [], Option, Some, None, refl, option_map}
+use Rattle.std.proofs.Common.{◌≡◌, ℕ, ◌++◌, List, [], ◌∷◌, Bool, true, false, cond, nat_lt, length, Option, Some, None}
+use Rattle.std.proofs.Common.{refl, option_map}
 use Rattle.std.specs.Prelude.{IsSomeAnd, option_and_then}
-use Rattle.pv_value.specs.Plain.{Plain, sequence, no_more, then_more}
+use Rattle.std.specs.List.{AllByRecursion}
+use Rattle.pv_value.specs.Plain.{Plain, record_of, sequence, no_more, then_more}
+use Rattle.pv_value.specs.Weight.{weight}
+use Rattle.pv_words.specs.Parts.{same}
 use Rattle.sr_caveat.specs.declared.caps.Cap.{Cap}
-use Rattle.sr_caveat.specs.Caps.{cap_of}
+use Rattle.sr_caveat.specs.Caps.{cap_of, cap_value}
 use Rattle.sr_pass.specs.Passing.{passed, no_names}
+use Rattle.gk_sturdy.specs.declared.refs.SturdyRef.{SturdyRef}
+use Rattle.gk_sturdy.specs.Refs.{ref_of}
+use Rattle.gk_sturdy.specs.Chain.{due, is_valid}
+use Rattle.gk_sturdy.specs.declared.bound.Binding.{Binding}
+use Rattle.gk_sturdy.specs.Bindings.{binding_for}
+use Rattle.gk_sturdy.specs.declared.answering.Answer.TheVariants.{Accepted, Rejected}
+use Rattle.gk_sturdy.specs.declared.answering.Why.TheVariants.{BadSig, Caveats, Heavy}
+use Rattle.gk_sturdy.specs.Answers.{told, given_by, if_within, answer_by, answer_to, answer_value, reply_to}
+use Rattle.gk_sturdy.specs.Lemmas.Sound.{given_sound}
 use Rattle.pv_words.specs.Lemmas.Found.{If}
 use Rattle.ac_world.specs.declared.aims.Aim.{Aim}
-use Rattle.ac_world.specs.Turns.{aim_by, aim_at, observer_in, aim_for, aim_of}
+use Rattle.ac_world.specs.Aims.{aim_by, aim_at, observer_in, aim_for, aim_of}
+use Rattle.ac_world.specs.Behaviours.{answer_for}
 use Rattle.rl_wire.specs.Crossing.{held_in}
 use Rattle.rl_wire.specs.Lemmas.Later.{all_of_front, all_of_rest}
-use Rattle.hub_valid.specs.Validity.{IsObjectAt, IsObject, IsObjectValue, HoldsObjects}
+use Rattle.hub_valid.specs.Validity.{IsObjectAt, IsObject, IsObjectValue, HoldsObjects, IsValidBinding}
 use Rattle.hub_valid.specs.Lemmas.Passed.{through_holds}
-use Rattle.hub_valid.specs.Lemmas.Values.{observer_is_object}
+use Rattle.hub_valid.specs.Lemmas.Values.{cap_is_object, observer_is_object}
 
 pub record IsAimed (n : ℕ) (aim : Aim) : Type 0 where
   pub at : IsObjectAt n aim.at.actor aim.at.entity
@@ -45,3 +59,44 @@ key_aims n (sequence (then_more o (then_more c no_more))) h =
     (all_of_front (IsObjectValue n) (held_in c) [] (all_of_rest (IsObjectValue n) (held_in o) (held_in c ++ []) h))
     (all_of_front (IsObjectValue n) (held_in o) (held_in c ++ []) h)
 key_aims n key h = tt
+
+-- ---- what the gatekeeper replies
+
+-- the reply holds the object that a binding gives, or none
+answer_holds : (n : ℕ) (bs : List Binding) (v : Plain) → AllByRecursion (IsValidBinding n) bs
+    → HoldsObjects n (reply_to bs v)
+answer_holds n bs v all = by (ref_of v)
+  where
+    within : (b : Binding) (r : SturdyRef) → IsValidBinding n b → (c d : Bool) → HoldsObjects n
+        (answer_value (cond c (Rejected (Caveats (told (length (given_by b r).caveats))))
+        (cond d (Rejected (Heavy (told (weight (cap_value (given_by b r)))))) (Accepted (given_by b r)))))
+    within b r valid true d = tt
+    within b r valid false true = tt
+    within b r valid false false = (cap_is_object n (given_by b r) (given_sound b r valid.0) valid.1, tt)
+
+    signed : (b : Binding) (r : SturdyRef) → IsValidBinding n b → (c : Bool)
+        → HoldsObjects n (answer_value (cond c (if_within (given_by b r)) (Rejected (BadSig r.sig (due b.key r)))))
+    signed b r valid true =
+        within b r valid (nat_lt 32 (length (given_by b r).caveats)) (nat_lt 65536 (weight (cap_value (given_by b r))))
+    signed b r valid false = tt
+
+    found : (r : SturdyRef) (cs : List Binding) → AllByRecursion (IsValidBinding n) cs
+        → HoldsObjects n (answer_value (answer_by r (binding_for r.oid cs)))
+    found r [] valid = tt
+    found r (c ∷ cs) valid = at (same r.oid c.oid) (found r cs valid.1)
+      where
+        at : (e : Bool) → HoldsObjects n (answer_value (answer_by r (binding_for r.oid cs)))
+            → HoldsObjects n (answer_value (answer_by r (cond e (Some c) (binding_for r.oid cs))))
+        at true later = signed c r valid.0 (is_valid c.key r)
+        at false later = later
+
+    by : (o : Option SturdyRef) → HoldsObjects n (answer_value (answer_to bs o))
+    by None = tt
+    by (Some r) = found r bs all
+
+-- what is replied to one that asks
+pub answer_aims : (n : ℕ) (bs : List Binding) → AllByRecursion (IsValidBinding n) bs → (v : Plain) → HoldsObjects n v
+    → If (answer_for bs v) (IsAimed n)
+answer_aims n bs all (record_of l (then_more s rest)) h =
+    told_aims n (reply_to bs s) (record_of l (then_more s rest)) (answer_holds n bs s all) h
+answer_aims n bs all v h = tt

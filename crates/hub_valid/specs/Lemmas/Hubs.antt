@@ -1,11 +1,16 @@
 -- A valid state stays so: the first is valid, and each step of the hub keeps it so.
 use Rattle.std.proofs.Common.{◌≡◌, ℕ, ◌+◌, ◌-◌, ◌^◌, ◌<◌, ◌≤◌, nat_lt, nat_le, List, [], ◌∷◌, ◌++◌, Bool}
-use Rattle.std.proofs.Common.{true, false, cond, Option, Some, None, refl, sym, subst, arith, length, is_some}
+use Rattle.std.proofs.Common.{◌==◌, ◌&&◌, ◌||◌, not, true, false, cond, Option, Some, None, refl, sym, subst, arith}
+use Rattle.std.proofs.Common.{length, is_some}
 use Rattle.std.specs.List.{AllByRecursion, flat_map}
 use Rattle.std.proofs.lemmas.Bool.Decides.{nat_tests}
 use Rattle.pv_value.specs.Plain.{Plain}
 use Rattle.ds_space.specs.declared.references.Reference.{Reference}
 use Rattle.ds_space.specs.References.{reference_of}
+use Rattle.sr_caveat.specs.Embedded.{has_embedded}
+use Rattle.sr_caveat.specs.Caps.{cap_value, IsSound}
+use Rattle.gk_sturdy.specs.declared.bound.Binding.{Binding}
+use Rattle.gk_sturdy.specs.Bindings.{bound}
 use Rattle.ac_table.specs.declared.batches.Event.{Event as Told}
 use Rattle.ac_table.specs.declared.batches.Event.TheVariants as told
 use Rattle.ac_table.specs.declared.batches.Batch.{Batch}
@@ -13,7 +18,7 @@ use Rattle.ac_table.specs.Tables.{is_live, lowest}
 use Rattle.ac_world.specs.declared.spreads.Spread.{Spread}
 use Rattle.ac_world.specs.declared.turns.Turned.{Turned}
 use Rattle.ac_world.specs.declared.turns.Turned.TheVariants as turned
-use Rattle.ac_world.specs.Worlds.{actor_of, entry_of, without_entry, is_system, gone}
+use Rattle.ac_world.specs.Worlds.{actor_of, entry_of, without_entry, is_system, is_space, binding, gone}
 use Rattle.ac_world.specs.Turns.{turn}
 use Rattle.ac_world.specs.Lemmas.Entries.{each_with, each_without, each_found}
 use Rattle.rl_packet.specs.declared.packets.TurnEvent.{TurnEvent}
@@ -24,23 +29,25 @@ use Rattle.hub_machine.specs.declared.faults.Fault.{Fault}
 use Rattle.hub_machine.specs.State.{State, ports_of}
 use Rattle.hub_machine.specs.Admission.{Admitted, refused, admitted, admission}
 use Rattle.hub_machine.specs.Endings.{nameless, departed_for, closed, failed, finished}
+use Rattle.hub_machine.specs.Machine.{is_to_space, is_barred, bind_unless}
 use Rattle.hub_machine.specs.Machine.{unchanged, actor_reference, opened, refusal, arrive_unless, accepted, judged}
 use Rattle.hub_machine.specs.Machine.{packet_at, bad_at}
 use Rattle.hub_machine.specs.Machine.{close_at, told_value, foreign_told, foreign_to, telling_fault, exports_after}
 use Rattle.hub_machine.specs.Machine.{exporting, told_unless, tell, fault_for, tell_fault, after_turn, turn_of, rest}
 use Rattle.hub_machine.specs.Machine.{work_by, is_worn, done, step, IsAllowed}
 use Rattle.hub_machine.specs.declared.steps.Step.{Step}
-use Rattle.hub_machine.specs.declared.steps.Step.TheVariants.{Arrive, Packet, Bad, Close, Turn, Work, Stop}
+use Rattle.hub_machine.specs.declared.steps.Step.TheVariants.{Bind, Arrive, Packet, Bad, Close, Turn, Work, Stop}
 use Rattle.hub_machine.specs.declared.steps.Reply.{Reply}
 use Rattle.hub_machine.specs.declared.steps.Reply.TheVariants.{Worn, Barred, Halted, Full, Idle}
-use Rattle.hub_valid.specs.Validity.{IsObjectValue, IsValidEvent, IsValidBatch, IsValidEntry, AreValid}
+use Rattle.hub_valid.specs.Validity.{IsObjectAt, IsObjectValue, IsValidEvent, IsValidBatch, IsValidEntry, AreValid}
 use Rattle.hub_valid.specs.Validity.{IsValid, StaysValid}
 use Rattle.hub_valid.specs.Promises.{OpenedIsValid, AcceptedIsValid, NamelessIsValid, DepartedIsValid, TurnedIsValid}
-use Rattle.hub_valid.specs.Promises.{TakenIsValid, ExportingIsValid}
+use Rattle.hub_valid.specs.Promises.{TakenIsValid, ExportingIsValid, BindingIsValid}
 use Rattle.hub_valid.specs.Lemmas.Admitted.{acts_are_valid, exports_stay}
 use Rattle.hub_valid.specs.Lemmas.Values.{all_flat, all_weaker, all_append, cap_is_object, later_inside}
 use Rattle.hub_valid.specs.Lemmas.StepEnds.{finished_keeps}
 use Rattle.hub_valid.specs.Lemmas.Worlds.{beginning_valid, arrived_valid, sent_valid, gone_valid}
+use Rattle.hub_valid.specs.Lemmas.Worlds.{binding_valid}
 use Rattle.hub_valid.specs.Lemmas.Turns.{turn_valid, turn_opens_none, taken_valid, taken_valid_after}
 
 -- ---- what connections name
@@ -264,9 +271,46 @@ work_valid (Some a) s v = by (is_system a)
     by true = turn_of_valid a s v
     by false = rest_valid s v
 
+-- ---- bindings
+
+-- a reference that the machine binds is to a dataspace itself
+to_space : (b : Binding) (s : State) → is_barred b s ≡ false → is_to_space b.cap ≡ true
+to_space b s free =
+    third (nat_lt 0 s.world.opened) (bound b.oid s.world.bindings) (is_to_space b.cap) (has_embedded b.oid)
+    (has_embedded (cap_value b.cap)) free
+  where
+    third : (x y c z w : Bool) → (x || y || not c || z || w) ≡ false → c ≡ true
+    third x y true z w is = refl
+    third true y false z w is = absurd cc
+    third false true false z w is = absurd cc
+    third false false false z w is = absurd cc
+
+pub bound_is_valid : BindingIsValid
+bound_is_valid b s sound free v = record {
+  few = v.few;
+  world = binding_valid b s.world (sound, object) v.world;
+  named = v.named;
+}
+  where
+    is : (is_space b.cap.actor && b.cap.entity == 0) ≡ true
+    is = to_space b s free
+
+    object : IsObjectAt (16 + s.world.opened) b.cap.actor b.cap.entity
+    object =
+        let low : b.cap.actor < 9 = grind (arith, nat_tests, is) in
+        let none : b.cap.entity ≡ 0 = grind (arith, nat_tests, is) in
+        (omega (arith, low), omega (arith, none), λ l. (low, none))
+
+bind_valid : (c : Bool) (b : Binding) (s : State) → is_barred b s ≡ c → IsSound b.cap → IsValid s
+    → IsValid (bind_unless c b s).state
+bind_valid true b s is sound v = v
+bind_valid false b s is sound v =
+    finished_is_valid [] (record s { world = binding b s.world }) (bound_is_valid b s sound is v)
+
 -- ---- steps
 
 done_valid : (s : State) (e : Step) → is_worn s e ≡ false → IsValid s → IsAllowed s e → IsValid (done s e).state
+done_valid s (Bind b) fresh v may = bind_valid (is_barred b s) b s refl may v
 done_valid s (Arrive space) fresh v may =
     let few : s.world.opened < 2 ^ 31 = grind (arith, nat_tests, fresh) in
     arrive_valid (refusal space s) space s (may_come space s) few v

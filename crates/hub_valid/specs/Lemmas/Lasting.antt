@@ -1,5 +1,5 @@
--- What a turn and a packet leave: the same actors are live, as many connections have come, and the next handle never goes
--- back.
+-- What a turn and a packet leave: the same actors are live, as many connections have come, and the next handle never
+-- goes back.
 use Rattle.std.proofs.Common.{◌≡◌, ℕ, ◌≤◌, List, Bool, true, false, cond, Option, Some, None}
 use Rattle.std.proofs.Common.{refl, ap, ◌∙◌, subst, sym, arith, is_some, drop}
 use Rattle.ac_table.specs.declared.batches.Batch.{Batch}
@@ -7,11 +7,12 @@ use Rattle.ac_table.specs.Tables.{TableState, find_actor, is_live, first_batch, 
 use Rattle.ac_world.specs.declared.acts.Act.{Act}
 use Rattle.ac_world.specs.declared.turns.Turned.TheVariants as turned
 use Rattle.ac_world.specs.Outboxes.{Plan, plan_over, all_acted, committed}
-use Rattle.ac_world.specs.Turns.{After, begin_turn, all_turned, space_turn, all_answered, plain_turn, connection_turn}
+use Rattle.ac_world.specs.Behaviours.{behaviour_of}
+use Rattle.ac_world.specs.Turns.{After, begin_turn, all_turned, system_turn, connection_turn}
 use Rattle.ac_world.specs.Turns.{turn_with, turn_first, turn}
-use Rattle.ac_world.specs.Worlds.{WorldState, is_space, is_system, sent}
+use Rattle.ac_world.specs.Worlds.{WorldState, is_system, sent}
 use Rattle.hub_valid.specs.Lemmas.Lives.{live_with_inbox, live_committed, next_posted}
-use Rattle.hub_valid.specs.Lemmas.Plans.{GoesOn, goes_on_all_acted, goes_on_all_turned, goes_on_all_answered}
+use Rattle.hub_valid.specs.Lemmas.Plans.{GoesOn, goes_on_all_acted, goes_on_all_turned}
 
 pub record Lasts (w u : WorldState) : Type 0 where
   pub opened : u.opened ≡ w.opened
@@ -45,20 +46,11 @@ lasts_sent a acts w =
 abbrev less : ℕ → WorldState → WorldState
 less a w = record w { table = popped a w.table }
 
-space_lasts : (a : ℕ) (b : Batch) (w : WorldState) → Lasts w (space_turn a b (less a w)).world
-space_lasts a b w =
-    let p : Plan = (all_turned a b.from b.events (begin_turn a (less a w))).plan in
-    let on : GoesOn (popped a w.table) p.table = goes_on_all_turned a b.from b.events (begin_turn a (less a w)) in
-    record {
-      opened = refl;
-      live = λ c. committed_live a c (popped a w.table) p on ∙ live_popped c a w.table;
-      later = committed_later a (popped a w.table) p on;
-    }
-
-plain_lasts : (a : ℕ) (b : Batch) (w : WorldState) → Lasts w (plain_turn a b (less a w)).world
-plain_lasts a b w =
-    let p : Plan = all_answered b.events (plan_over (popped a w.table)) in
-    let on : GoesOn (popped a w.table) p.table = goes_on_all_answered b.events (plan_over (popped a w.table)) in
+system_lasts : (a : ℕ) (b : Batch) (w : WorldState) → Lasts w (system_turn a b (less a w)).world
+system_lasts a b w =
+    let p : Plan = (all_turned (behaviour_of w.bindings a) a b.from b.events (begin_turn a (less a w))).plan in
+    let on : GoesOn (popped a w.table) p.table =
+    goes_on_all_turned (behaviour_of w.bindings a) a b.from b.events (begin_turn a (less a w)) in
     record {
       opened = refl;
       live = λ c. committed_live a c (popped a w.table) p on ∙ live_popped c a w.table;
@@ -69,13 +61,11 @@ connection_lasts : (a : ℕ) (b : Batch) (w : WorldState) → Lasts w (connectio
 connection_lasts a b w = record { opened = refl; live = λ c. live_popped c a w.table; later = omega arith }
 
 with_lasts : (a : ℕ) (b : Batch) (w : WorldState) → Lasts w (turn_with a b (less a w)).world
-with_lasts a b w = by (is_space a) (is_system a)
+with_lasts a b w = by (is_system a)
   where
-    by : (c d : Bool) → Lasts w (cond c (space_turn a b (less a w))
-        (cond d (plain_turn a b (less a w)) (connection_turn a b (less a w)))).world
-    by true d = space_lasts a b w
-    by false true = plain_lasts a b w
-    by false false = connection_lasts a b w
+    by : (c : Bool) → Lasts w (cond c (system_turn a b (less a w)) (connection_turn a b (less a w))).world
+    by true = system_lasts a b w
+    by false = connection_lasts a b w
 
 pub lasts_turn : (a : ℕ) (w : WorldState) → Lasts w (turn a w).world
 lasts_turn a w = by (is_live a w.table) (first_batch a w.table)

@@ -14,7 +14,7 @@ use Rattle.sr_caveat.specs.declared.caps.Cap.{Cap}
 use Rattle.sr_caveat.specs.Caps.{cap_of, cap_value, IsSound}
 use Rattle.sr_caveat.specs.Lemmas.Capped.{caps_are_their_values}
 use Rattle.pv_words.specs.Lemmas.Found.{If, if_cond}
-use Rattle.ac_world.specs.Turns.{observer_in}
+use Rattle.ac_world.specs.Aims.{observer_in}
 use Rattle.rl_wire.specs.Crossing.{held_in, all_held_in, all_pairs_held_in}
 use Rattle.rl_wire.specs.Lemmas.Later.{all_of_front, all_of_rest}
 use Rattle.hub_valid.specs.Validity.{IsObjectAt, IsObject, IsObjectValue, HoldsObjects}

@@ -3,16 +3,18 @@ use Rattle.std.proofs.Common.{◌≡◌, ℕ, ◌≤◌, ◌==◌, nat_lt, not, 
 use Rattle.std.proofs.Common.{Some, None, refl, arith, subst, slice_get, drop}
 use Rattle.std.specs.List.{AllByRecursion}
 use Rattle.std.specs.Map.{values_of}
+use Rattle.gk_sturdy.specs.declared.bound.Binding.{Binding}
 use Rattle.ac_table.specs.declared.batches.Row.{Row}
 use Rattle.ac_table.specs.declared.batches.Event.{Event}
 use Rattle.ac_table.specs.declared.batches.Event.TheVariants.{Assert, Retract, Message, Sync}
 use Rattle.ac_table.specs.declared.batches.Batch.{Batch}
 use Rattle.ac_table.specs.Tables.{TableState, Actor, find_actor, find_row, placed, joined, ended, with_inbox, pushed}
 use Rattle.ac_table.specs.Tables.{popped, first_batch, first_in}
-use Rattle.ac_world.specs.Worlds.{Seat, Deliveries}
+use Rattle.ac_world.specs.Worlds.{Resident, Deliveries}
 use Rattle.hub_valid.specs.Lemmas.Filtered.{all_kept}
-use Rattle.hub_valid.specs.Validity.{HoldsObjects, IsValidRow, IsValidEvent, IsValidBatch, IsValidActor, IsValidSeat}
-use Rattle.hub_valid.specs.Validity.{IsValidDelivery, AreValidDeliveries}
+use Rattle.hub_valid.specs.Validity.{HoldsObjects, IsValidRow, IsValidEvent, IsValidBatch, IsValidActor}
+use Rattle.hub_valid.specs.Validity.{IsValidResident}
+use Rattle.hub_valid.specs.Validity.{IsValidDelivery, AreValidDeliveries, IsValidBinding}
 use Rattle.hub_valid.specs.Lemmas.Values.{all_weaker, all_append, later_at, later_value, later_inside}
 
 -- ---- what is valid stays so with more actors and later handles
@@ -38,13 +40,16 @@ pub later_actor : (m n next after : ℕ) (x : Actor) → m ≤ n → next ≤ af
 later_actor m n next after x l s v =
     all_weaker (IsValidBatch m next) (IsValidBatch n after) (λ b. later_batch m n next after b l s) x.inbox v
 
-pub later_seat : (m n : ℕ) (e : ℕ × Seat) → m ≤ n → IsValidSeat m e → IsValidSeat n e
-later_seat m n e l v =
+pub later_resident : (m n : ℕ) (e : ℕ × Resident) → m ≤ n → IsValidResident m e → IsValidResident n e
+later_resident m n e l v =
     all_weaker (HoldsObjects m) (HoldsObjects n) (λ x. later_value m n x l) (values_of e.1.got) v
 
 pub later_deliveries : (m n : ℕ) (e : ℕ × Deliveries) → m ≤ n → AreValidDeliveries m e → AreValidDeliveries n e
 later_deliveries m n e l v =
     all_weaker (IsValidDelivery m) (IsValidDelivery n) (λ d valid. (valid.0, later_value m n d.1.value l valid.1)) e.1 v
+
+pub later_binding : (m n : ℕ) (b : Binding) → m ≤ n → IsValidBinding m b → IsValidBinding n b
+later_binding m n b l v = (v.0, later_at m n b.cap.actor b.cap.entity l v.1)
 
 -- ---- tables
 

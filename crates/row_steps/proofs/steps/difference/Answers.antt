@@ -16,8 +16,5 @@ same v w e = by (order v w) refl e
     by Equal is e = order_same v w is
     by Greater is e = absurd cc
 
-pub returns-in-Given : goal.returns-in-Given
-returns-in-Given c _ =
-    let equal = same c.in-Given.given c.args.wanted.now c.if-eq.ensures in
-    let given = c.in-Given.is in
-    cc
+pub returns-then-eq : goal.returns-then-eq
+returns-then-eq c _ = same c.args.given.now c.args.wanted.now c.if-eq.ensures

@@ -1,22 +1,30 @@
-use Rattle.std.proofs.Common.{◌≡◌, ap, ◌∙◌}
-use Rattle.ds_space.specs.Spaces.{IsApplied}
+use Rattle.std.proofs.Common.{ap, ◌∙◌}
 use Rattle.ds_space.specs.declared.space.Applied.TheVariants.{Done}
-use Rattle.ac_world.specs.Turns.{Turning, applied}
+use Rattle.ac_world.specs.Behaviours.{Behaviour}
+use Rattle.ac_world.specs.Keeping.{turning_by}
+use Rattle.ac_world.specs.Staying.{StaysIn}
+use Rattle.ac_world.specs.Systems.{IsAppliedBy}
+use Rattle.ac_world.specs.Turns.{Turning, all_changed, with_rows}
 use Rattle.ac_world.proofs.Changing.{applied-done}
 use Rattle.ac_world.proofs.turning.Turning.apply.Goals as goal
 
-pub returns-in_ok-change_all-in-Done : goal.returns-in_ok-change_all-in-Done
-returns-in_ok-change_all-in-Done g c =
-    let before : Turning = record {
-      seat = record { got = g.S.Space.rows c.seat.inside.space; met = c.seat.inside.met.entries };
-      plan = c.self.inside.plan;
-      spreads = c.self.inside.spreads;
-    } in
-    let whole : before ≡ c.args.self =
-    ap (λ s. record { seat = s; plan = c.self.inside.plan; spreads = c.self.inside.spreads }) c.seat.view_is
-    ∙ c.self.view_is in
-    let told : IsApplied g.S.Space.rows (g.S.Space.rows c.seat.inside.space) c.args.event
-    (Done c.in-Done.space c.in-Done.changes) = rw c.in-Done.is at c.in_ok-space.ensures in
-    c.in_ok-change_all-in-Done.ensures
-    ∙ applied-done c.args.actor c.args.from c.args.event before (g.S.Space.rows c.in-Done.space)
-    c.in-Done.changes.items told.0 told.1 told.2 ∙ ap (applied c.args.actor c.args.from c.args.event) whole
+pub returns-in_ok-change_all-in-Done-clause-turns : goal.returns-in_ok-change_all-in-Done-clause-turns
+returns-in_ok-change_all-in-Done-clause-turns g c =
+    let y : Behaviour = g.Y.System.behaviour c.args.self.resident.system in
+    let old = g.Y.System.rows c.args.self.resident.system in
+    let new = g.Y.System.rows c.in-Done.system in
+    let t : Turning = turning_by g.Y.System.rows c.args.self in
+    let told : IsAppliedBy g.Y.System.rows g.Y.System.behaviour y old c.args.event
+    (Done c.in-Done.system c.in-Done.changes) = rw c.in-Done.is at c.in_ok-system.ensures.applied in
+    let all = c.in_ok-change_all-in-Done.ensures.turns in (
+      all.0 ∙ ap (λ z. all_changed z c.args.actor c.in-Done.changes.items (with_rows new t)) told.1
+          ∙ applied-done y c.args.actor c.args.from c.args.event t new c.in-Done.changes.items told.0 told.2 told.3,
+      all.1 ∙ told.1,
+    )
+
+pub returns-in_ok-change_all-in-Done-clause-bound : goal.returns-in_ok-change_all-in-Done-clause-bound
+returns-in_ok-change_all-in-Done-clause-bound g c =
+    let bs = g.Y.System.bound c.args.self.resident.system in
+    let stays : StaysIn g.Y.System.bound bs (Done c.in-Done.system c.in-Done.changes) =
+    rw c.in-Done.is at c.in_ok-system.ensures.bound in
+    c.in_ok-change_all-in-Done.ensures.bound ∙ stays

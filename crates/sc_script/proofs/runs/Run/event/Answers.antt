@@ -1,9 +1,22 @@
--- Each event: its course is that of the step, of the bytes, of the turn or of the turns that it is.
+-- Each event: its course is that of the binding, of the step, of the bytes, of the turn or of the turns that it is.
 use Rattle.std.proofs.Common.{sym, ap, ◌∙◌}
 use Rattle.sc_events.specs.declared.events.ScriptEvent.TheVariants.{Bytes}
 use Rattle.sc_script.proofs.PartsPassed.{runs_so, stops_so}
-use Rattle.sc_script.proofs.EventCourses.{open_part, bytes_part, close_part, turn_part, drain_part}
+use Rattle.sc_script.proofs.EventCourses.{bind_part, open_part, bytes_part, close_part, turn_part, drain_part}
 use Rattle.sc_script.proofs.runs.Run.event.Goals as goal
+
+pub bind-requires : goal.bind-requires
+bind-requires g c = c.requires c.in-Bind.binding c.in-Bind.is
+
+pub returns-in-Bind-clause-run : goal.returns-in-Bind-clause-run
+returns-in-Bind-clause-run g c =
+    runs_so _ _ _ (bind_part c.args.self c.args.place c.args.event c.in-Bind.binding c.in-Bind.is)
+    c.bind.result c.bind.ensures.run
+
+pub returns-in-Bind-clause-stop : goal.returns-in-Bind-clause-stop
+returns-in-Bind-clause-stop g c =
+    stops_so _ _ _ (bind_part c.args.self c.args.place c.args.event c.in-Bind.binding c.in-Bind.is)
+    c.bind.result c.bind.ensures.stop
 
 pub returns-in-Open-clause-run : goal.returns-in-Open-clause-run
 returns-in-Open-clause-run g c =

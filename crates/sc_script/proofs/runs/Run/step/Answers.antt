@@ -1,5 +1,4 @@
 use Rattle.std.proofs.Common.{◌≡◌, ◌≤◌, ◌<◌, ◌+◌, sym, ap, ◌∙◌, subst}
-use Rattle.hub_machine.specs.Lemmas.Allowing.{is_built}
 use Rattle.hub_machine.specs.Machine.{step}
 use Rattle.hub_machine.specs.declared.steps.Reply.TheVariants.{Sent}
 use Rattle.sc_script.specs.Runs.{stepped}
@@ -44,6 +43,3 @@ returns-in_err-run-in-Sent-clause-stop g c = err_so _ _ _ c.from_residual-in_err
     sym (c.in_ok-hub.ensures.reply ∙ ap (λ x. (step x e).reply) hub) ∙ c.in-Sent.is in
     stops_for _ (c.self.inside.size + size_of p) (stepped e r) c.in_err-run-in-Sent.ensures.stop
     (λ many. stops_sending e r s p at sent (subst (λ x. 268435456 < x.size + size_of p) view many)))
-
-pub step-requires : goal.step-requires
-step-requires g c = is_built c.args.self.state c.args.event c.requires

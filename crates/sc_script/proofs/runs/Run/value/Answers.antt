@@ -1,14 +1,15 @@
--- A value: the event that it writes names a dataspace where it opens a connection, and its course is the value's.
+-- A value: the event that it writes binds a reference that is read back, where it binds one, and its course is the
+-- value's.
 use Rattle.std.proofs.Common.{◌≡◌, Some, sym, ap, ◌∙◌}
 use Rattle.sc_events.specs.Events.{event_of}
-use Rattle.sc_events.specs.Lemmas.Opening.{names_space}
+use Rattle.sc_events.specs.Lemmas.Sound.{sound_event}
 use Rattle.sc_script.specs.Runs.{after_event, after_value}
 use Rattle.sc_script.proofs.PartsPassed.{runs_so, stops_so}
 use Rattle.sc_script.proofs.runs.Run.value.Goals as goal
 
 pub event-requires : goal.event-requires
 event-requires g c =
-    names_space c.args.value.now c.in-Some.event (sym c.in_ok-event.ensures ∙ c.in-Some.is)
+    sound_event c.args.value.now c.in-Some.event (sym c.in_ok-event.ensures ∙ c.in-Some.is)
 
 pub returns-in-Some-clause-run : goal.returns-in-Some-clause-run
 returns-in-Some-clause-run g c =

@@ -1,0 +1,21 @@
+-- What a space does is what a dataspace does among the system actors.
+use Rattle.std.proofs.Common.{◌≡◌, ℕ, List, refl}
+use Rattle.std.specs.Map.{values_of}
+use Rattle.pv_value.specs.Plain.{Plain}
+use Rattle.ds_space.specs.Spaces.{Rows, changed, Fits, IsApplied}
+use Rattle.ds_space.specs.declared.space.SpaceEvent.{SpaceEvent}
+use Rattle.ds_space.specs.declared.space.SpaceEvent.TheVariants.{Add, Gone}
+use Rattle.ds_space.specs.declared.space.Change.{Change}
+use Rattle.ds_space.specs.Changes.{AreChanges}
+use Rattle.ds_space.specs.Wants.{wants}
+use Rattle.ds_space.specs.Lemmas.Exact.{changes_exact}
+use Rattle.ac_world.specs.Behaviours.{dataspace}
+use Rattle.ac_world.specs.Systems.{FitsBy, changes}
+
+pub fits_by : (vs : List Plain) (e : SpaceEvent) → Fits vs e → FitsBy dataspace vs e
+fits_by vs (Add n v) fits = fits
+fits_by vs (Gone n) fits = tt
+
+-- its changes are those between what is wanted before and after
+pub exact : (old new : List Plain) (cs : List Change) → AreChanges old new cs → cs ≡ changes (wants old) (wants new)
+exact old new cs are = changes_exact old new cs are

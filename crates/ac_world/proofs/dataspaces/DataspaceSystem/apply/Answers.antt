@@ -1,0 +1,18 @@
+use Rattle.std.proofs.Common.{refl}
+use Rattle.std.specs.Map.{values_of}
+use Rattle.ds_space.specs.Spaces.{IsApplied, changed}
+use Rattle.ds_space.specs.declared.space.Applied.TheVariants.{Done}
+use Rattle.ac_world.proofs.Spaces.{fits_by, exact}
+use Rattle.ac_world.proofs.dataspaces.DataspaceSystem.apply.Goals as goal
+
+pub returns-in-Done-clause-applied : goal.returns-in-Done-clause-applied
+returns-in-Done-clause-applied g c =
+    let old = g.S.Space.rows c.self.inside.space in
+    let told : IsApplied g.S.Space.rows old c.args.event (Done c.in-Done.space c.in-Done.changes) =
+    rw c.in-Done.is at c.in_ok-space.ensures in
+    rw (← c.self.view_is) (
+      told.0,
+      refl,
+      exact (values_of old) (values_of (changed old c.args.event)) c.in-Done.changes.items told.1,
+      fits_by (values_of (changed old c.args.event)) c.args.event told.2,
+    )

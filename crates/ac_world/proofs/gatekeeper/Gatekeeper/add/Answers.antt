@@ -1,0 +1,25 @@
+use Rattle.std.proofs.Common.{◌≡◌, [], ◌∷◌, ◌&&◌, not, cond, ap, sym, ◌∙◌, arith}
+use Rattle.std.specs.BTreeMap.{insert_entry}
+use Rattle.std.specs.Map.{values_of}
+use Rattle.std.specs.Ordering.{nat_cmp}
+use Rattle.ds_space.specs.Changes.{among}
+use Rattle.ds_space.specs.Spaces.{Rows}
+use Rattle.ds_space.specs.declared.space.Change.TheVariants.{Came}
+use Rattle.ac_world.specs.Behaviours.{asks, gatekeeper}
+use Rattle.ac_world.specs.Worlds.{Gatekeeping}
+use Rattle.ac_world.specs.Lemmas.Asking.{came_changes, longer_by_row}
+use Rattle.ac_world.proofs.gatekeeper.Gatekeeper.add.Goals as goal
+
+pub returns-clause-applied : goal.returns-clause-applied
+returns-clause-applied c =
+    let v = c.args.value in
+    let old : Rows = c.args.self.got in
+    let new : Rows = insert_entry nat_cmp old c.args.handle v in
+    let items : c.in_ok-changes.changes.items ≡ cond (asks v && not (among v (values_of old))) (Came v ∷ []) [] =
+    c.in_ok-changes.ensures ∙ (λ i. cond (c.is_new-is_new.ensures i) (Came (c.in_ok-copy.ensures i) ∷ []) []) in (
+      c.in_ok-insert.ensures.entries
+          ∙ ap (λ (g : Gatekeeping). insert_entry nat_cmp g.got c.args.handle v) c.self.view_is,
+      ap (λ (g : Gatekeeping). gatekeeper g.bindings) c.self.view_is,
+      items ∙ sym (came_changes v (values_of old) (values_of new) (longer_by_row c.args.handle v old c.requires)),
+      omega arith,
+    )

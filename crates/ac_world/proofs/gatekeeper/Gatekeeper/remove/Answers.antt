@@ -1,0 +1,46 @@
+use Rattle.std.proofs.Common.{◌≡◌, [], ◌∷◌, ◌&&◌, not, cond, Some, None, ap, sym, ◌∙◌}
+use Rattle.std.specs.BTreeMap.{is_at}
+use Rattle.std.specs.Map.{values_of, lookup, remove_entry}
+use Rattle.std.specs.Ordering.{nat_cmp}
+use Rattle.ds_space.specs.Changes.{among}
+use Rattle.ds_space.specs.Spaces.{Rows}
+use Rattle.ds_space.specs.declared.space.Change.TheVariants.{Left}
+use Rattle.ac_world.specs.Behaviours.{asks, gatekeeper}
+use Rattle.ac_world.specs.Worlds.{Gatekeeping}
+use Rattle.ac_world.specs.Systems.{changes}
+use Rattle.ac_world.specs.Lemmas.Asking.{asked, left_changes, no_changes, longer_than_without, same_without}
+use Rattle.ac_world.proofs.gatekeeper.Gatekeeper.remove.Goals as goal
+
+pub returns-in-None-clause-applied : goal.returns-in-None-clause-applied
+returns-in-None-clause-applied c =
+    let h = c.args.handle in
+    let old : Rows = c.args.self.got in
+    let none : lookup (is_at (nat_cmp h)) old ≡ None =
+    ap (λ (g : Gatekeeping). lookup (is_at (nat_cmp h)) g.got) (sym c.self.view_is) ∙ sym c.in-None.ensures.value in (
+      c.in-None.ensures.entries
+          ∙ ap (λ (g : Gatekeeping). remove_entry (is_at (nat_cmp h)) g.got) c.self.view_is,
+      ap (λ (g : Gatekeeping). gatekeeper g.bindings) c.self.view_is,
+      c.new.ensures.items ∙ sym (no_changes (values_of old))
+          ∙ ap (λ (rows : Rows). changes (asked (values_of old)) (asked (values_of rows)))
+          (sym (same_without h old none)),
+      tt,
+    )
+
+pub returns-in_ok-changes-in-Some-clause-applied : goal.returns-in_ok-changes-in-Some-clause-applied
+returns-in_ok-changes-in-Some-clause-applied c =
+    let h = c.args.handle in
+    let v = c.in-Some.value in
+    let old : Rows = c.args.self.got in
+    let new : Rows = remove_entry (is_at (nat_cmp h)) old in
+    let rows : c.remove.new.self.entries ≡ new =
+    c.in-Some.ensures.entries ∙ ap (λ (g : Gatekeeping). remove_entry (is_at (nat_cmp h)) g.got) c.self.view_is in
+    let found : lookup (is_at (nat_cmp h)) old ≡ Some v =
+    ap (λ (g : Gatekeeping). lookup (is_at (nat_cmp h)) g.got) (sym c.self.view_is) ∙ sym c.in-Some.ensures.value in
+    let is_new : c.is_new-is_new.result ≡ (asks v && not (among v (values_of new))) =
+    c.is_new-is_new.ensures ∙ ap (λ (rs : Rows). asks v && not (among v (values_of rs))) rows in (
+      rows,
+      ap (λ (g : Gatekeeping). gatekeeper g.bindings) c.self.view_is,
+      c.in_ok-changes-in-Some.ensures ∙ ap (λ b. cond b (Left v ∷ []) []) is_new
+          ∙ sym (left_changes v (values_of new) (values_of old) (longer_than_without h v old found)),
+      tt,
+    )

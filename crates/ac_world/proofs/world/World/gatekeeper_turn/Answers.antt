@@ -1,0 +1,52 @@
+use Rattle.std.proofs.Common.{◌∷◌, ap, ◌∙◌}
+use Rattle.ac_world.specs.Behaviours.{gatekeeper}
+use Rattle.ac_world.specs.Keeping.{resident_by, residents_by, turning_by}
+use Rattle.ac_world.specs.Worlds.{WorldState}
+use Rattle.ac_world.specs.Turns.{Turning, end_turn, system_turn}
+use Rattle.ac_world.proofs.Numbers.{world_turned}
+use Rattle.ac_world.proofs.world.World.gatekeeper_turn.Goals as goal
+
+pub invariant_of-world : goal.invariant_of-world
+invariant_of-world g c =
+    let i = c.self.inside in
+    let b = c.args.batch in
+    world_turned (gatekeeper i.gatekeeper.system.bindings) 0 b.from i.opened b.events
+    (resident_by (λ k. k.got) i.gatekeeper) (turning_by (λ k. k.got) c.in_ok-resident.field-0) c.in_ok-commit.field-0
+    i.table c.in_ok-resident.ensures.turned c.in_ok-commit.ensures c.self.invariant
+
+pub returns-clause-world : goal.returns-clause-world
+returns-clause-world g c =
+    let i = c.self.inside in
+    let residents = residents_by i.spaces.entries in
+    let w : WorldState =
+    record {
+      opened = i.opened;
+      bindings = i.gatekeeper.system.bindings;
+      table = i.table;
+      residents = (0, resident_by (λ k. k.got) i.gatekeeper) ∷ residents;
+      held = i.held.entries;
+    } in
+    let t : Turning = turning_by (λ k. k.got) c.in_ok-resident.field-0 in
+    (λ j. record {
+      opened = i.opened;
+      bindings = c.in_ok-resident.ensures.bound j;
+      table = c.in_ok-commit.ensures j;
+      residents = (0, t.resident) ∷ residents;
+      held = i.held.entries;
+    })
+    ∙ ap (λ (u : Turning). (end_turn 0 w u).world) c.in_ok-resident.ensures.turned
+    ∙ ap (λ (z : WorldState). (system_turn 0 c.args.batch z).world) c.self.view_is
+
+pub returns-clause-turned : goal.returns-clause-turned
+returns-clause-turned g c =
+    let i = c.self.inside in
+    let w : WorldState =
+    record {
+      opened = i.opened;
+      bindings = i.gatekeeper.system.bindings;
+      table = i.table;
+      residents = (0, resident_by (λ k. k.got) i.gatekeeper) ∷ residents_by i.spaces.entries;
+      held = i.held.entries;
+    } in
+    ap (λ (u : Turning). (end_turn 0 w u).turned) c.in_ok-resident.ensures.turned
+    ∙ ap (λ (z : WorldState). (system_turn 0 c.args.batch z).turned) c.self.view_is

@@ -1,0 +1,6 @@
+use Rattle.ac_world.proofs.world.World.turn_with.Goals as goal
+
+pub returns-then-actor-eq-GATEKEEPER-clause-world :
+    goal.returns-then-actor-eq-GATEKEEPER-clause-world
+returns-then-actor-eq-GATEKEEPER-clause-world g c =
+    rw c.if-actor-eq-GATEKEEPER.true c.gatekeeper_turn.ensures.world

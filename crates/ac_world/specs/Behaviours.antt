@@ -1,0 +1,63 @@
+-- What a system actor does by what it has got: what it wants, and to whom messages go. There are two kinds of system
+-- actors. A dataspace is told of by `ds_space`; the gatekeeper answers those who resolve signed references. Syndicate
+-- Protocol, "dataspaces" and "gatekeeper".
+use Rattle.std.specs.Prelude.{ℕ, zero, suc, ◌-◌, ◌^◌, min, List, [], Bool, false, ◌&&◌, Option, Some, None, codes}
+use Rattle.std.specs.List.{filter}
+use Rattle.pv_value.specs.Plain.{Plain, symbol, record_of, no_more, then_more}
+use Rattle.pv_value.specs.Order.{order}
+use Rattle.pv_value.specs.Sets.{ascending_by}
+use Rattle.pv_words.specs.Words.{is_word}
+use Rattle.ds_space.specs.Wants.{wants, wanted_weight, is_observer}
+use Rattle.ds_space.specs.declared.space.Fanned.{Fanned}
+use Rattle.ds_space.specs.Fans.{fan_of, weight_of_fanned}
+use Rattle.gk_sturdy.specs.declared.bound.Binding.{Binding}
+use Rattle.gk_sturdy.specs.Answers.{reply_to}
+use Rattle.ac_world.specs.Aims.{Aim, aim_for, aim_of}
+
+-- for the values that an actor has got
+pub record Behaviour : Type 0 where
+  -- the keys of what it wants, ascending, each once
+  pub keys : List Plain → List Plain
+  -- what arrives of what a key wants, and at which object
+  pub aim : Plain → Option Aim
+  -- what all that it wants weighs, as far as that is limited
+  pub weight : List Plain → ℕ
+  -- to whom a message goes
+  pub fan : List Plain → Plain → List Fanned
+
+-- what goes to all of them weighs so much; the sum ends at the greatest 64-bit number
+abbrev pub fanned_weight : List Fanned → ℕ
+fanned_weight fs = min (weight_of_fanned fs) (2 ^ 64 - 1)
+
+-- ---- a dataspace
+
+abbrev pub dataspace : Behaviour
+dataspace = record { keys = wants; aim = aim_of; weight = wanted_weight; fan = fan_of }
+
+-- ---- the gatekeeper
+
+-- `<resolve s #:r>`, where r names an actor numbered 9 or more
+abbrev pub asks : Plain → Bool
+asks (record_of (symbol l) (then_more s (then_more r no_more))) = is_word l (codes "resolve") && is_observer r
+asks v = false
+
+-- the reply to s, for the object that r names
+abbrev pub answer_for : List Binding → Plain → Option Aim
+answer_for bs (record_of l (then_more s rest)) = aim_for (reply_to bs s) (record_of l (then_more s rest))
+answer_for bs v = None
+
+-- each distinct value that asks is a key; what is wanted isn't limited, and messages are dropped
+abbrev pub gatekeeper : List Binding → Behaviour
+gatekeeper bs = record {
+  keys = λ vs. ascending_by order (filter asks vs);
+  aim = answer_for bs;
+  weight = λ vs. 0;
+  fan = λ vs m. [];
+}
+
+-- ---- the actors
+
+-- where these references are bound: actor 0 is the gatekeeper, and the others are dataspaces
+abbrev pub behaviour_of : List Binding → ℕ → Behaviour
+behaviour_of bs zero = gatekeeper bs
+behaviour_of bs (suc a) = dataspace

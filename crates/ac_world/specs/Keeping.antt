@@ -1,0 +1,26 @@
+-- What contracts know of a system actor, and of its turn, however the actor keeps what it has got.
+use Rattle.std.specs.Prelude.{◌≡◌, ℕ, List, map}
+use Rattle.ds_space.specs.Spaces.{Rows}
+use Rattle.ac_world.specs.declared.residents.Resident.{Resident as ResidentBy}
+use Rattle.ac_world.specs.declared.turning.Turning.{Turning as TurningBy}
+use Rattle.ac_world.specs.Behaviours.{Behaviour}
+use Rattle.ac_world.specs.Worlds.{Resident}
+use Rattle.ac_world.specs.Turns.{Turning}
+
+abbrev pub resident_by : {S : Type 0} → (S → Rows) → ResidentBy S → Resident
+resident_by rows_of r = record { got = rows_of r.system; handles = r.handles.entries }
+
+abbrev pub turning_by : {S : Type 0} → (S → Rows) → TurningBy S → Turning
+turning_by rows_of t =
+    record { resident = resident_by rows_of t.resident; plan = t.plan; spreads = t.spreads }
+
+-- a turn goes on by f, and the actor behaves as before
+abbrev pub TurnsBy : {S : Type 0} → (S → Rows) → (S → Behaviour) → TurningBy S → (Behaviour → Turning → Turning)
+    → TurningBy S → Type 0
+TurnsBy rows_of behaviour old f new =
+    (turning_by rows_of new ≡ f (behaviour old.resident.system) (turning_by rows_of old))
+    × (behaviour new.resident.system ≡ behaviour old.resident.system)
+
+-- the dataspaces of a map
+abbrev pub residents_by : List (ℕ × ResidentBy Rows) → List (ℕ × Resident)
+residents_by es = map (λ e. (e.0, resident_by (λ rows. rows) e.1)) es

@@ -1,0 +1,73 @@
+//! A dataspace among the system actors, over any body of [`Space`].
+ghost use Rattle.std.specs.Prelude.{◌≡◌, [], IfOk};
+ghost use Rattle.ac_world.specs.Behaviours.{dataspace};
+
+use crate::aims::Aim;
+use crate::readings::{Reading, aim_of};
+use crate::systems::System;
+use ds_space::{Applied, Fan, Space, SpaceEvent};
+use pv_value::{NoMemory, Value};
+use std::alloc::Global;
+use std::marker::Model;
+
+/// A dataspace, and the reference that it read last: keys of one observation come one behind
+/// another, and name one reference.
+///
+/// Contracts see the rows alone.
+#[derive(Drop)]
+pub struct Dataspace<S: Space + Drop> {
+    space: S,
+    last: Option<Reading>,
+}
+
+impl<S: Space + Drop> Model for Dataspace<S> {
+    ghost use Rattle.std.specs.Coded.{coded_list, coded×, coded_ℕ};
+    ghost use Rattle.pv_value.specs.Lemmas.Coded.{plain_code};
+    ghost use Rattle.ds_space.specs.Spaces.{Rows};
+
+    ghost Value = { Rows };
+
+    ghost coded = { coded_list (coded× coded_ℕ plain_code) };
+
+    ghost view = { λ d. S.rows d.space };
+}
+
+impl<S: Space + Drop> Dataspace<S> {
+    /// It has got nothing.
+    pub(crate) fn new(alloc: Global) -> Dataspace<S>
+        ensures { result ≡ [] }
+    {
+        Dataspace {
+            space: S::fresh(alloc),
+            last: None,
+        }
+    }
+}
+
+impl<S: Space + Drop> System for Dataspace<S> {
+    ghost rows = { λ s. s };
+
+    ghost behaviour = { λ s. dataspace };
+
+    ghost bound = { λ s. [] };
+
+    fn apply(self, alloc: Global, event: SpaceEvent) -> Result<Applied<Self>, NoMemory> {
+        let Dataspace { space, last } = self;
+        match space.apply(alloc, event)? {
+            Applied::Done(space, changes) => Ok(Applied::Done(Dataspace { space, last }, changes)),
+            Applied::Over(space, weight) => Ok(Applied::Over(Dataspace { space, last }, weight)),
+        }
+    }
+
+    fn has(&self, handle: u64) -> bool {
+        self.space.has(handle)
+    }
+
+    fn aim(&mut self, alloc: Global, key: &Value) -> Result<Option<Aim>, NoMemory> {
+        aim_of(alloc, &mut self.last, key)
+    }
+
+    fn fan(&self, alloc: Global, message: &Value) -> Result<Fan, NoMemory> {
+        self.space.fan(alloc, message)
+    }
+}

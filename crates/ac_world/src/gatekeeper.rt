@@ -1,0 +1,190 @@
+//! The gatekeeper, which answers those who resolve signed references.
+ghost use Rattle.std.specs.Prelude.{◌≡◌, [], ◌∷◌, ◌&&◌, not, None, IfOk, if◌then◌else◌, codes};
+ghost use Rattle.std.specs.Map.{lookup, values_of};
+ghost use Rattle.std.specs.BTreeMap.{is_at};
+ghost use Rattle.std.specs.Ordering.{nat_cmp};
+ghost use Rattle.ds_space.specs.Changes.{among};
+ghost use Rattle.ds_space.specs.Wants.{is_observer as observes};
+ghost use Rattle.ds_space.specs.declared.space.SpaceEvent.TheVariants.{Add, Gone};
+ghost use Rattle.ac_world.specs.Behaviours.{asks as asks_for, answer_for, gatekeeper};
+ghost use Rattle.pv_words.specs.Words.{is_word};
+ghost use Rattle.ac_world.specs.Staying.{StaysIn};
+ghost use Rattle.ac_world.specs.Systems.{IsAppliedBy};
+
+use crate::actors::FIRST_OTHER;
+use crate::aims::{Aim, aim_for};
+use crate::systems::System;
+use ds_space::{Applied, Change, Changes, Fan, SpaceEvent, reference_of};
+use gk_sturdy::{Bindings, reply};
+use pv_value::{NoMemory, Node, Text, Value};
+use pv_words::{is_word, worded};
+use std::alloc::Global;
+use std::collections::BTreeMap;
+use std::marker::Model;
+
+/// What is bound, and what the gatekeeper has got.
+#[derive(Drop)]
+pub struct Gatekeeper {
+    pub(crate) bindings: Bindings,
+    rows: BTreeMap<u64, Value>,
+}
+
+impl Model for Gatekeeper {
+    ghost use Rattle.std.specs.Coded.{codes};
+    ghost use Rattle.pv_value.specs.Lemmas.Coded.{plain_code};
+    ghost use Rattle.sr_caveat.specs.Lemmas.Coded.{caveat_code};
+    ghost use Rattle.ac_world.specs.Worlds.{Gatekeeping};
+
+    ghost Value = { Gatekeeping };
+
+    ghost coded = { Prim.hlevel (codes, plain_code, caveat_code) };
+
+    ghost view = { λ g. record { bindings = g.bindings; got = g.rows.entries } };
+}
+
+impl Gatekeeper {
+    /// Nothing is bound, and it has got nothing.
+    pub(crate) fn new(alloc: Global) -> Gatekeeper
+        ensures { result ≡ record { bindings = []; got = [] } }
+    {
+        Gatekeeper {
+            bindings: Bindings::new(alloc),
+            rows: BTreeMap::new(alloc),
+        }
+    }
+
+    /// Whether a row has this value.
+    fn stands(&self, value: &Value) -> bool
+        ensures { result ≡ among value.now (values_of self.now.got) }
+    {
+        self.rows.values().any(|other| *value == *other)
+    }
+
+    /// Whether a value asks, and no row has it: then it is wanted with the first row that has it,
+    /// and without the last one.
+    fn is_new(&self, value: &Value) -> bool
+        ensures { result ≡ (asks_for value.now && not (among value.now (values_of self.now.got))) }
+    {
+        asks(value) && !self.stands(value)
+    }
+
+    /// A row comes, under a handle that is new.
+    fn add(
+        mut self,
+        alloc: Global,
+        handle: u64,
+        value: Value,
+    ) -> Result<Applied<Gatekeeper>, NoMemory>
+        requires { lookup (is_at (nat_cmp handle)) self.got ≡ None }
+        ensures applied { IfOk result (IsAppliedBy (λ g. g.got) (λ g. gatekeeper g.bindings)
+            (gatekeeper self.bindings) self.got (Add handle value)) }
+        ensures bound { IfOk result (StaysIn (λ g. g.bindings) self.bindings) }
+    {
+        let is_new = self.is_new(&value);
+        let changes = change_if(alloc, is_new, Change::Came(value.copy()?))?;
+        self.rows.insert(handle, value)?;
+        Ok(Applied::Done(self, changes))
+    }
+
+    /// A row goes, where it is there.
+    fn remove(mut self, alloc: Global, handle: u64) -> Result<Applied<Gatekeeper>, NoMemory>
+        ensures applied { IfOk result (IsAppliedBy (λ g. g.got) (λ g. gatekeeper g.bindings)
+            (gatekeeper self.bindings) self.got (Gone handle)) }
+        ensures bound { IfOk result (StaysIn (λ g. g.bindings) self.bindings) }
+    {
+        match self.rows.remove(&handle) {
+            Some(value) => {
+                let is_new = self.is_new(&value);
+                let changes = change_if(alloc, is_new, Change::Left(value))?;
+                Ok(Applied::Done(self, changes))
+            }
+            None => Ok(Applied::Done(self, Vec::new(alloc))),
+        }
+    }
+}
+
+impl System for Gatekeeper {
+    ghost rows = { λ g. g.got };
+
+    ghost behaviour = { λ g. gatekeeper g.bindings };
+
+    ghost bound = { λ g. g.bindings };
+
+    fn apply(self, alloc: Global, event: SpaceEvent) -> Result<Applied<Self>, NoMemory> {
+        match event {
+            SpaceEvent::Add(handle, value) => self.add(alloc, handle, value),
+            SpaceEvent::Gone(handle) => self.remove(alloc, handle),
+        }
+    }
+
+    fn has(&self, handle: u64) -> bool {
+        self.rows.contains_key(&handle)
+    }
+
+    fn aim(&mut self, alloc: Global, key: &Value) -> Result<Option<Aim>, NoMemory> {
+        answer_for(alloc, &self.bindings, key)
+    }
+
+    fn fan(&self, alloc: Global, _message: &Value) -> Result<Fan, NoMemory> {
+        Ok(Fan::Each(Vec::new(alloc)))
+    }
+}
+
+/// A change that comes about, or none.
+fn change_if(alloc: Global, comes: bool, change: Change) -> Result<Changes, NoMemory>
+    ensures { IfOk result (λ changes. changes.items ≡ if comes then change ∷ [] else []) }
+{
+    let mut changes = Vec::new(alloc);
+    if comes {
+        changes.push(change)?;
+    }
+    Ok(changes)
+}
+
+/// Whether a value asks: it is `<resolve s #:r>`, where r names an object of a watcher or of a
+/// connection.
+fn asks(value: &Value) -> bool
+    ensures { result ≡ asks_for value.now }
+{
+    let Some((word, fields)) = worded(value) else {
+        return false;
+    };
+    match fields {
+        [_, observer] => asks_as(word, observer),
+        _ => false,
+    }
+}
+
+/// Whether a record of this word, with this observer behind what it resolves, asks.
+fn asks_as(word: &Text, observer: &Value) -> bool
+    ensures { result ≡ (is_word word.now (codes "resolve") && observes observer.now) }
+{
+    is_word(word, b"resolve") && is_observer(observer)
+}
+
+/// What arrives of the reply to one that asks.
+fn answer_for(alloc: Global, bindings: &Bindings, key: &Value) -> Result<Option<Aim>, NoMemory>
+    ensures { IfOk result (λ aim. aim ≡ answer_for bindings.now key.now) }
+{
+    let Node::Rec(record) = &key.node else {
+        return Ok(None);
+    };
+    let Some(step) = record.fields.as_slice().first() else {
+        return Ok(None);
+    };
+    let reply = reply(alloc, bindings, step)?;
+    aim_for(alloc, &reply, key)
+}
+
+/// Whether a value is an embedded reference to an object of a watcher or of a connection.
+fn is_observer(value: &Value) -> bool
+    ensures { result ≡ observes value.now }
+{
+    let Node::Emb(inside) = &value.node else {
+        return false;
+    };
+    match reference_of(inside) {
+        Some(reference) => reference.actor >= FIRST_OTHER,
+        None => false,
+    }
+}

@@ -1,0 +1,27 @@
+//! A system actor: what it has got, and the handle of its own row for each key that it wants.
+ghost use Rattle.std.specs.Prelude.{◌≡◌, []};
+
+use crate::systems::System;
+use pv_value::Value;
+use std::alloc::Global;
+use std::collections::BTreeMap;
+
+/// A system actor.
+#[derive(Drop)]
+pub struct Resident<Y: System + Drop> {
+    pub system: Y,
+    pub handles: BTreeMap<Value, u64>,
+}
+
+impl<Y: System + Drop> Resident<Y> {
+    /// It has no rows of its own.
+    pub fn new(alloc: Global, system: Y) -> Resident<Y>
+        ensures system { result.system ≡ system }
+        ensures handles { result.handles.entries ≡ [] }
+    {
+        Resident {
+            system,
+            handles: BTreeMap::new(alloc),
+        }
+    }
+}

@@ -1,0 +1,49 @@
+//! System actors: what they do by what they have got.
+ghost use Rattle.std.specs.Prelude.{◌≡◌, ℕ, List, IfOk};
+ghost use Rattle.std.specs.Map.{values_of};
+ghost use Rattle.pv_value.specs.Plain.{Plain};
+ghost use Rattle.ds_space.specs.Spaces.{IsNew, has_row};
+ghost use Rattle.ac_world.specs.Behaviours.{Behaviour};
+ghost use Rattle.gk_sturdy.specs.declared.bound.Binding.{Binding};
+ghost use Rattle.ac_world.specs.Staying.{StaysIn};
+ghost use Rattle.ac_world.specs.Systems.{IsAppliedBy, IsFanBy};
+
+use crate::aims::Aim;
+use ds_space::{Applied, Fan, SpaceEvent};
+use pv_value::{NoMemory, Value};
+use std::alloc::Global;
+
+/// What a system actor has got, as rows under handles, and what it does by that.
+pub trait System {
+    /// The rows, ascending by handle.
+    ghost rows: { Self → List (ℕ × Plain) };
+
+    /// What it wants, and to whom messages go.
+    ghost behaviour: { Self → Behaviour };
+
+    /// The references that are bound, where it is the gatekeeper. No turn changes them.
+    ghost bound: { Self → List Binding };
+
+    /// A row comes or goes. For want of memory the actor is gone.
+    fn apply(self, alloc: Global, event: SpaceEvent) -> Result<Applied<Self>, NoMemory>
+        requires { IsNew (rows self) event }
+        ensures applied { IfOk result
+            (IsAppliedBy rows behaviour (behaviour self) (rows self) event) }
+        ensures bound { IfOk result (StaysIn bound (bound self)) };
+
+    /// Whether a row has this handle.
+    fn has(&self, handle: u64) -> bool
+        ensures { result ≡ has_row handle (rows self.now) };
+
+    /// What arrives of what a key wants. It may remember what it has read; all else stays.
+    fn aim(&mut self, alloc: Global, key: &Value) -> Result<Option<Aim>, NoMemory>
+        ensures aim { IfOk result (λ aim. aim ≡ (behaviour self.old).aim key.now) }
+        ensures rows { rows self.new ≡ rows self.old }
+        ensures behaviour { behaviour self.new ≡ behaviour self.old }
+        ensures bound { bound self.new ≡ bound self.old };
+
+    /// To whom a message goes.
+    fn fan(&self, alloc: Global, message: &Value) -> Result<Fan, NoMemory>
+        ensures { IfOk result (IsFanBy (behaviour self.now) (values_of (rows self.now))
+            message.now) };
+}
