@@ -1,11 +1,10 @@
--- Values in a form, one behind another: one more of them.
-use Rattle.std.proofs.Common.{◌≡◌, List, [], ◌∷◌, ◌++◌, ap, ◌∙◌, append-nil}
+-- What is made of values, one behind another: of one more of them.
+use Rattle.std.proofs.Common.{◌≡◌, ℕ, List, [], ◌∷◌, ◌++◌, ap, ◌∙◌, append-nil}
 use Rattle.std.proofs.lemmas.Grind.{flat_map-append}
 use Rattle.pv_value.specs.Plain.{Plain}
-use Rattle.dsd_top.specs.declared.forms.Form.{Form}
-use Rattle.dsd_top.specs.Forms.{in_form, all_in}
+use Rattle.dsd_top.specs.Forms.{made_of_all}
 
-pub all_in-more : (form : Form) (vs : List Plain) (v : Plain)
-    → all_in form (vs ++ v ∷ []) ≡ all_in form vs ++ in_form form v
-all_in-more form vs v =
-    flat_map-append (in_form form) vs (v ∷ []) ∙ ap (λ l. all_in form vs ++ l) (append-nil (in_form form v))
+pub made-more : (make : Plain → List ℕ) (vs : List Plain) (v : Plain)
+    → made_of_all make (vs ++ v ∷ []) ≡ made_of_all make vs ++ make v
+made-more make vs v =
+    flat_map-append make vs (v ∷ []) ∙ ap (λ l. made_of_all make vs ++ l) (append-nil (make v))

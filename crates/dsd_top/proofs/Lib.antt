@@ -1,5 +1,10 @@
 pub mod Causes
 pub mod Fronts
 pub mod InForm
+pub mod Minted
+pub mod Readiness
 pub mod Readings
+pub mod Refusals
 pub mod Reported
+pub mod Saying
+pub mod Telling

@@ -7,7 +7,7 @@ use Rattle.sc_report.specs.Reports.{RanState, report_of}
 use Rattle.sc_script.specs.Scripts.{LeavesAs}
 use Rattle.dsd_top.specs.declared.forms.Form.{Form}
 use Rattle.dsd_top.specs.Forms.{in_form}
-use Rattle.dsd_top.specs.Statuses.{IsReported}
+use Rattle.dsd_top.specs.Makings.{IsReported}
 
 -- each step met its condition, so that the law speaks of what is held
 pub reported : (input : Input) (form : Form) (bytes out : List ℕ) (ran : RanState) (v : Plain) → SettledHoldings

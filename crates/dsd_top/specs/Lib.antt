@@ -1,5 +1,10 @@
+pub mod Asked
 pub mod Commands
 pub mod Forms
 pub mod Lines
+pub mod Makings
+pub mod Minting
+pub mod Schemas
 pub mod Statuses
 pub mod Values
+pub mod Works

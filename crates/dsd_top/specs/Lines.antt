@@ -12,22 +12,25 @@ words_of fault.ReadFailed = codes "dsd: read failed"
 words_of fault.WriteFailed = codes "dsd: write failed"
 words_of fault.NoMemory = codes "dsd: out of memory"
 words_of (fault.Limit w) = codes "dsd: limit "
+words_of (fault.BadConfig n) = codes "dsd: bad config at "
 words_of (fault.NotBuilt n) = codes "dsd: not built at "
 
 -- the number behind the words, where there is one
 abbrev pub number_of : Fault → List ℕ
 number_of (fault.BadInput n) = decimal n
 number_of (fault.Limit w) = decimal w
+number_of (fault.BadConfig n) = decimal n
 number_of (fault.NotBuilt n) = decimal n
 number_of f = []
 
 abbrev pub line_of : Fault → List ℕ
 line_of f = words_of f ++ number_of f ++ 10 ∷ []
 
--- the line of a cause of this status was appended
-abbrev pub Says : ℕ → Option (List ℕ) → Option (List ℕ) → Type 0
-Says status before now = (f : Fault) × (status_of f ≡ status) × Appends before now (line_of f)
+-- the line of a cause of this status that stands was appended
+abbrev pub Says : (Fault → Type 0) → ℕ → Option (List ℕ) → Option (List ℕ) → Type 0
+Says Stands status before now = (f : Fault) × (status_of f ≡ status) × Stands f × Appends before now (line_of f)
 
 -- a front of it was appended
-abbrev pub SaysFront : ℕ → Option (List ℕ) → Option (List ℕ) → Type 0
-SaysFront status before now = (f : Fault) × (status_of f ≡ status) × AppendsFront before now (line_of f)
+abbrev pub SaysFront : (Fault → Type 0) → ℕ → Option (List ℕ) → Option (List ℕ) → Type 0
+SaysFront Stands status before now =
+    (f : Fault) × (status_of f ≡ status) × Stands f × AppendsFront before now (line_of f)

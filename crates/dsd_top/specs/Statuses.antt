@@ -1,118 +1,135 @@
--- What a status says of the words, the input and what was written.
-use Rattle.std.specs.Prelude.{◌≡◌, ◌≢◌, ℕ, ◌<◌, List, [], ◌∷◌, length, Option, Some, None, Contains, IfSome}
+-- What a status says of the words, the host's files, the input and what was written.
+use Rattle.std.specs.Prelude.{◌≢◌, ℕ, List, [], ◌∷◌, Option, Some, None, Contains, IfSome}
 use Rattle.out_ports.specs.Ports.{Appends, AppendsFront}
-use Rattle.hub_laws.specs.Settled.{HoldsFromScratch}
-use Rattle.sc_events.specs.declared.inputs.Form.{Form as Input}
-use Rattle.sc_events.specs.declared.inputs.Form.TheVariants as input
-use Rattle.sc_report.specs.Reports.{report_of}
-use Rattle.sc_script.specs.Leavings.{ran_of}
-use Rattle.rl_stream.specs.Nexts.{Decider, Decides}
-use Rattle.sc_script.specs.Runs.{Cause, bad, limit, not_built, goes, stops, Running}
-use Rattle.sc_script.specs.Scripts.{IsCourseOf}
-use Rattle.sc_script.specs.declared.faults.ScriptFault.{ScriptFault}
-use Rattle.sc_script.specs.declared.faults.ScriptFault.TheVariants as stopped
 use Rattle.out_ports.specs.declared.streams.ReadFault.{ReadFault}
 use Rattle.out_ports.specs.declared.streams.ReadFault.TheVariants as reading
-use Rattle.dsd_top.specs.Forms.{in_form}
-use Rattle.dsd_top.specs.Values.{IsBadAt, AreIn}
-use Rattle.dsd_top.specs.declared.forms.Form.{Form}
-use Rattle.dsd_top.specs.declared.forms.Form.TheVariants as form
-use Rattle.dsd_top.specs.declared.values.InputFault.{InputFault}
-use Rattle.dsd_top.specs.declared.values.InputFault.TheVariants as unread
-use Rattle.dsd_top.specs.declared.words.Command.{Command}
-use Rattle.dsd_top.specs.declared.words.Command.TheVariants.{Run, RunText, CanonicalForms, Printed, Written}
-use Rattle.dsd_top.specs.declared.words.Request.{Request}
-use Rattle.dsd_top.specs.declared.words.Request.TheVariants.{Make, Tell}
+use Rattle.ps_schema.specs.declared.Definition.{Definition}
+use Rattle.sc_events.specs.declared.inputs.Form.TheVariants as input
+use Rattle.sc_script.specs.declared.faults.ScriptFault.{ScriptFault}
+use Rattle.sc_script.specs.declared.faults.ScriptFault.TheVariants as stopped
+use Rattle.dsd_top.specs.Asked.{Checking}
+use Rattle.dsd_top.specs.Commands.{made_by, IsOfTable, IsTextOf, HasText}
+use Rattle.dsd_top.specs.Forms.{verdict_by}
+use Rattle.dsd_top.specs.Makings.{IsMadeOf, IsMalformedAt, IsTooLong, PassesLimit, IsUnbuiltAt}
+use Rattle.dsd_top.specs.Schemas.{Files, IsSchemaIn, IsBadFileAt}
+use Rattle.dsd_top.specs.Values.{IsBadAt, AreMade}
 use Rattle.dsd_top.specs.declared.faults.Fault.{Fault}
 use Rattle.dsd_top.specs.declared.faults.Fault.TheVariants as fault
+use Rattle.dsd_top.specs.declared.minting.WordsFault.{WordsFault}
+use Rattle.dsd_top.specs.declared.minting.WordsFault.TheVariants as words
+use Rattle.dsd_top.specs.declared.schemas.ConfigFault.{ConfigFault}
+use Rattle.dsd_top.specs.declared.schemas.ConfigFault.TheVariants as config
+use Rattle.dsd_top.specs.declared.values.InputFault.{InputFault}
+use Rattle.dsd_top.specs.declared.values.InputFault.TheVariants as unread
+use Rattle.dsd_top.specs.declared.words.Making.{Making}
+use Rattle.dsd_top.specs.declared.words.Making.TheVariants.{Run, RunText}
+use Rattle.dsd_top.specs.declared.words.Command.{Command}
+use Rattle.dsd_top.specs.declared.words.Command.TheVariants.{Make, Check}
+use Rattle.dsd_top.specs.declared.words.Notice.{Notice}
+use Rattle.dsd_top.specs.declared.words.Notice.TheVariants.{Usage, Version, Reference}
+use Rattle.dsd_top.specs.declared.words.Request.{Request}
+use Rattle.dsd_top.specs.declared.words.Request.TheVariants.{Do, Tell}
 
--- ---- by the command
+-- ---- which statuses come
 
 -- every status that comes
 abbrev pub IsStatus : ℕ → Type 0
-IsStatus n = Contains (0 ∷ 1 ∷ 2 ∷ 3 ∷ 4 ∷ 5 ∷ 6 ∷ 10 ∷ []) n
+IsStatus n = Contains (0 ∷ 1 ∷ 2 ∷ 3 ∷ 4 ∷ 5 ∷ 6 ∷ 7 ∷ 10 ∷ []) n
 
 -- what isn't built comes of scripts alone
-abbrev pub unbuilt_of : Command → List ℕ
+abbrev pub unbuilt_of : Making → List ℕ
 unbuilt_of Run = 10 ∷ []
 unbuilt_of RunText = 10 ∷ []
-unbuilt_of c = []
+unbuilt_of m = []
 
--- those that come for a command
+-- those that come for a command: a file is refused for `check` alone
 abbrev pub statuses_by : Command → List ℕ
-statuses_by c = 0 ∷ 1 ∷ 3 ∷ 4 ∷ 5 ∷ 6 ∷ unbuilt_of c
+statuses_by (Make m) = 0 ∷ 1 ∷ 3 ∷ 4 ∷ 5 ∷ 6 ∷ unbuilt_of m
+statuses_by (Check k) = 0 ∷ 1 ∷ 3 ∷ 4 ∷ 5 ∷ 6 ∷ 7 ∷ []
 
--- those that come for what the words ask for, and where they are none of the table's
+-- those that come for a notice: one whose text is always the same takes no memory
+abbrev pub statuses_told : Notice → List ℕ
+statuses_told Usage = 0 ∷ 4 ∷ []
+statuses_told Version = 0 ∷ 4 ∷ []
+statuses_told (Reference m) = 0 ∷ 2 ∷ 4 ∷ 5 ∷ []
+
+-- those that come for what the words ask for, and where they ask for nothing
 abbrev pub statuses_of : Option Request → List ℕ
 statuses_of None = 2 ∷ []
-statuses_of (Some (Make c)) = statuses_by c
-statuses_of (Some (Tell n)) = 0 ∷ 4 ∷ []
+statuses_of (Some (Do c)) = statuses_by c
+statuses_of (Some (Tell n)) = statuses_told n
 
--- this holds of the command and the input, where the words are of the table and the input is told
+-- ---- by the host's files, the command and the input
+
+-- this holds of the command and the input, where the words ask for one and the input is told
 abbrev pub IfTold : Option Command → Option (List ℕ) → (Command → List ℕ → Type 0) → Type 0
 IfTold command left P = IfSome command (λ c. IfSome left (P c))
 
--- the input is a script, and this the report of its run in the form; where nothing is pending, each live connection
--- holds what is captured from scratch
-abbrev pub IsReported : Input → Form → List ℕ → List ℕ → Type 0
-IsReported input form bytes out =
-    (N : Decider) → Decides N → (r : Running) × IsCourseOf N input bytes (goes r)
-    × ((k : ℕ) → HoldsFromScratch k r.steps) × (out ≡ in_form form (report_of (ran_of r.steps)))
+-- the file that a command reads
+abbrev pub file_of : Option Command → Option (List ℕ)
+file_of None = None
+file_of (Some (Make m)) = None
+file_of (Some (Check k)) = Some k.file
 
--- the input stops as a script for this cause
-abbrev pub StopsFor : Input → List ℕ → Cause → Type 0
-StopsFor input bytes c = (N : Decider) → Decides N → IsCourseOf N input bytes (stops c)
+-- the file holds a schema that knows the name
+abbrev pub HasSchema : Files → Checking → Type 0
+HasSchema files k = (ds : List Definition) × IsSchemaIn files k ds
 
--- what the command makes of the input
-abbrev pub IsAnswerOf : Command → List ℕ → List ℕ → Type 0
-IsAnswerOf Run bytes out = IsReported input.Binary form.Written bytes out
-IsAnswerOf RunText bytes out = IsReported input.Text form.Printed bytes out
-IsAnswerOf CanonicalForms bytes out = AreIn input.Binary form.Canonical bytes out
-IsAnswerOf Printed bytes out = AreIn input.Binary form.Printed bytes out
-IsAnswerOf Written bytes out = AreIn input.Text form.Written bytes out
+-- what the command makes of the input; `check` judges each value
+abbrev pub IsAnswerOf : Files → Command → List ℕ → List ℕ → Type 0
+IsAnswerOf files (Make m) bytes out = IsMadeOf m bytes out
+IsAnswerOf files (Check k) bytes out =
+    (ds : List Definition) × IsSchemaIn files k ds × AreMade input.Text (verdict_by ds k.name) bytes out
 
--- value n of the input is malformed
-abbrev pub IsBadInputAt : Command → List ℕ → ℕ → Type 0
-IsBadInputAt Run bytes n = StopsFor input.Binary bytes (bad n)
-IsBadInputAt RunText bytes n = StopsFor input.Text bytes (bad n)
-IsBadInputAt CanonicalForms bytes n = IsBadAt input.Binary bytes n
-IsBadInputAt Printed bytes n = IsBadAt input.Binary bytes n
-IsBadInputAt Written bytes n = IsBadAt input.Text bytes n
+-- the file is refused, with this number
+abbrev pub IsBadConfigAt : Files → Command → List ℕ → ℕ → Type 0
+IsBadConfigAt files (Make m) bytes n = ⊥
+IsBadConfigAt files (Check k) bytes n = IsBadFileAt files k n
+
+-- value n of the input is malformed, where no file is refused
+abbrev pub IsBadInputAt : Files → Command → List ℕ → ℕ → Type 0
+IsBadInputAt files (Make m) bytes n = IsMalformedAt m bytes n
+IsBadInputAt files (Check k) bytes n = HasSchema files k × IsBadAt input.Text bytes n
+
+-- limit w is passed, where no file is refused
+abbrev pub IsOverAt : Files → Command → List ℕ → ℕ → Type 0
+IsOverAt files (Make m) bytes w = PassesLimit m bytes w
+IsOverAt files (Check k) bytes w = HasSchema files k × IsTooLong bytes w
 
 -- value n of the input goes past what is built
-abbrev pub IsNotBuiltAt : Command → List ℕ → ℕ → Type 0
-IsNotBuiltAt Run bytes n = StopsFor input.Binary bytes (not_built n)
-IsNotBuiltAt RunText bytes n = StopsFor input.Text bytes (not_built n)
-IsNotBuiltAt c bytes n = ⊥
+abbrev pub IsNotBuiltAt : Files → Command → List ℕ → ℕ → Type 0
+IsNotBuiltAt files (Make m) bytes n = IsUnbuiltAt m bytes n
+IsNotBuiltAt files (Check k) bytes n = ⊥
 
--- of values, limit 1 alone: the input has more than 67,108,864 bytes
-abbrev pub IsOverOf : List ℕ → ℕ → Type 0
-IsOverOf bytes w = (w ≡ 1) × (67108864 < length bytes)
-
--- limit w is passed
-abbrev pub IsOverAt : Command → List ℕ → ℕ → Type 0
-IsOverAt Run bytes w = StopsFor input.Binary bytes (limit w)
-IsOverAt RunText bytes w = StopsFor input.Text bytes (limit w)
-IsOverAt c bytes w = IsOverOf bytes w
-
--- ---- for any command
+-- ---- for any command, and for notices
 
 -- the command's answer was appended
-abbrev pub IsAnswered : Command → List ℕ → Option (List ℕ) → Option (List ℕ) → Type 0
-IsAnswered c bytes before now = (out : List ℕ) × IsAnswerOf c bytes out × Appends before now out
+abbrev pub IsAnswered : Files → Command → List ℕ → Option (List ℕ) → Option (List ℕ) → Type 0
+IsAnswered files c bytes before now = (out : List ℕ) × IsAnswerOf files c bytes out × Appends before now out
 
 -- a front of the command's answer was appended
-abbrev pub IsCut : Command → List ℕ → Option (List ℕ) → Option (List ℕ) → Type 0
-IsCut c bytes before now = (out : List ℕ) × IsAnswerOf c bytes out × AppendsFront before now out
+abbrev pub IsCut : Files → Command → List ℕ → Option (List ℕ) → Option (List ℕ) → Type 0
+IsCut files c bytes before now = (out : List ℕ) × IsAnswerOf files c bytes out × AppendsFront before now out
 
-abbrev pub IsBadInput : Command → List ℕ → Type 0
-IsBadInput c bytes = (n : ℕ) × IsBadInputAt c bytes n
+abbrev pub IsBadInput : Files → Command → List ℕ → Type 0
+IsBadInput files c bytes = (n : ℕ) × IsBadInputAt files c bytes n
 
-abbrev pub IsOver : Command → List ℕ → Type 0
-IsOver c bytes = (w : ℕ) × IsOverAt c bytes w
+abbrev pub IsOver : Files → Command → List ℕ → Type 0
+IsOver files c bytes = (w : ℕ) × IsOverAt files c bytes w
 
-abbrev pub IsNotBuilt : Command → List ℕ → Type 0
-IsNotBuilt c bytes = (n : ℕ) × IsNotBuiltAt c bytes n
+abbrev pub IsBadConfig : Files → Command → List ℕ → Type 0
+IsBadConfig files c bytes = (n : ℕ) × IsBadConfigAt files c bytes n
+
+abbrev pub IsNotBuilt : Files → Command → List ℕ → Type 0
+IsNotBuilt files c bytes = (n : ℕ) × IsNotBuiltAt files c bytes n
+
+-- the notice's text was appended
+abbrev pub IsShown : Notice → Option (List ℕ) → Option (List ℕ) → Type 0
+IsShown n before now = (text : List ℕ) × IsTextOf n text × Appends before now text
+
+-- a front of it was appended
+abbrev pub IsShownFront : Notice → Option (List ℕ) → Option (List ℕ) → Type 0
+IsShownFront n before now = (text : List ℕ) × IsTextOf n text × AppendsFront before now text
 
 -- ---- the causes of a status
 
@@ -123,31 +140,30 @@ status_of fault.ReadFailed = 3
 status_of fault.WriteFailed = 4
 status_of fault.NoMemory = 5
 status_of (fault.Limit w) = 6
+status_of (fault.BadConfig n) = 7
 status_of (fault.NotBuilt n) = 10
 
 -- the causes that come only behind the whole input
 abbrev pub IsBehindInput : Fault → Type 0
-IsBehindInput f = (status_of f ≢ 3) × (status_of f ≢ 5)
+IsBehindInput f = (status_of f ≢ 3) × (status_of f ≢ 5) × (status_of f ≢ 7)
 
--- what a cause says of the input, where a command was making its answer
-abbrev pub IsCauseOf : Command → List ℕ → Fault → Type 0
-IsCauseOf c bytes (fault.BadInput n) = IsBadInputAt c bytes n
-IsCauseOf c bytes fault.BadWords = ⊥
-IsCauseOf c bytes fault.ReadFailed = ⊥
-IsCauseOf c bytes fault.WriteFailed = ⊥
-IsCauseOf c bytes fault.NoMemory = Unit {0}
-IsCauseOf c bytes (fault.Limit w) = IsOverAt c bytes w
-IsCauseOf c bytes (fault.NotBuilt n) = IsNotBuiltAt c bytes n
+-- what a cause says of what is asked for, of the host's files and of the input, with its number
+abbrev pub Stands : Option Request → Files → Option (List ℕ) → Fault → Type 0
+Stands o files left (fault.BadInput n) = IfTold (made_by o) left (λ c bytes. IsBadInputAt files c bytes n)
+Stands o files left fault.BadWords = IsOfTable o → ⊥
+Stands o files left fault.ReadFailed = Unit {0}
+Stands o files left fault.WriteFailed = Unit {0}
+Stands o files left fault.NoMemory = Unit {0}
+Stands o files left (fault.Limit w) = IfTold (made_by o) left (λ c bytes. IsOverAt files c bytes w)
+Stands o files left (fault.BadConfig n) = IfTold (made_by o) left (λ c bytes. IsBadConfigAt files c bytes n)
+Stands o files left (fault.NotBuilt n) = IfTold (made_by o) left (λ c bytes. IsNotBuiltAt files c bytes n)
 
--- what a cause says of the input and of what was written
-abbrev pub Tells : Command → Fault → Option (List ℕ) → Option (List ℕ) → Option (List ℕ) → Type 0
-Tells c (fault.BadInput n) left before now = IfSome left (λ bytes. IsBadInputAt c bytes n) × (now ≡ before)
-Tells c fault.BadWords left before now = ⊥
-Tells c fault.ReadFailed left before now = now ≡ before
-Tells c fault.WriteFailed left before now = IfSome left (λ bytes. IsCut c bytes before now)
-Tells c fault.NoMemory left before now = now ≡ before
-Tells c (fault.Limit w) left before now = IfSome left (λ bytes. IsOverAt c bytes w) × (now ≡ before)
-Tells c (fault.NotBuilt n) left before now = IfSome left (λ bytes. IsNotBuiltAt c bytes n) × (now ≡ before)
+-- what a cause says of a notice
+abbrev pub IsToldFault : Notice → Fault → Type 0
+IsToldFault n fault.BadWords = HasText n → ⊥
+IsToldFault n fault.WriteFailed = HasText n
+IsToldFault n fault.NoMemory = Unit {0}
+IsToldFault n f = ⊥
 
 abbrev pub from_script : ScriptFault → Fault
 from_script (stopped.Bad n) = fault.BadInput n
@@ -163,3 +179,12 @@ from_input unread.NoMemory = fault.NoMemory
 abbrev pub from_read : ReadFault → Fault
 from_read reading.Failed = fault.ReadFailed
 from_read reading.NoMemory = fault.NoMemory
+
+abbrev pub from_config : ConfigFault → Fault
+from_config config.ReadFailed = fault.ReadFailed
+from_config (config.Bad n) = fault.BadConfig n
+from_config config.NoMemory = fault.NoMemory
+
+abbrev pub from_words : WordsFault → Fault
+from_words words.Bad = fault.BadWords
+from_words words.NoMemory = fault.NoMemory

@@ -3,15 +3,14 @@ use Rattle.std.specs.Prelude.{◌≡◌, ℕ, ◌<◌, ◌≤◌, true, false, L
 use Rattle.pv_value.specs.Plain.{Plain}
 use Rattle.sc_events.specs.declared.inputs.Form.{Form as Input}
 use Rattle.sc_events.specs.Readings.{AreReadAs}
-use Rattle.dsd_top.specs.declared.forms.Form.{Form}
 use Rattle.dsd_top.specs.declared.values.InputFault.{InputFault}
 use Rattle.dsd_top.specs.declared.values.InputFault.TheVariants as fault
-use Rattle.dsd_top.specs.Forms.{all_in}
+use Rattle.dsd_top.specs.Forms.{made_of_all}
 
--- the input is values to its end, and these are they in the form
-abbrev pub AreIn : Input → Form → List ℕ → List ℕ → Type 0
-AreIn input form bytes out =
-    (length bytes ≤ 67108864) × (vs : List Plain) × AreReadAs input bytes vs true × (out ≡ all_in form vs)
+-- the input is values to its end, and this is what is made of each of them
+abbrev pub AreMade : Input → (Plain → List ℕ) → List ℕ → List ℕ → Type 0
+AreMade input make bytes out =
+    (length bytes ≤ 67108864) × (vs : List Plain) × AreReadAs input bytes vs true × (out ≡ made_of_all make vs)
 
 -- after n values the input goes on with none; a text that isn't UTF-8 does so at once
 abbrev pub IsBadAt : Input → List ℕ → ℕ → Type 0

@@ -2,8 +2,11 @@
 ghost use Rattle.std.specs.Prelude.{◌≡◌};
 ghost use Rattle.dsd_top.specs.Lines.{words_of, number_of};
 ghost use Rattle.dsd_top.specs.Statuses.{status_of, from_script, from_input, from_read};
+ghost use Rattle.dsd_top.specs.Statuses.{from_config, from_words};
 ghost use Rattle.dsd_top.specs.declared.faults.Fault.TheVariants as fault;
 
+use crate::minting::WordsFault;
+use crate::schemas::ConfigFault;
 use crate::values::InputFault;
 use itoa::Buffer;
 use out_ports::streams::{ReadFault, WriteFault};
@@ -18,6 +21,7 @@ pub(crate) enum Fault {
     WriteFailed,
     NoMemory,
     Limit(u8),
+    BadConfig(u64),
     NotBuilt(u64),
 }
 
@@ -32,6 +36,7 @@ impl Fault {
             Fault::WriteFailed => 4,
             Fault::NoMemory => 5,
             Fault::Limit(_) => 6,
+            Fault::BadConfig(_) => 7,
             Fault::NotBuilt(_) => 10,
         }
     }
@@ -47,6 +52,7 @@ impl Fault {
             Fault::WriteFailed => "dsd: write failed",
             Fault::NoMemory => "dsd: out of memory",
             Fault::Limit(_) => "dsd: limit ",
+            Fault::BadConfig(_) => "dsd: bad config at ",
             Fault::NotBuilt(_) => "dsd: not built at ",
         }
     }
@@ -58,6 +64,7 @@ impl Fault {
         match self {
             Fault::BadInput(n) => buffer.format(n),
             Fault::Limit(limit) => buffer.format(limit),
+            Fault::BadConfig(n) => buffer.format(n),
             Fault::NotBuilt(n) => buffer.format(n),
             _ => "",
         }
@@ -85,6 +92,29 @@ impl From<InputFault> for Fault {
             InputFault::Bad(n) => Fault::BadInput(n),
             InputFault::TooLong => Fault::Limit(1),
             InputFault::NoMemory => Fault::NoMemory,
+        }
+    }
+}
+
+impl From<ConfigFault> for Fault {
+    ghost from_gives = { λ e f. f ≡ from_config e };
+
+    fn from(fault: ConfigFault) -> Fault {
+        match fault {
+            ConfigFault::ReadFailed => Fault::ReadFailed,
+            ConfigFault::Bad(n) => Fault::BadConfig(n),
+            ConfigFault::NoMemory => Fault::NoMemory,
+        }
+    }
+}
+
+impl From<WordsFault> for Fault {
+    ghost from_gives = { λ e f. f ≡ from_words e };
+
+    fn from(fault: WordsFault) -> Fault {
+        match fault {
+            WordsFault::Bad => Fault::BadWords,
+            WordsFault::NoMemory => Fault::NoMemory,
         }
     }
 }

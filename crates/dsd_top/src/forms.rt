@@ -1,11 +1,13 @@
-//! The forms in which values are written.
+//! The forms in which values are written, and what else is made of a value.
 ghost use Rattle.std.specs.Prelude.{◌≡◌, ◌++◌, OnOk, IfOk};
-ghost use Rattle.dsd_top.specs.Forms.{in_form};
+ghost use Rattle.dsd_top.specs.Forms.{in_form, verdict, made_of, IsKnown};
 
+use ps_check::conforms;
+use ps_schema::Schema;
 use pv_binary::write_into;
 use pv_canon::canon_into;
 use pv_print::print_into;
-use pv_value::{NoMemory, Value};
+use pv_value::{NoMemory, Value, push_bytes};
 use std::alloc::Global;
 
 /// How a value is written.
@@ -34,11 +36,34 @@ fn push_value(alloc: Global, out: &mut Vec<u8>, value: &Value, form: Form) -> Re
     }
 }
 
-/// Appends the value in this form, and lets go of it.
-pub fn push_last(alloc: Global, out: &mut Vec<u8>, value: Value, form: Form) -> Result<(), NoMemory>
-    ensures { OnOk result (out.new.items ≡ out.old.items ++ in_form form value) }
+/// What is made of each value of an input.
+#[derive(Clone, Copy)]
+pub enum Each<'a> {
+    /// The value itself.
+    In(Form),
+    /// Whether it conforms to the schema's name.
+    Verdict(&'a Schema, &'a str),
+}
+
+/// Whether a value conforms, on a line.
+fn verdict(conforms: bool) -> &'static str
+    ensures { result.now ≡ verdict conforms }
 {
-    push_value(alloc, out, &value, form)
+    if conforms { "yes\n" } else { "no\n" }
+}
+
+/// Appends what is made of the value, and lets go of it.
+pub fn push_last(alloc: Global, out: &mut Vec<u8>, value: Value, each: Each) -> Result<(), NoMemory>
+    requires { IsKnown each }
+    ensures { OnOk result (out.new.items ≡ out.old.items ++ made_of each.entry value) }
+{
+    match each {
+        Each::In(form) => push_value(alloc, out, &value, form),
+        Each::Verdict(schema, name) => {
+            let line = verdict(conforms(schema, name.as_bytes(), &value));
+            push_bytes(out, line.as_bytes())
+        }
+    }
 }
 
 /// The value in this form.

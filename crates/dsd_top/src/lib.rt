@@ -1,10 +1,13 @@
 //! The program over an outside world that is handed in.
 #![tactic(auto)]
 
+mod answers;
 mod faults;
 mod forms;
 mod lines;
+mod minting;
 mod once;
+mod schemas;
 mod values;
 mod words;
 

@@ -1,7 +1,7 @@
 //! What is said on standard error.
 ghost use Rattle.std.specs.Prelude.{◌≡◌, ◌++◌, OnOk, OnErr};
 ghost use Rattle.out_ports.specs.Ports.{Rose, Appends, AppendsFront};
-ghost use Rattle.dsd_top.specs.Lines.{line_of, Says, SaysFront};
+ghost use Rattle.dsd_top.specs.Lines.{line_of};
 ghost use Rattle.dsd_top.specs.Statuses.{status_of};
 
 use crate::faults::Fault;
@@ -46,9 +46,9 @@ fn tell<E: Sink>(diag: &mut E, fault: Fault) -> Result<(), WriteFault>
 /// Says why the status isn't 0, and answers it. What can't be written is left.
 pub(crate) fn refuse<E: Sink>(diag: &mut E, fault: Fault) -> u8
     ensures status { result ≡ status_of fault }
-    ensures said { SaysFront result (E.held diag.old) (E.held diag.new) }
+    ensures said { AppendsFront (E.held diag.old) (E.held diag.new) (line_of fault) }
     ensures said_all { (Rose (E.faults diag.old) (E.faults diag.new) → ⊥)
-        → Says result (E.held diag.old) (E.held diag.new) }
+        → Appends (E.held diag.old) (E.held diag.new) (line_of fault) }
 {
     let _ = tell(diag, fault);
     fault.status()

@@ -1,9 +1,10 @@
 //! The values of an input one behind another, and what is made of them.
 ghost use Rattle.std.specs.Prelude.{◌≡◌, IfOk, IfErr};
 ghost use Rattle.dsd_top.specs.declared.values.InputFault.TheVariants as fault;
-ghost use Rattle.dsd_top.specs.Values.{AreIn, IsInputFaultOf};
+ghost use Rattle.dsd_top.specs.Forms.{made_of, IsKnown};
+ghost use Rattle.dsd_top.specs.Values.{AreMade, IsInputFaultOf};
 
-use crate::forms::{Form, push_last};
+use crate::forms::{Each, push_last};
 use pv_value::NoMemory;
 use sc_events::{Form as Input, INPUT_BYTES, NextFault, Values};
 use std::alloc::Global;
@@ -30,15 +31,16 @@ impl From<NoMemory> for InputFault {
     }
 }
 
-/// The values of an input, each in this form, one behind another. Its length is looked at first,
-/// and whether a text is UTF-8; then its values in order.
+/// What is made of each value of an input, one behind another. Its length is looked at first, and
+/// whether a text is UTF-8; then its values in order.
 pub fn values_to_end(
     alloc: Global,
     bytes: &[u8],
     input: Input,
-    form: Form,
+    each: Each,
 ) -> Result<Vec<u8>, InputFault>
-    ensures forms { IfOk result (λ out. AreIn input form bytes.now out.items) }
+    requires { IsKnown each }
+    ensures made { IfOk result (λ out. AreMade input (made_of each.entry) bytes.now out.items) }
     ensures fault { IfErr result (IsInputFaultOf input bytes.now) }
 {
     if bytes.len() > INPUT_BYTES {
@@ -49,7 +51,7 @@ pub fn values_to_end(
     let mut place = 0;
     loop {
         match values.next(alloc) {
-            Ok(Some(value)) => push_last(alloc, &mut out, value, form)?,
+            Ok(Some(value)) => push_last(alloc, &mut out, value, each)?,
             Ok(None) => return Ok(out),
             Err(NextFault::Bad) => return Err(InputFault::Bad(place)),
             Err(NextFault::NoMemory) => return Err(InputFault::NoMemory),

@@ -1,25 +1,34 @@
 //! The program's words, and what they ask for.
 ghost use Rattle.std.specs.Prelude.{◌≡◌};
-ghost use Rattle.dsd_top.specs.Commands.{texts, request_of, named, text_of};
-ghost use Rattle.dsd_top.specs.Commands.{is_serve as begins_with_serve};
+ghost use Rattle.dsd_top.specs.Commands.{texts, request_of, named, named_with, named_before};
+ghost use Rattle.dsd_top.specs.Commands.{usage, version, is_serve as begins_with_serve};
+
+use std::marker::Model;
 
 /// The answer to `--help`: the words, a line each.
-pub const USAGE: &str = "usage: dsd WORD, from standard input to standard output
+const USAGE: &str = "usage: dsd WORD, from standard input to standard output
   run           the report of a script's run, in binary
   run --text    the same of a script in text, in text
   canon         binary values, each in its canonical form
   text          binary values, each printed on a line
   binary        text values, each in its written binary spelling
+  check FILE NAME
+                of each text value, whether it conforms to the schema's NAME
+  mint OID KEY CAVEAT..
+                the signed reference, from no input
   --help        these lines
   --version     the version
 ";
 
 /// The answer to `--version`.
-pub const VERSION: &str = "dsd 0.1.0\n";
+const VERSION: &str = "dsd 0.1.0\n";
 
-/// What is made of the input.
+/// The most caveats that `mint` takes.
+const CAVEATS: usize = 32;
+
+/// What is made of the input alone.
 #[derive(Clone, Copy)]
-pub enum Command {
+pub enum Making {
     /// The report of a script's run.
     Run,
     /// The report of a script's run, both in text.
@@ -32,61 +41,147 @@ pub enum Command {
     Written,
 }
 
+/// A schema's file, and a name that the schema is to know.
+#[derive(Drop)]
+pub struct Checking<'a> {
+    pub file: &'a str,
+    pub name: &'a str,
+}
+
+impl<'a> Model for Checking<'a> {
+    ghost use Rattle.dsd_top.specs.Asked.{Checking};
+
+    ghost Value = { Checking };
+
+    ghost view = { λ c. record { file = c.file.now; name = c.name.now } };
+}
+
+/// What is made of the input.
+#[derive(Drop)]
+pub enum Command<'a> {
+    Make(Making),
+    /// Whether each text value conforms to the name's definition.
+    Check(Checking<'a>),
+}
+
+/// The words for a signed reference.
+#[derive(Drop)]
+pub struct Minting<'a> {
+    pub oid: &'a str,
+    pub key: &'a str,
+    pub caveats: &'a [String],
+}
+
+impl<'a> Model for Minting<'a> {
+    ghost use Rattle.dsd_top.specs.Asked.{Minting, texts};
+
+    ghost Value = { Minting };
+
+    ghost view = { λ m. record {
+      oid = m.oid.now;
+      key = m.key.now;
+      caveats = texts m.caveats.now;
+    } };
+}
+
 /// A text that is told with no input.
-#[derive(Clone, Copy)]
-pub enum Notice {
-    /// [`USAGE`]
+#[derive(Drop)]
+pub enum Notice<'a> {
+    /// The words.
     Usage,
-    /// [`VERSION`]
+    /// The version.
     Version,
+    /// A signed reference.
+    Reference(Minting<'a>),
 }
 
 /// What the words ask for.
-#[derive(Clone, Copy)]
-pub enum Request {
+#[derive(Drop)]
+pub enum Request<'a> {
     /// What a command makes of the input.
-    Make(Command),
+    Do(Command<'a>),
     /// A notice, for which no input is read.
-    Tell(Notice),
+    Tell(Notice<'a>),
 }
 
-impl Notice {
-    /// The text, which ends with a line's end.
-    #[tactic(auto, unfolding(crate::specs::Commands::text_of))]
-    pub fn text(self) -> &'static str
-        ensures { result.now ≡ text_of self }
-    {
-        match self {
-            Notice::Usage => USAGE,
-            Notice::Version => VERSION,
-        }
-    }
+/// The words, a line each.
+#[tactic(auto, unfolding(crate::specs::Commands::usage))]
+pub fn usage() -> &'static str
+    ensures { result.now ≡ usage }
+{
+    USAGE
+}
+
+/// The program's name and its version, on a line.
+#[tactic(auto, unfolding(crate::specs::Commands::version))]
+pub fn version() -> &'static str
+    ensures { result.now ≡ version }
+{
+    VERSION
 }
 
 /// What one word asks for.
-fn find_word(word: &str) -> Option<Request>
+fn find_word(word: &str) -> Option<Request<'_>>
     ensures { result ≡ named word.now }
 {
     match word {
-        "run" => Some(Request::Make(Command::Run)),
-        "canon" => Some(Request::Make(Command::CanonicalForms)),
-        "text" => Some(Request::Make(Command::Printed)),
-        "binary" => Some(Request::Make(Command::Written)),
+        "run" => Some(Request::Do(Command::Make(Making::Run))),
+        "canon" => Some(Request::Do(Command::Make(Making::CanonicalForms))),
+        "text" => Some(Request::Do(Command::Make(Making::Printed))),
+        "binary" => Some(Request::Do(Command::Make(Making::Written))),
         "--help" => Some(Request::Tell(Notice::Usage)),
         "--version" => Some(Request::Tell(Notice::Version)),
         _ => None,
     }
 }
 
-/// What the words ask for, where they are of the table.
-pub fn find_request(words: &[String]) -> Option<Request>
+/// What two words ask for.
+fn find_with<'a>(word: &str, option: &str) -> Option<Request<'a>>
+    ensures { result ≡ named_with word.now option.now }
+{
+    if word == "run" && option == "--text" {
+        return Some(Request::Do(Command::Make(Making::RunText)));
+    }
+    None
+}
+
+/// What a word asks for with two others, and what stands behind them.
+fn find_before<'a>(
+    word: &str,
+    first: &'a str,
+    second: &'a str,
+    rest: &'a [String],
+) -> Option<Request<'a>>
+    ensures { result ≡ named_before word.now first.now second.now (texts rest.now) }
+{
+    if word == "check" && rest.is_empty() {
+        let (file, name) = (first, second);
+        return Some(Request::Do(Command::Check(Checking { file, name })));
+    }
+    if word == "mint" && rest.len() <= CAVEATS {
+        return Some(Request::Tell(Notice::Reference(Minting {
+            oid: first,
+            key: second,
+            caveats: rest,
+        })));
+    }
+    None
+}
+
+/// What the words ask for, where they are of the table. Whether those of `mint` are a key and
+/// values isn't looked at here.
+pub fn find_request(words: &[String]) -> Option<Request<'_>>
     ensures { result ≡ request_of (texts words.now) }
 {
     if words.len() == 1 {
         return find_word(words[0].as_str());
     }
-    if words.len() == 2 && words[0].as_str() == "run" && words[1].as_str() == "--text" {
-        return Some(Request::Make(Command::RunText));
+    if words.len() == 2 {
+        return find_with(words[0].as_str(), words[1].as_str());
+    }
+    if words.len() >= 3 {
+        let (first, second) = (words[1].as_str(), words[2].as_str());
+        return find_before(words[0].as_str(), first, second, &words[3..]);
     }
     None
 }

@@ -12,6 +12,7 @@ use Rattle.row_cases.specs.declared.spelling.Form.{Form}
 use Rattle.row_files.specs.Lines.{first_word, behind_word}
 use Rattle.row_files.specs.Sections.{SectionTold, AreSections}
 use Rattle.row_files.specs.declared.rows.Row.{Row}
+use Rattle.row_files.specs.declared.rows.RowFile.{RowFile}
 use Rattle.row_files.specs.declared.rows.Said.{Said}
 
 -- ---- what stands in a section
@@ -65,10 +66,15 @@ pub record RowTold : Type 0 where
   pub takes : List ℕ
   pub room : ℕ
   pub puts : List ℕ
+  pub files : List (List ℕ × List ℕ)
   pub status : ℕ
   pub error : List ℕ
   pub output : List ℕ
   pub said : Said
+
+-- a file's name, and what it holds
+abbrev pub file_told : RowFile → List ℕ × List ℕ
+file_told file = (string_bytes file.name, file.bytes.items)
 
 abbrev pub row_told : Row → RowTold
 row_told r = record {
@@ -80,6 +86,7 @@ row_told r = record {
   takes = r.takes.items;
   room = r.room;
   puts = r.puts.items;
+  files = map file_told r.files.items;
   status = r.wanted.status;
   error = r.wanted.line.items;
   output = r.wanted.output.items;
@@ -102,6 +109,7 @@ empty_row place name = record {
   takes = [];
   room = 1048576;
   puts = [];
+  files = [];
   status = 255;
   error = [];
   output = [];
@@ -166,13 +174,20 @@ TakesStatus rest body old new =
       said = record old.said { status = true };
     })
 
+-- a file: its name, and a form and bytes in it
+abbrev pub TakesFile : List ℕ → List ℕ → RowTold → RowTold → Type 0
+TakesFile rest body old new =
+    (bytes : List ℕ) × IsPlaced (behind_word rest) body × AreWrittenIn (behind_word rest) body bytes
+    × (new ≡ record old { files = old.files ++ (first_word rest, bytes) ∷ [] })
+
 -- what a section says, by its keyword
 abbrev pub Takes : SectionTold → RowTold → RowTold → Type 0
 Takes s old new =
     ((s.keyword ≡ codes "words") × TakesWords s.rest s.body old new)
     ⊎ (((s.keyword ≡ codes "input") × IsPlaced s.rest s.body × TakesInput s.rest s.body old new)
     ⊎ (((s.keyword ≡ codes "output") × IsPlaced s.rest s.body × TakesOutput s.rest s.body old new)
-    ⊎ ((s.keyword ≡ codes "status") × TakesStatus s.rest s.body old new)))
+    ⊎ (((s.keyword ≡ codes "status") × TakesStatus s.rest s.body old new)
+    ⊎ ((s.keyword ≡ codes "file") × TakesFile s.rest s.body old new))))
 
 -- a section more: a row that it begins, which has no body, or what it says of the last
 abbrev pub TakesLast : SectionTold → List RowTold → List RowTold → Type 0

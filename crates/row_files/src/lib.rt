@@ -10,4 +10,4 @@ mod sections;
 
 pub use cases::{Case, Line, case_of, line_of};
 pub use faults::LineFault;
-pub use rows::{Row, rows_of};
+pub use rows::{Row, RowFile, rows_of};

@@ -8,7 +8,8 @@ ghost use Rattle.row_files.specs.Rows.{AddsNumber, AddsWord, AreNumbers, AreWord
 ghost use Rattle.row_files.specs.Rows.{AreWrittenIn, AreTimes, row_told, empty_row, with_end};
 ghost use Rattle.row_files.specs.Rows.{nothing_said, IsPlaced, SaysPiece, SaysTakes, SaysRoom};
 ghost use Rattle.row_files.specs.Rows.{SaysPuts, TakesWords, TakesInput, TakesOutput};
-ghost use Rattle.row_files.specs.Rows.{TakesStatus, Takes, AddsSection, AreRows, AreRowsIn};
+ghost use Rattle.row_files.specs.Rows.{TakesStatus, TakesFile, Takes, AddsSection, AreRows};
+ghost use Rattle.row_files.specs.Rows.{AreRowsIn};
 
 use crate::faults::LineFault;
 use crate::lines::word_and_rest;
@@ -32,8 +33,17 @@ pub struct Row {
     pub room: usize,
     /// The puts that fail, counted from 0.
     pub puts: Vec<u64>,
+    /// The files that there are.
+    pub files: Vec<RowFile>,
     pub wanted: Outcome,
     said: Said,
+}
+
+/// A file, and what it holds.
+#[derive(Drop)]
+pub struct RowFile {
+    pub name: String,
+    pub bytes: Vec<u8>,
 }
 
 /// Which of the things that a row may say but once it has said.
@@ -115,6 +125,7 @@ impl Row {
             takes: Vec::new(alloc),
             room: ROOM,
             puts: Vec::new(alloc),
+            files: Vec::new(alloc),
             wanted: Outcome {
                 status: NO_STATUS,
                 line: Vec::new(alloc),
@@ -136,6 +147,7 @@ impl Row {
             "input" => self.take_input(alloc, rest, body),
             "output" => self.take_output(alloc, rest, body),
             "status" => self.take_status(alloc, rest, body),
+            "file" => self.take_file(alloc, rest, body),
             _ => Err(Fault::Form("no keyword of rows")),
         }
     }
@@ -241,6 +253,28 @@ impl Row {
         self.said.status = true;
         Ok(())
     }
+
+    /// A file's name, and a form and what it holds.
+    fn take_file(&mut self, alloc: Global, rest: &str, body: &str) -> Result<(), Fault>
+        ensures { OnOk result
+            (TakesFile rest.now body.now (row_told self.old) (row_told self.new)) }
+    {
+        let (name, rest) = word_and_rest(rest);
+        placed(rest, body)?;
+        let file = file_of(alloc, name, rest, body)?;
+        self.files.push(file)?;
+        Ok(())
+    }
+}
+
+/// A file of this name, with the bytes of a form.
+fn file_of(alloc: Global, name: &str, rest: &str, body: &str) -> Result<RowFile, Fault>
+    ensures name { IfOk result (λ file. string_bytes file.name ≡ name.now) }
+    ensures bytes { IfOk result (λ file. AreWrittenIn rest.now body.now file.bytes.items) }
+{
+    let bytes = written_bytes(alloc, rest, body)?;
+    let name = String::from_str(alloc, name)?;
+    Ok(RowFile { name, bytes })
 }
 
 fn status_of(text: &str) -> Result<u8, Fault>

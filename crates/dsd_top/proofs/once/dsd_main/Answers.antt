@@ -1,10 +1,21 @@
 -- Words that begin with "serve" are none of the table's.
-use Rattle.std.proofs.Common.{◌≡◌, ◌↔◌, None, rules}
+use Rattle.std.proofs.Common.{◌≡◌, None, rules}
 use Rattle.dsd_top.specs.Commands.{texts, request_of}
 use Rattle.dsd_top.proofs.Causes.{refused_known}
+use Rattle.dsd_top.proofs.Saying.{refused_front, refused_whole}
 use Rattle.dsd_top.proofs.once.dsd_main.Goals as goal
 
 pub returns-then-is_serve-clause-of_request : goal.returns-then-is_serve-clause-of_request
 returns-then-is_serve-clause-of_request g c =
-    let words : (c.refuse.result ≡ 2) ↔ (request_of (texts c.args.words.now) ≡ None) = search rules in
-    refused_known _ _ (words.0 c.refuse.ensures.status) c.refuse.ensures.status
+    let none : request_of (texts c.args.words.now) ≡ None = search rules in
+    refused_known _ _ none c.refuse.ensures.status
+
+pub returns-then-is_serve-clause-said : goal.returns-then-is_serve-clause-said
+returns-then-is_serve-clause-said g c =
+    let none : request_of (texts c.args.words.now) ≡ None = search rules in
+    λ e. refused_front _ _ _ _ _ _ none c.refuse.ensures.status c.refuse.ensures.said
+
+pub returns-then-is_serve-clause-said_all : goal.returns-then-is_serve-clause-said_all
+returns-then-is_serve-clause-said_all g c =
+    let none : request_of (texts c.args.words.now) ≡ None = search rules in
+    λ e quiet. refused_whole _ _ _ _ _ _ none c.refuse.ensures.status (c.refuse.ensures.said_all quiet)

@@ -17,3 +17,11 @@ returns-in-output c =
     let body = c.as_str-body.ensures.value in
     on_ok c.take_output.result _ _ _ (λ p h. inr (inr (inl (word, rw (rest, body) at p, rw (rest, body) at h))))
     c.take_output.ensures.placed c.take_output.ensures.taken
+
+pub returns-in-file : goal.returns-in-file
+returns-in-file c =
+    let word : string_bytes c.args.section.now.keyword ≡ codes "file" = search rules in
+    let rest = c.as_str-rest.ensures.value in
+    let body = c.as_str-body.ensures.value in
+    let said = c.take_file.ensures in
+    on_ok c.take_file.result _ _ _ (λ p h. inr (inr (inr (inr (word, rw (rest, body) at h))))) said said

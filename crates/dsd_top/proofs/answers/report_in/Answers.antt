@@ -2,7 +2,7 @@
 use Rattle.std.proofs.Common.{rules}
 use Rattle.hub_laws.specs.Laws.{SettledHoldings}
 use Rattle.dsd_top.proofs.Reported.{reported}
-use Rattle.dsd_top.proofs.once.report_in.Goals as goal
+use Rattle.dsd_top.proofs.answers.report_in.Goals as goal
 
 pub returns-clause-answer : goal.returns-clause-answer
 returns-clause-answer c =
