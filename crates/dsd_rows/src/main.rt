@@ -27,14 +27,16 @@
 //! Both sides are values in text, and repetitions may stand in them. `64 times` before a step has
 //! it done so often. A packet stands as on the wire.
 //!
-//! `data/tables/` has tables for the calls of the codecs, a case a line: what the call is given, an
-//! arrow `=>`, and what it answers. `data/README` has all of it.
+//! `data/tables/` has tables for the calls of the codecs and of schemas, a case a line: what the
+//! call is given, an arrow `=>`, and what it answers. `data/README` has all of it.
 #![tactic(auto)]
 
 ghost use Rattle.std.specs.Prelude.{◌≡◌, ◌≤◌, [], IfOk};
-ghost use Rattle.dsd_rows.specs.Files.{FileHolds};
+ghost use Rattle.row_schemas.specs.Tables.{table_named};
+ghost use Rattle.dsd_rows.specs.Files.{FileHolds, TableHolds};
 
-use row_cases::{Fault, Findings, Tally, judge_table, one_difference};
+use row_cases::{Fault, Findings, Tally, one_difference};
+use row_schemas::find_table;
 use std::alloc::{AllocError, Global};
 use std::process::ExitCode;
 use std::rt::Runtime;
@@ -173,6 +175,17 @@ fn judge(alloc: Global, folder: Folder, name: &str, text: &str) -> Result<Findin
     match folder {
         Folder::Rows => Ok(row_runs::judge_file(alloc, text)?),
         Folder::Steps => Ok(row_steps::judge_file(alloc, text)?),
-        Folder::Tables => judge_table(alloc, name, text),
+        Folder::Tables => judge_in_table(alloc, name, text),
+    }
+}
+
+/// What came of the cases of a table: one of schemas, or one of the codecs and the hash.
+fn judge_in_table(alloc: Global, name: &str, text: &str) -> Result<Findings, Fault>
+    ensures { IfOk result (λ found. found.differences.items ≡ []
+        → TableHolds (table_named name.now) name.now text.now) }
+{
+    match find_table(name) {
+        Some(table) => Ok(row_schemas::judge_table(alloc, table, text)?),
+        None => row_cases::judge_table(alloc, name, text),
     }
 }

@@ -1,0 +1,4 @@
+pub mod FaultCases
+pub mod Tables
+pub mod Told
+pub mod ValueCases
