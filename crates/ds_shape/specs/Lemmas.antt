@@ -1,0 +1,5 @@
+-- Lemmas on the definitions, which proofs here and above cite. A reader of the contracts needs none of them.
+pub mod Orders
+pub mod Parts
+pub mod Saying
+pub mod Telling
