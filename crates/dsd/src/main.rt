@@ -1,21 +1,17 @@
-//! `dsd`, a server of Syndicate dataspaces: the real streams, and the words of the command line.
+//! `dsd`, a server of Syndicate dataspaces: the real outside world is handed to the program.
 #![tactic(auto)]
 
 ghost use Rattle.std.specs.Prelude.{◌≡◌, ◌↔◌, [], ◌∷◌, Contains};
 ghost use Rattle.std.specs.declared.io.ErrorKind.TheVariants.{OutOfMemory};
 
-mod host;
-mod streams;
-
 use dsd_top::dsd_main;
-use host::RealHost;
 use out_ports::ports::Sink;
 use out_ports::streams::write_all;
+use out_real::{ReadSource, RealHost, WriteSink};
 use std::env;
 use std::io::{self, ErrorKind};
 use std::process::ExitCode;
 use std::rt::Env;
-use streams::{ReadSource, WriteSink};
 
 /// Does what the words after the program's name say, and ends with the status.
 fn main(rt: HostRuntime) -> ExitCode {

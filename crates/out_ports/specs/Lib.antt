@@ -3,4 +3,5 @@ pub mod MemHost
 pub mod MemListen
 pub mod MemSink
 pub mod MemSource
+pub mod MemSpawner
 pub mod Ports

@@ -1,5 +1,6 @@
--- What the calls on the outside world do: taking from a source, putting into a sink, accepting links, reading files.
-use Rattle.std.specs.Prelude.{◌≡◌, ℕ, ◌+◌, ◌-◌, ◌^◌, ◌≤◌, min, Bool, true, ⊤, if◌then◌else◌}
+-- What the calls on the outside world do: taking from a source, putting into a sink, accepting links, reading files,
+-- starting jobs.
+use Rattle.std.specs.Prelude.{◌≡◌, ℕ, ◌+◌, ◌-◌, ◌^◌, ◌<◌, ◌≤◌, min, Bool, true, false, ⊤, if◌then◌else◌}
 use Rattle.std.specs.Prelude.{List, [], ◌∷◌, ◌++◌, length, take, drop, Option, None, Some, IfSome}
 use Rattle.std.specs.Str.{bytes_eq}
 use Rattle.std.specs.Option.{option_map}
@@ -19,6 +20,10 @@ raised n before = min (before + n) (2 ^ 64 - 1)
 -- the count has risen, or stands at its end
 abbrev pub Rose : ℕ → ℕ → Type 0
 Rose before now = min (before + 1) (2 ^ 64 - 1) ≤ now
+
+-- the count has risen by n, or stands at its end
+abbrev pub RoseBy : ℕ → ℕ → ℕ → Type 0
+RoseBy n before now = now < 2 ^ 64 - 1 → now ≡ before + n
 
 -- Taking from a source
 
@@ -104,3 +109,15 @@ file_front bytes = take 1048577 bytes
 abbrev pub IsFile : Option (List (List ℕ × List ℕ)) → List ℕ → List ℕ → Type 0
 IsFile files name bytes =
     IfSome files (λ told. option_map file_front (contents_of name told) ≡ Some bytes)
+
+-- Starting jobs
+
+-- the count of jobs taken, after a start
+abbrev pub took_after : Bool → ℕ → ℕ
+took_after true before = raised 1 before
+took_after false before = before
+
+-- what a start does to the jobs that were taken, where they are told: the job comes last, or it isn't taken
+abbrev pub IsStarted : {J : Type 0} → Bool → J → Option (List J) → Option (List J) → Type 0
+IsStarted true job before now = IfSome before (λ jobs. now ≡ Some (jobs ++ job ∷ []))
+IsStarted false job before now = now ≡ before

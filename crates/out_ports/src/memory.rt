@@ -6,8 +6,10 @@ mod host;
 mod links;
 mod sink;
 mod source;
+mod spawner;
 
 pub use host::{MemFile, MemHost};
 pub use links::{MemLink, MemListen};
 pub use sink::MemSink;
 pub use source::MemSource;
+pub use spawner::MemSpawner;

@@ -1,17 +1,18 @@
-//! The outside world as the program sees it: sources, sinks, listeners and hosts.
+//! The outside world as the program sees it: sources, sinks, listeners, hosts and spawners.
 //!
 //! Each of them counts its own faults, in a count that never falls and stops at the greatest u64.
 //! A call that answers `Failed` has raised that count, and code that is generic over a trait can't
-//! raise it. What a source has left, what a sink holds and what files a host has is told by some
-//! and not by others.
-ghost use Rattle.std.specs.Prelude.{◌≡◌, ℕ, ◌<◌, ◌≤◌, Bool, List, length, vec_len, Option};
-ghost use Rattle.std.specs.Prelude.{IfOk, IsErrOf, OnOk, OnErr};
+//! raise it. What a source has left, what a sink holds, what files a host has and which jobs a
+//! spawner took is told by some and not by others.
+ghost use Rattle.std.specs.Prelude.{◌≡◌, ℕ, ◌<◌, ◌≤◌, Bool, false, ⊤, List, length, Option};
+ghost use Rattle.std.specs.Prelude.{vec_len, IfOk, IsErrOf, OnOk, OnErr};
 ghost use Rattle.out_ports.specs.declared.ports.HostFault.TheVariants.{NoMemory};
 ghost use Rattle.out_ports.specs.Ports.{raised, Rose, FitsBuffer, IsTaken, given_after};
 ghost use Rattle.out_ports.specs.Ports.{ended_after, FitsPiece, IsPut, gave_after, stops_after};
-ghost use Rattle.out_ports.specs.Ports.{IsFile};
+ghost use Rattle.out_ports.specs.Ports.{IsFile, took_after, IsStarted};
 
 use std::alloc::{AllocError, Global};
+use std::sync::Wait;
 use thiserror::Error;
 
 /// The most bytes of a file that a host gives: one more than a file may have, so that a longer one
@@ -209,4 +210,38 @@ pub trait Host: Listen {
         ensures ends { Self.stops self.new ≡ Self.stops self.old }
         ensures file_lasting { Self.file_faults self.old ≤ Self.file_faults self.new }
         ensures accept_lasting { Self.faults self.old ≤ Self.faults self.new };
+}
+
+/// A job of the real spawner.
+pub trait Run {
+    /// Does the job. It may wait.
+    fn run<Rt: Wait>(self, rt: &Rt);
+}
+
+/// Something that starts jobs, each of which then runs beside the caller.
+pub trait Spawner<J> {
+    /// Which jobs it can be asked to start: all of them, but for one that calls a closure.
+    ghost can_start: { Self → J → Type 0 } = { λ _ _. ⊤ };
+
+    /// The jobs that it took, in order, where it tells them.
+    ghost jobs: { Self → Option (List J) };
+
+    /// How many jobs it took, at most the greatest u64.
+    ghost took: { Self → ℕ };
+
+    /// How often it has failed.
+    ghost faults: { Self → ℕ };
+
+    /// How often it has failed.
+    fn faults(&self) -> u64
+        ensures { result ≡ faults self.now };
+
+    /// Takes the job and answers true, or drops it and answers false.
+    fn start(&mut self, job: J) -> bool
+        requires { can_start self.old job }
+        ensures keeps { (other : J) → can_start self.old other → can_start self.new other }
+        ensures content { IsStarted result job (jobs self.old) (jobs self.new) }
+        ensures counted { took self.new ≡ took_after result (took self.old) }
+        ensures lasting { faults self.old ≤ faults self.new }
+        ensures cause { result ≡ false → Rose (faults self.old) (faults self.new) };
 }

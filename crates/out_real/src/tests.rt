@@ -1,0 +1,5 @@
+//! Each adapter once.
+mod files;
+mod links;
+mod streams;
+mod threads;

@@ -1,0 +1,4 @@
+pub mod Leading
+pub mod Many
+pub mod One
+pub mod Starting
