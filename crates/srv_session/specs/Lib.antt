@@ -1,3 +1,4 @@
 pub mod Allowed
 pub mod Served
 pub mod Laws
+pub mod Seats

@@ -5,9 +5,11 @@
 #![tactic(auto)]
 
 mod laws;
+mod seated;
 mod served;
 #[cfg(test)]
 mod tests;
 
 pub use laws::histories_are_the_machines;
+pub use seated::Seated;
 pub use served::{Served, ServedStep};

@@ -1,0 +1,7 @@
+pub mod Replying
+pub mod Pairs
+pub mod Ending
+pub mod Dues
+pub mod Reading
+pub mod Taking
+pub mod Writing
