@@ -1,0 +1,346 @@
+-- The index after an observation or a value has come or gone.
+use Rattle.std.proofs.Common.{◌≡◌, ℕ, zero, suc, ◌+◌, ◌-◌, List, ◌∷◌, Bool, true, false, cond, ◌&&◌, ◌||◌}
+use Rattle.std.proofs.Common.{ltb, not, Option, Some, None, refl, ap, sym, ◌∙◌, subst, arith}
+use Rattle.std.specs.List.{list_any}
+use Rattle.std.specs.Option.{is_some}
+use Rattle.std.specs.BTreeMap as tree
+use Rattle.std.specs.BTreeMap.{BTreeMap}
+use Rattle.std.proofs.lemmas.Bool.Decides.{nat_tests}
+use Rattle.pv_value.specs.Plain.{Plain}
+use Rattle.pv_value.specs.declared.Entry.{Entry}
+use Rattle.pv_words.specs.Parts.{same}
+use Rattle.ds_shape.specs.Outlines.{Outline}
+use Rattle.ds_space.specs.Changes.{among}
+use Rattle.ds_space.specs.Lemmas.Keys.{same_is, same_turns}
+use Rattle.ds_skeleton.specs.Places.{Place, outline_order, same_outline, same_place, place_of, is_placed, observes}
+use Rattle.ds_skeleton.specs.Places.{is_outlined, has_outline, stands, count}
+use Rattle.ds_skeleton.specs.Leaves.{Leaf, number, kept, captured_at, observed_at, leaf_of}
+use Rattle.ds_skeleton.specs.Indexes.{IsIndexOf, is_kept}
+use Rattle.ds_skeleton.proofs.Same.{outline_is, outline_self}
+use Rattle.ds_skeleton.proofs.Leaves.{number-kept}
+use Rattle.ds_skeleton.proofs.Kept.{kept_is, kept_is_some, is_some-kept}
+use Rattle.ds_skeleton.proofs.Exact.{among_with}
+
+-- ---- an observation comes
+
+-- the counts of outlines, where one more observation has the outline t
+outline_more : (t s : Outline) (v : Plain) (place : Place) (seen : List Plain) (x y w : Option ℕ)
+    → place_of v ≡ Some place → place.outline ≡ t
+    → ((u : Outline) → same_outline t u ≡ true → w ≡ kept (count (has_outline u) seen))
+    → x ≡ kept (count (has_outline s) seen) → y ≡ cond (same_outline t s) (Some (number w + 1)) x
+    → y ≡ kept (count (has_outline s) (v ∷ seen))
+outline_more t s v place seen x y w is at here e f =
+    f ∙ by (same_outline t s) refl
+    ∙ ap (λ b. kept (cond b 1 0 + count (has_outline s) seen))
+    (sym (ap (is_outlined s) is ∙ ap (λ u. same_outline u s) at))
+  where
+    one_more : (n : ℕ) → Some (number (kept n) + 1) ≡ kept (1 + n)
+    one_more n = ap (λ m. Some (m + 1)) (number-kept n) ∙ plain n
+      where
+        plain : (n : ℕ) → Some (n + 1) ≡ kept (1 + n)
+        plain n = let e : n + 1 ≡ suc n = omega arith in let f : suc n ≡ 1 + n = omega arith in ap Some e ∙ ap kept f
+
+    none_more : (n : ℕ) → n ≡ 0 + n
+    none_more n = omega arith
+
+    by : (b : Bool) → same_outline t s ≡ b
+        → cond b (Some (number w + 1)) x ≡ kept (cond b 1 0 + count (has_outline s) seen)
+    by true g = ap (λ o. Some (number o + 1)) (here s g) ∙ one_more (count (has_outline s) seen)
+    by false g = e ∙ ap kept (none_more (count (has_outline s) seen))
+
+begun : (t d k b : Bool) (n x y : ℕ) → (t ≡ true → d ≡ k) → b ≡ (t || d) → x ≡ cond d n 0
+    → y ≡ x + cond (t && not k) n 0 → y ≡ cond b n 0
+begun true true true b n x y h i e f = omega (arith, ap (λ c. cond {A = ℕ} c n 0) i)
+begun true true false b n x y h i e f = absurd (clash (h refl))
+  where
+    clash : true ≡ false → ⊥
+    clash e = cc
+begun true false true b n x y h i e f = absurd (clash (h refl))
+  where
+    clash : false ≡ true → ⊥
+    clash e = cc
+begun true false false b n x y h i e f = omega (arith, ap (λ c. cond {A = ℕ} c n 0) i)
+begun false d k b n x y h i e f = omega (arith, ap (λ c. cond {A = ℕ} c n 0) i)
+
+observed_more : (sv ov w a : Bool) (x y : Bool) → (sv ≡ true → ov ≡ w) → x ≡ cond (w && sv) true y → y ≡ (a && ov)
+    → x ≡ ((sv || a) && ov)
+observed_more true ov true a x y h e f = e ∙ sym (h refl)
+observed_more true ov false a x y h e f = e ∙ f ∙ ap (λ t. a && t) (h refl) ∙ none a ∙ sym (h refl)
+  where
+    none : (a : Bool) → (a && false) ≡ false
+    none true = refl
+    none false = refl
+observed_more false ov true a x y h e f = e ∙ f
+observed_more false ov false a x y h e f = e ∙ f
+
+-- where an outline is kept after one more observation has the outline t
+kept_more : (outlines news : BTreeMap Outline ℕ) (t : Outline)
+    → ((s : Outline) → tree.get outline_order news s
+    ≡ cond (same_outline t s) (Some (number (tree.get outline_order outlines t) + 1))
+    (tree.get outline_order outlines s))
+    → (s : Outline) → is_kept news s ≡ (same_outline t s || is_kept outlines s)
+kept_more outlines news t put s =
+    kept_is_some news s ∙ ap is_some (put s) ∙ by (same_outline t s) (tree.get outline_order outlines s)
+    ∙ ap (λ b. same_outline t s || b) (sym (kept_is_some outlines s))
+  where
+    by : (b : Bool) (x : Option ℕ) → is_some (cond b (Some (number (tree.get outline_order outlines t) + 1)) x)
+        ≡ (b || is_some x)
+    by true x = refl
+    by false x = refl
+
+pub observer_came : (vs : List Plain) (O N : BTreeMap Outline ℕ) (L M K : BTreeMap Entry Leaf) (v : Plain)
+    (place : Place) → place_of v ≡ Some place → IsIndexOf vs vs O L
+    → ((p : Place) (c : Plain) → captured_at (leaf_of M p) c ≡ captured_at (leaf_of L p) c
+    + cond (same_outline place.outline p.outline && not (is_kept O place.outline))
+    (count (stands p.outline p.constants c) vs) 0)
+    → ((p : Place) (o : Plain) → observed_at (leaf_of M p) o ≡ observed_at (leaf_of L p) o)
+    → ((p : Place) (c : Plain) → captured_at (leaf_of K p) c ≡ captured_at (leaf_of M p) c)
+    → ((p : Place) (o : Plain) → observed_at (leaf_of K p) o
+    ≡ cond (same_place place p && same v o) true (observed_at (leaf_of M p) o))
+    → ((s : Outline) → tree.get outline_order N s
+    ≡ cond (same_outline place.outline s) (Some (number (tree.get outline_order O place.outline) + 1))
+    (tree.get outline_order O s))
+    → IsIndexOf vs (v ∷ vs) N K
+observer_came vs O N L M K v place is index begin same_seen same_counts seen put = record {
+  outlines_are = λ s.
+      outline_more place.outline s v place vs (tree.get outline_order O s) (tree.get outline_order N s)
+      (tree.get outline_order O place.outline) is refl
+      (λ u e. ap (tree.get outline_order O) (outline_is place.outline u e) ∙ index.outlines_are u)
+      (index.outlines_are s) (put s);
+  counts = λ p c.
+      same_counts p c
+      ∙ begun (same_outline place.outline p.outline) (is_kept O p.outline) (is_kept O place.outline)
+      (is_kept N p.outline) (count (stands p.outline p.constants c) vs) (captured_at (leaf_of L p) c)
+      (captured_at (leaf_of M p) c) (λ e. ap (is_kept O) (sym (outline_is place.outline p.outline e)))
+      (kept_more O N place.outline put p.outline) (index.counts p c) (begin p c);
+  observers = λ p o.
+      observed_more (same v o) (observes o p) (same_place place p) (among o vs) (observed_at (leaf_of K p) o)
+      (observed_at (leaf_of M p) o)
+      (λ e. ap (λ x. observes x p) (sym (same_is v o e)) ∙ ap (λ x. is_placed x p) is) (seen p o)
+      (same_seen p o ∙ index.observers p o)
+      ∙ ap (λ t. (t || among o vs) && observes o p) (same_turns v o);
+}
+
+unobserved : (sv ov a x : Bool) → (sv ≡ true → ov ≡ false) → x ≡ (a && ov) → x ≡ ((sv || a) && ov)
+unobserved true ov a x h e = e ∙ ap (λ t. a && t) (h refl) ∙ none a ∙ sym (h refl)
+  where
+    none : (a : Bool) → (a && false) ≡ false
+    none true = refl
+    none false = refl
+unobserved false ov a x h e = e
+
+none_counted : (v : Plain) (s : Outline) (seen : List Plain) → place_of v ≡ None
+    → kept (count (has_outline s) seen) ≡ kept (count (has_outline s) (v ∷ seen))
+none_counted v s seen is =
+    ap kept (plain (count (has_outline s) seen))
+    ∙ ap (λ x. kept (cond (is_outlined s x) 1 0 + count (has_outline s) seen)) (sym is)
+  where
+    plain : (n : ℕ) → n ≡ 0 + n
+    plain n = omega arith
+
+-- a value that is no observation changes nothing of the observers
+pub other_came : (vs seen : List Plain) (O : BTreeMap Outline ℕ) (L : BTreeMap Entry Leaf) (v : Plain)
+    → place_of v ≡ None → IsIndexOf vs seen O L → IsIndexOf vs (v ∷ seen) O L
+other_came vs seen O L v is index = record {
+  outlines_are = λ s. index.outlines_are s ∙ none_counted v s seen is;
+  counts = index.counts;
+  observers = λ p o.
+      unobserved (same o v) (observes o p) (among o seen) (observed_at (leaf_of L p) o)
+      (λ e. ap (λ x. is_placed x p) (ap place_of (same_is o v e) ∙ is)) (index.observers p o);
+}
+
+or_right : (sv ov a x : Bool) → (sv ≡ true → ov ≡ false) → x ≡ ((sv || a) && ov) → x ≡ (a && ov)
+or_right true ov a x h e = e ∙ h refl ∙ sym (ap (λ t. a && t) (h refl) ∙ none a)
+  where
+    none : (a : Bool) → (a && false) ≡ false
+    none true = refl
+    none false = refl
+or_right false ov a x h e = e
+
+pub other_went : (vs seen : List Plain) (O : BTreeMap Outline ℕ) (L : BTreeMap Entry Leaf) (v : Plain)
+    → place_of v ≡ None → IsIndexOf vs (v ∷ seen) O L → IsIndexOf vs seen O L
+other_went vs seen O L v is index = record {
+  outlines_are = λ s. index.outlines_are s ∙ sym (none_counted v s seen is);
+  counts = index.counts;
+  observers = λ p o.
+      or_right (same o v) (observes o p) (among o seen) (observed_at (leaf_of L p) o)
+      (λ e. ap (λ x. is_placed x p) (ap place_of (same_is o v e) ∙ is)) (index.observers p o);
+}
+
+-- ---- an observation goes
+
+outline_less : (t s : Outline) (v : Plain) (place : Place) (seen : List Plain) (x y w : Option ℕ)
+    → place_of v ≡ Some place → place.outline ≡ t
+    → ((u : Outline) → same_outline t u ≡ true → w ≡ kept (count (has_outline u) (v ∷ seen)))
+    → x ≡ kept (count (has_outline s) (v ∷ seen)) → y ≡ cond (same_outline t s) (kept (number w - 1)) x
+    → y ≡ kept (count (has_outline s) seen)
+outline_less t s v place seen x y w is at here e f = f ∙ by (same_outline t s) refl
+  where
+    has : has_outline s v ≡ same_outline t s
+    has = ap (is_outlined s) is ∙ ap (λ u. same_outline u s) at
+
+    one_less : (n m : ℕ) → n ≡ 1 + m → kept (n - 1) ≡ kept m
+    one_less n m e = ap kept (omega arith)
+
+    none_less : (n : ℕ) → 0 + n ≡ n
+    none_less n = omega arith
+
+    by : (b : Bool) → same_outline t s ≡ b → cond b (kept (number w - 1)) x ≡ kept (count (has_outline s) seen)
+    by true g =
+        one_less (number w) (count (has_outline s) seen)
+        (ap number (here s g) ∙ number-kept (count (has_outline s) (v ∷ seen))
+        ∙ ap (λ b. cond b 1 0 + count (has_outline s) seen) (has ∙ g))
+    by false g =
+        e ∙ ap (λ b. kept (cond b 1 0 + count (has_outline s) seen)) (has ∙ g)
+        ∙ ap kept (none_less (count (has_outline s) seen))
+
+ended : (t d b : Bool) (m n x y : ℕ) → (t ≡ true → b ≡ ltb 1 m) → (t ≡ true → d ≡ true) → (t ≡ false → b ≡ d)
+    → x ≡ cond d n 0 → y ≡ x - cond (t && not (ltb 1 m)) n 0 → y ≡ cond b n 0
+ended true d b m n x y h i j e f = by (ltb 1 m) (h refl) f
+  where
+    g : x ≡ n
+    g = e ∙ ap (λ c. cond {A = ℕ} c n 0) (i refl)
+
+    by : (l : Bool) → b ≡ l → y ≡ x - cond (not l) n 0 → y ≡ cond b n 0
+    by true k r = let u : cond {A = ℕ} b n 0 ≡ n = ap (λ c. cond {A = ℕ} c n 0) k in omega (arith, g, u)
+    by false k r = let u : cond {A = ℕ} b n 0 ≡ 0 = ap (λ c. cond {A = ℕ} c n 0) k in omega (arith, g, u)
+ended false d b m n x y h i j e f =
+    let u : cond {A = ℕ} b n 0 ≡ cond d n 0 = ap (λ c. cond {A = ℕ} c n 0) (j refl) in
+    omega (arith, u)
+
+observed_less : (sv ov w a b x y : Bool) → (sv ≡ true → ov ≡ w) → (sv ≡ true → b ≡ false) → a ≡ (sv || b)
+    → x ≡ cond (w && sv) false y → y ≡ (a && ov) → x ≡ (b && ov)
+observed_less true ov true a b x y h g i e f = e ∙ ap (λ t. t && ov) (sym (g refl))
+observed_less true ov false a b x y h g i e f =
+    e ∙ f ∙ ap (λ t. a && t) (h refl) ∙ none a ∙ ap (λ t. t && ov) (sym (g refl))
+  where
+    none : (a : Bool) → (a && false) ≡ false
+    none true = refl
+    none false = refl
+observed_less false ov true a b x y h g i e f = e ∙ f ∙ ap (λ t. t && ov) i
+observed_less false ov false a b x y h g i e f = e ∙ f ∙ ap (λ t. t && ov) i
+
+pub observer_went : (vs seen : List Plain) (O N : BTreeMap Outline ℕ) (L M K : BTreeMap Entry Leaf) (v : Plain)
+    (place : Place) → place_of v ≡ Some place → among v seen ≡ false → IsIndexOf vs (v ∷ seen) O L
+    → ((p : Place) (c : Plain) → captured_at (leaf_of M p) c ≡ captured_at (leaf_of L p) c)
+    → ((p : Place) (o : Plain) → observed_at (leaf_of M p) o
+    ≡ cond (same_place place p && same v o) false (observed_at (leaf_of L p) o))
+    → ((p : Place) (c : Plain) → captured_at (leaf_of K p) c ≡ captured_at (leaf_of M p) c
+    - cond (same_outline place.outline p.outline && not (ltb 1 (number (tree.get outline_order O place.outline))))
+    (count (stands p.outline p.constants c) vs) 0)
+    → ((p : Place) (o : Plain) → observed_at (leaf_of K p) o ≡ observed_at (leaf_of M p) o)
+    → ((s : Outline) → tree.get outline_order N s
+    ≡ cond (same_outline place.outline s) (kept (number (tree.get outline_order O place.outline) - 1))
+    (tree.get outline_order O s))
+    → IsIndexOf vs seen N K
+observer_went vs seen O N L M K v place is gone index same_counts unseen end same_seen put = record {
+  outlines_are = outlines_are;
+  counts = λ p c.
+      ended (same_outline place.outline p.outline) (is_kept O p.outline) (is_kept N p.outline)
+      (number (tree.get outline_order O place.outline)) (count (stands p.outline p.constants c) vs)
+      (captured_at (leaf_of L p) c) (captured_at (leaf_of K p) c) (λ e. kept_here p.outline e)
+      (λ e. ap (is_kept O) (sym (outline_is place.outline p.outline e)) ∙ was_kept)
+      (λ e. kept_is_some N p.outline ∙ ap is_some (put p.outline)
+      ∙ ap (λ b. is_some (cond b (kept (number (tree.get outline_order O place.outline) - 1))
+      (tree.get outline_order O p.outline))) e
+      ∙ sym (kept_is_some O p.outline))
+      (index.counts p c)
+      (end p c ∙ ap (λ n. n - cond (same_outline place.outline p.outline
+      && not (ltb 1 (number (tree.get outline_order O place.outline)))) (count (stands p.outline p.constants c) vs) 0)
+      (same_counts p c));
+  observers = λ p o.
+      observed_less (same v o) (observes o p) (same_place place p) (same o v || among o seen) (among o seen)
+      (observed_at (leaf_of K p) o) (observed_at (leaf_of L p) o)
+      (λ e. ap (λ x. observes x p) (sym (same_is v o e)) ∙ ap (λ x. is_placed x p) is)
+      (λ e. subst (λ (x : Plain). among x seen ≡ false) (same_is v o e) gone)
+      (ap (λ t. t || among o seen) (same_turns o v)) (same_seen p o ∙ unseen p o) (index.observers p o);
+}
+  where
+    outlines_are : (s : Outline) → tree.get outline_order N s ≡ kept (count (has_outline s) seen)
+    outlines_are s =
+        outline_less place.outline s v place seen (tree.get outline_order O s) (tree.get outline_order N s)
+        (tree.get outline_order O place.outline) is refl
+        (λ u e. ap (tree.get outline_order O) (outline_is place.outline u e) ∙ index.outlines_are u)
+        (index.outlines_are s) (put s)
+
+    was_kept : is_kept O place.outline ≡ true
+    was_kept =
+        kept_is O (v ∷ seen) index.outlines_are place.outline
+        ∙ ap (λ b. b || list_any (has_outline place.outline) seen)
+        (ap (is_outlined place.outline) is ∙ outline_self place.outline)
+
+    fewer : (n : ℕ) → is_some (kept (n - 1)) ≡ ltb 1 n
+    fewer zero = refl
+    fewer (suc n) = is_some-kept (suc n - 1) ∙ grind (arith, nat_tests)
+
+    kept_here : (s : Outline) → same_outline place.outline s ≡ true
+        → is_kept N s ≡ ltb 1 (number (tree.get outline_order O place.outline))
+    kept_here s e =
+        kept_is_some N s ∙ ap is_some (put s)
+        ∙ ap (λ b. is_some (cond b (kept (number (tree.get outline_order O place.outline) - 1))
+        (tree.get outline_order O s))) e
+        ∙ fewer (number (tree.get outline_order O place.outline))
+
+-- ---- a value comes or goes
+
+count_more : (d st : Bool) (n x y : ℕ) (m : ℕ) → x ≡ cond d n 0 → y ≡ x + cond (d && st) 1 0 → m ≡ n + cond st 1 0
+    → y ≡ cond d m 0
+count_more true st n x y m e f g = omega arith
+count_more false st n x y m e f g = omega arith
+
+count_less : (d st : Bool) (n x y : ℕ) (m : ℕ) → x ≡ cond d n 0 → y ≡ x - cond (d && st) 1 0 → n ≡ m + cond st 1 0
+    → y ≡ cond d m 0
+count_less true st n x y m e f g = omega arith
+count_less false st n x y m e f g = omega arith
+
+front : (a n : ℕ) → a + n ≡ n + a
+front a n = omega arith
+
+-- the same observations in another order
+pub seen_alike : (vs seen others : List Plain) (O : BTreeMap Outline ℕ) (L : BTreeMap Entry Leaf)
+    → ((f : Plain → Bool) → count f seen ≡ count f others) → ((o : Plain) → among o seen ≡ among o others)
+    → IsIndexOf vs seen O L → IsIndexOf vs others O L
+seen_alike vs seen others O L same_count same_among index = record {
+  outlines_are = λ s. index.outlines_are s ∙ ap kept (same_count (has_outline s));
+  counts = index.counts;
+  observers = λ p o. index.observers p o ∙ ap (λ t. t && observes o p) (same_among o);
+}
+
+pub value_came : (vs ws seen : List Plain) (O : BTreeMap Outline ℕ) (L M : BTreeMap Entry Leaf) (v : Plain)
+    → ((f : Plain → Bool) → count f ws ≡ count f vs + cond (f v) 1 0) → IsIndexOf vs seen O L
+    → ((p : Place) (c : Plain) → captured_at (leaf_of M p) c ≡ captured_at (leaf_of L p) c
+    + cond (is_kept O p.outline && stands p.outline p.constants c v) 1 0)
+    → ((p : Place) (o : Plain) → observed_at (leaf_of M p) o ≡ observed_at (leaf_of L p) o)
+    → IsIndexOf ws seen O M
+value_came vs ws seen O L M v more index up same_seen = record {
+  outlines_are = index.outlines_are;
+  counts = λ p c.
+      count_more (is_kept O p.outline) (stands p.outline p.constants c v) (count (stands p.outline p.constants c) vs)
+      (captured_at (leaf_of L p) c) (captured_at (leaf_of M p) c) (count (stands p.outline p.constants c) ws)
+      (index.counts p c) (up p c) (more (stands p.outline p.constants c));
+  observers = λ p o. same_seen p o ∙ index.observers p o;
+}
+
+pub value_went : (vs ws seen : List Plain) (O : BTreeMap Outline ℕ) (L M : BTreeMap Entry Leaf) (v : Plain)
+    → ((f : Plain → Bool) → count f vs ≡ count f ws + cond (f v) 1 0) → IsIndexOf vs seen O L
+    → ((p : Place) (c : Plain) → captured_at (leaf_of M p) c ≡ captured_at (leaf_of L p) c
+    - cond (is_kept O p.outline && stands p.outline p.constants c v) 1 0)
+    → ((p : Place) (o : Plain) → observed_at (leaf_of M p) o ≡ observed_at (leaf_of L p) o)
+    → IsIndexOf ws seen O M
+value_went vs ws seen O L M v more index down same_seen = record {
+  outlines_are = index.outlines_are;
+  counts = λ p c.
+      count_less (is_kept O p.outline) (stands p.outline p.constants c v) (count (stands p.outline p.constants c) vs)
+      (captured_at (leaf_of L p) c) (captured_at (leaf_of M p) c) (count (stands p.outline p.constants c) ws)
+      (index.counts p c) (down p c) (more (stands p.outline p.constants c));
+  observers = λ p o. same_seen p o ∙ index.observers p o;
+}
+
+-- the first of a list counts like one more
+pub with_first : (vs ws : List Plain) (v : Plain) → ((f : Plain → Bool) → count f ws ≡ count f vs + cond (f v) 1 0)
+    → (f : Plain → Bool) → count f (v ∷ vs) ≡ count f ws
+with_first vs ws v more f = front (cond (f v) 1 0) (count f vs) ∙ sym (more f)
+
+pub among_first : (vs ws : List Plain) (v : Plain) → ((f : Plain → Bool) → count f ws ≡ count f vs + cond (f v) 1 0)
+    → (o : Plain) → among o (v ∷ vs) ≡ among o ws
+among_first vs ws v more o = sym (among_with o v ws vs more)

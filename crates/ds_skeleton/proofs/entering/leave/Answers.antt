@@ -1,0 +1,42 @@
+use Rattle.std.proofs.Common.{◌≡◌, ◌+◌, ◌∷◌, Bool, cond, sym, ◌∙◌, rules}
+use Rattle.std.specs.BTreeMap as tree
+use Rattle.pv_value.specs.Plain.{Plain}
+use Rattle.pv_value.specs.Order.{order}
+use Rattle.pv_words.specs.Parts.{same}
+use Rattle.ds_space.specs.Lemmas.Keys.{same_is}
+use Rattle.ds_skeleton.specs.Places.{count}
+use Rattle.ds_skeleton.proofs.Entries.{keys_out, no_key, at_some}
+use Rattle.ds_skeleton.proofs.Exact.{exact}
+use Rattle.ds_skeleton.proofs.Moves.{value_went, seen_alike, with_first, among_first}
+use Rattle.ds_skeleton.proofs.entering.leave.Goals as goal
+
+pub unobserve-requires-clause-index : goal.unobserve-requires-clause-index
+unobserve-requires-clause-index c =
+    let vs = tree.keys c.args.index.now.values in
+    let ws = tree.keys c.remove.new.self in
+    let v = c.args.value.now in
+    let more : (f : Plain → Bool) → count f vs ≡ count f ws + cond (f v) 1 0 =
+    λ f. at_some (tree.get order c.args.index.now.values v) (search rules) (λ n some.
+    keys_out (same v) f v n c.args.index.now.values.entries c.remove.new.self.entries (same_is v) some
+    c.remove.ensures.entries) in
+    seen_alike ws vs (v ∷ ws) c.args.index.now.outlines c.drop_all.new.leaves (λ f. sym (with_first ws vs v more f))
+    (λ o. sym (among_first ws vs v more o))
+    (value_went vs ws vs c.args.index.now.outlines c.args.index.now.leaves c.drop_all.new.leaves v more c.requires.whole
+    c.in_ok-drop_all.ensures.counts c.in_ok-drop_all.ensures.observers)
+
+pub unobserve-requires-clause-gone : goal.unobserve-requires-clause-gone
+unobserve-requires-clause-gone c =
+    no_key (same c.args.value.now) c.remove.new.self.entries c.remove.ensures.updates.1
+
+pub returns-clause-keys : goal.returns-clause-keys
+returns-clause-keys c q =
+    let vs = tree.keys c.args.index.now.values in
+    let ws = tree.keys c.remove.new.self in
+    let v = c.args.value.now in
+    let more : (f : Plain → Bool) → count f vs ≡ count f ws + cond (f v) 1 0 =
+    λ f. at_some (tree.get order c.args.index.now.values v) (search rules) (λ n some.
+    keys_out (same v) f v n c.args.index.now.values.entries c.remove.new.self.entries (same_is v) some
+    c.remove.ensures.entries) in
+    c.in_ok-keys.ensures q
+    ∙ exact vs ws c.args.index.now.outlines c.args.index.now.leaves v more
+    (no_key (same v) c.remove.new.self.entries c.remove.ensures.updates.1) c.requires.whole q

@@ -1,0 +1,12 @@
+use Rattle.std.proofs.Common.{◌≡◌, map}
+use Rattle.std.specs.List.{list_any}
+use Rattle.std.specs.Map.Iter.{deref}
+use Rattle.std.specs.BTreeSet as sorted
+use Rattle.pv_value.specs.EntryOrder.{entry_order}
+use Rattle.pv_value.specs.declared.Entry.{Entry}
+use Rattle.ds_skeleton.specs.Indexes.{touched}
+use Rattle.ds_skeleton.proofs.touching.keys_with.Given as goal
+
+abbrev pub invariant-loop-outline : goal.invariant-loop-outline
+invariant-loop-outline l =
+    (q : Entry) → sorted.contains entry_order l.keys q ≡ list_any (touched l.leaves l.value q) (map deref l.yielded)

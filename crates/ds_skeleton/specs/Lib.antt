@@ -1,0 +1,5 @@
+pub mod Indexes
+pub mod Keys
+pub mod Laws
+pub mod Leaves
+pub mod Places

@@ -1,0 +1,27 @@
+//! The counted index: a dataspace that changes at the cost of what changes.
+//!
+//! A [`Skeleton`] does what `ds_space::PlainSpace` does, word for word. It keeps, beside its rows,
+//! an index of the distinct values: the outlines of the observations, and for each outline and
+//! constants who observes so, and how many values were captured so. Only a value's first row that
+//! comes and its last row that goes change anything.
+//!
+//! What the index holds of a list of values is `IsIndex` of `specs/Indexes.antt`.
+#![tactic(auto)]
+
+mod counting;
+mod entering;
+mod fanning;
+mod index;
+mod keyed;
+mod laws;
+mod leaf;
+mod listing;
+mod observing;
+mod outlines;
+mod skeleton;
+mod standing;
+mod tally;
+mod touching;
+
+pub use laws::{counts_are_wants, leaves_count_captures};
+pub use skeleton::Skeleton;

@@ -1,0 +1,9 @@
+pub mod Alike
+pub mod Behind
+pub mod One
+pub mod Powers
+pub mod Stopping
+pub mod TagBytes
+pub mod Unrepeated
+pub mod Utf8
+pub mod Walking

@@ -1,0 +1,159 @@
+//! What was pushed of a stream and isn't given yet.
+ghost use Rattle.std.specs.Prelude.{◌≡◌, ◌+◌, ◌≤◌, ◌<◌, ◌^◌, length, drop};
+ghost use Rattle.std.specs.Prelude.{IfOk, OnOk, OnErr, IsTrue};
+ghost use Rattle.pv_binary.specs.OneOfThree.{IsFront};
+ghost use Rattle.std.specs.Vec.{vec_len};
+ghost use Rattle.pv_stream.specs.Feeds.{no_bytes, with_bytes};
+ghost use Rattle.pv_stream.specs.Nexts.{IsNext, IsOnlyNext};
+
+use crate::nexts::{MOST_BYTES, Next, first_in, more};
+use crate::walks::{Level, walk};
+use pv_value::NoMemory;
+use std::alloc::Global;
+use std::marker::Model;
+
+/// A stream of values that comes in pieces.
+///
+/// Contracts see the bytes that are left, and how many of the stream's bytes stand before them.
+/// A value that comes bit by bit is looked at once, and not anew with each piece: the feed keeps
+/// which compounds are open, up to a place.
+#[derive(Drop)]
+pub struct Feed {
+    bytes: Vec<u8>,
+    start: usize,
+    gone: u64,
+    place: usize,
+    levels: Vec<Level>,
+}
+
+impl Model for Feed {
+    ghost use Rattle.std.specs.Prelude.{drop, length, ◌+◌, ◌≤◌, ◌<◌, ◌^◌};
+    ghost use Rattle.pv_stream.specs.Feeds.{FeedState};
+
+    ghost Value = { FeedState };
+
+    ghost view = { λ f. record { left = drop f.start f.bytes.items; before = f.gone + f.start } };
+
+    ghost use Rattle.pv_stream.specs.Walks.{IsAt};
+
+    ghost invariant = { λ f.
+        (f.start ≤ length f.bytes.items) × (f.gone + length f.bytes.items < 2 ^ 63)
+        × IsAt (drop f.start f.bytes.items) f.place f.levels.items };
+}
+
+/// The bytes behind the first so many.
+fn drop_front(bytes: &mut Vec<u8>, count: usize)
+    requires { count ≤ length bytes.old.items }
+    ensures { bytes.new.items ≡ drop count bytes.old.items }
+{
+    bytes.drain(..count);
+}
+
+impl Feed {
+    /// Nothing was pushed. It takes no memory.
+    pub fn new(alloc: Global) -> Feed
+        ensures { result ≡ no_bytes }
+    {
+        Feed {
+            bytes: Vec::new(alloc),
+            start: 0,
+            gone: 0,
+            place: 0,
+            levels: Vec::new(alloc),
+        }
+    }
+
+    /// How many bytes are left. It takes no memory.
+    pub fn left(&self) -> u64
+        ensures { result ≡ length self.now.left }
+    {
+        (self.bytes.len() - self.start) as u64
+    }
+
+    /// A piece comes, behind what is left. For want of memory nothing does, and so where the
+    /// stream would have 2^63 bytes.
+    pub fn push(&mut self, piece: &[u8]) -> Result<(), NoMemory>
+        ensures longer { OnOk result (self.new ≡ with_bytes piece.now self.old) }
+        ensures undone { OnErr result (self.new ≡ self.old) }
+    {
+        self.forget();
+        if self.gone + self.bytes.len() as u64 + piece.len() as u64 >= 1 << 63 {
+            return Err(NoMemory);
+        }
+        self.bytes.extend_from_slice(piece)?;
+        Ok(())
+    }
+
+    /// What was given is kept no longer.
+    fn forget(&mut self)
+        ensures { self.new ≡ self.old }
+    {
+        if self.start > 0 {
+            drop_front(&mut self.bytes, self.start);
+            self.gone += self.start as u64;
+            self.start = 0;
+        }
+    }
+
+    /// What is next. A value is given, and no longer left.
+    pub fn next(&mut self, alloc: Global) -> Result<Next, NoMemory>
+        ensures told { IfOk result (λ x. IsNext self.old x self.new) }
+        ensures only { IfOk result (λ x. IsOnlyNext self.old x self.new) }
+        ensures undone { OnErr result (self.new ≡ self.old) }
+    {
+        if self.waits(alloc)? {
+            return Ok(more(self.bytes_left(), self.before()));
+        }
+        let (next, size) = first_in(alloc, self.bytes_left(), self.before())?;
+        self.start += size;
+        self.place = 0;
+        self.levels.clear();
+        Ok(next)
+    }
+
+    /// Whether a value is known to begin and not to end yet. Where it isn't known, the value is to
+    /// be read.
+    fn waits(&mut self, alloc: Global) -> Result<bool, NoMemory>
+        ensures same { self.new ≡ self.old }
+        ensures waits { IfOk result (λ b. IsTrue b
+            → (length self.old.left < 262144) × IsFront self.old.left) }
+    {
+        if self.bytes.len() - self.start >= MOST_BYTES {
+            return Ok(false);
+        }
+        match walk(
+            alloc,
+            &self.bytes[self.start..],
+            self.place,
+            &mut self.levels,
+        ) {
+            Ok(Some(place)) => {
+                self.place = place;
+                Ok(true)
+            }
+            Ok(None) => {
+                self.place = 0;
+                self.levels.clear();
+                Ok(false)
+            }
+            Err(NoMemory) => {
+                self.place = 0;
+                self.levels.clear();
+                Err(NoMemory)
+            }
+        }
+    }
+
+    fn bytes_left(&self) -> &[u8]
+        ensures left { result.now ≡ self.now.left }
+        ensures few { self.now.before + length self.now.left < 2 ^ 63 }
+    {
+        &self.bytes[self.start..]
+    }
+
+    fn before(&self) -> u64
+        ensures { result ≡ self.now.before }
+    {
+        self.gone + self.start as u64
+    }
+}

@@ -1,0 +1,16 @@
+//! Values from a stream of bytes that comes in pieces.
+#![tactic(auto)]
+
+mod feeds;
+mod laws;
+mod nexts;
+mod passing;
+mod scans;
+mod stops;
+mod walks;
+
+pub use feeds::Feed;
+pub use laws::{any_pieces, one_course, one_next, scan_is_reading};
+pub use nexts::Next;
+pub use scans::scan;
+pub use stops::Scan;

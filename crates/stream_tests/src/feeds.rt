@@ -1,0 +1,160 @@
+//! What a feed tells is next.
+use pv_binary::{BinKind, write};
+use pv_stream::{Feed, Next};
+use pv_value::{Items, NoMemory, Text, Value};
+use std::alloc::Global;
+use std::test::Fail;
+
+fn is_more(next: Next) -> bool {
+    match next {
+        Next::More => true,
+        _ => false,
+    }
+}
+
+fn is_some_value(next: Next) -> bool {
+    match next {
+        Next::Value(_) => true,
+        _ => false,
+    }
+}
+
+fn is_too_long(next: Next) -> bool {
+    match next {
+        Next::TooLong => true,
+        _ => false,
+    }
+}
+
+fn is_fault(next: Next, kind: BinKind, at: u64) -> bool {
+    match next {
+        Next::Fault(told, place) => told == kind && place == at,
+        _ => false,
+    }
+}
+
+/// A feed with a string that announces 2^60 bytes, of which so many come; it was asked before them.
+fn announced(alloc: Global, count: usize) -> Result<Feed, NoMemory> {
+    let mut feed = Feed::new(alloc);
+    feed.push(&[0xb1, 0x80, 0x80, 0x80, 0x80, 0x80, 0x80, 0x80, 0x80, 0x10])?;
+    feed.next(alloc)?;
+    let piece = [0u8; 4096];
+    for _ in 0..count / 4096 {
+        feed.push(&piece)?;
+    }
+    feed.push(&piece[..count % 4096])?;
+    Ok(feed)
+}
+
+fn waits_behind(alloc: Global, count: usize) -> Result<bool, NoMemory> {
+    let mut feed = announced(alloc, count)?;
+    Ok(is_more(feed.next(alloc)?))
+}
+
+fn is_too_long_behind(alloc: Global, count: usize) -> Result<bool, NoMemory> {
+    let mut feed = announced(alloc, count)?;
+    Ok(is_too_long(feed.next(alloc)?))
+}
+
+#[test]
+fn a_value_is_too_long_at_its_last_byte(rt: HostRuntime) -> Result<(), Fail> {
+    assert!(rt; waits_behind(rt.alloc(), 262_133)?);
+    assert!(rt; is_too_long_behind(rt.alloc(), 262_134)?);
+    Ok(())
+}
+
+/// Whether this fault stands in the bytes, behind so many values.
+fn stands(
+    alloc: Global,
+    bytes: &[u8],
+    values: u32,
+    kind: BinKind,
+    at: u64,
+) -> Result<bool, NoMemory> {
+    let mut feed = Feed::new(alloc);
+    feed.push(bytes)?;
+    for _ in 0..values {
+        if !is_some_value(feed.next(alloc)?) {
+            return Ok(false);
+        }
+    }
+    Ok(is_fault(feed.next(alloc)?, kind, at))
+}
+
+#[test]
+fn faults_are_told_by_their_place_in_the_stream(rt: HostRuntime) -> Result<(), Fail> {
+    assert!(rt; stands(rt.alloc(), &[0xb5; 65], 0, BinKind::TooDeep, 64)?);
+    assert!(rt; stands(rt.alloc(), &[0xb5, 0x84, 0x80, 0xff], 2, BinKind::BadTag, 3)?);
+    assert!(rt;
+        stands(
+            rt.alloc(),
+            &[0xb5, 0xb6, 0x80, 0x80, 0x84],
+            0,
+            BinKind::Duplicate,
+            1
+        )?
+    );
+    Ok(())
+}
+
+/// `[1 #:#t <"ab">]`
+fn value_of_all(alloc: Global) -> Result<Value, Fail> {
+    let mut items = Vec::new(alloc);
+    items.push(Value::integer(1))?;
+    items.push(Value::embedded(alloc, Value::boolean(true))?)?;
+    let label = Value::string(Text::from_str(alloc, "ab")?);
+    items.push(Value::record(alloc, label, Vec::new(alloc))?)?;
+    Ok(Value::sequence(Items::from_vec(alloc, items)?))
+}
+
+/// Whether the value comes whole, and only with its last byte, twice one behind the other.
+fn comes_by_bytes(alloc: Global) -> Result<bool, Fail> {
+    let value = value_of_all(alloc)?;
+    let bytes = write(alloc, &value)?;
+    let mut feed = Feed::new(alloc);
+    for _ in 0..2 {
+        for byte in bytes.as_slice() {
+            if !is_more(feed.next(alloc)?) {
+                return Ok(false);
+            }
+            feed.push(&[*byte])?;
+        }
+        if !is_value(feed.next(alloc)?, &value) {
+            return Ok(false);
+        }
+    }
+    Ok(feed.left() == 0)
+}
+
+fn is_value(next: Next, value: &Value) -> bool {
+    match next {
+        Next::Value(told) => told == *value,
+        _ => false,
+    }
+}
+
+#[test]
+fn a_value_comes_byte_by_byte(rt: HostRuntime) -> Result<(), Fail> {
+    assert!(rt; comes_by_bytes(rt.alloc())?);
+    Ok(())
+}
+
+/// Whether a sequence of so many bytes comes whole with its last byte, one byte after another.
+fn comes_long(alloc: Global, count: usize) -> Result<bool, NoMemory> {
+    let mut feed = Feed::new(alloc);
+    feed.push(&[0xb5])?;
+    for _ in 2..count {
+        feed.push(&[0x80])?;
+        if !is_more(feed.next(alloc)?) {
+            return Ok(false);
+        }
+    }
+    feed.push(&[0x84])?;
+    Ok(is_some_value(feed.next(alloc)?))
+}
+
+#[test]
+fn a_long_value_comes_byte_by_byte(rt: HostRuntime) -> Result<(), Fail> {
+    assert!(rt; comes_long(rt.alloc(), 262_144)?);
+    Ok(())
+}
