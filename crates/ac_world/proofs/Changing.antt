@@ -1,6 +1,6 @@
 -- A system actor's turn, one change and one event at a time; and an event that the actor has done.
 use Rattle.std.proofs.Common.{◌≡◌, ◌<◌, ◌≤◌, ℕ, List, [], ◌∷◌, ◌++◌, true, false, cond, nat_lt, refl, ap, sym, ◌∙◌}
-use Rattle.std.proofs.Common.{arith}
+use Rattle.std.proofs.Common.{arith, if◌then◌else◌}
 use Rattle.std.proofs.lemmas.Bool.Decides.{nat_tests}
 use Rattle.std.specs.Map.{values_of}
 use Rattle.ac_table.specs.declared.batches.Event.{Event}
@@ -11,11 +11,16 @@ use Rattle.ds_space.specs.declared.space.SpaceEvent.{SpaceEvent}
 use Rattle.ds_space.specs.declared.space.SpaceEvent.TheVariants.{Add, Gone}
 use Rattle.ds_space.specs.declared.space.Change.{Change}
 use Rattle.ac_world.specs.declared.turning.Turning.{Turning as TurningBy}
-use Rattle.ac_world.specs.Behaviours.{Behaviour}
+use Rattle.ac_world.specs.Behaviours.{Behaviour, fanned_weight}
 use Rattle.ac_world.specs.Keeping.{turning_by, TurnsBy}
 use Rattle.ac_world.specs.Systems.{changes, FitsBy, IsOverBy}
 use Rattle.ac_world.specs.Turns.{Turning, changed_by, all_changed, with_rows, regot, spreading, by_assertion, applied}
-use Rattle.ac_world.specs.Turns.{turned_by, all_turned}
+use Rattle.ac_world.specs.Turns.{turned_by, all_turned, say_all, by_message, passes_on}
+use Rattle.ac_world.specs.Outboxes.{Plan}
+use Rattle.ac_world.specs.declared.spreads.Spread.{Spread}
+use Rattle.ds_space.specs.declared.space.Fanned.{Fanned}
+use Rattle.pv_value.specs.Plain.{Plain}
+use Rattle.ps_schema.specs.declared.Definition.{Definition}
 use Rattle.ac_world.proofs.Lives.{live_from_numbers}
 use Rattle.ac_world.proofs.Numbers.{numbers-changed_by, numbers-turned_by}
 
@@ -104,3 +109,28 @@ applied-over y a from (Add h v) t w over =
     (regot y a (changed t.resident.got (Add h v)) t))
     (ap (nat_lt most_wanted_weight) (sym over.1) ∙ is_above _ _ over.0))
 applied-over y a from (Gone h) t w over = absurd over
+
+-- ---- a message
+
+-- it goes to each to whom the actor passes it on
+pub passes_each : (y : Behaviour) (ds : List Definition) (from : ℕ) (m : Plain) (t : Turning) (list : List Fanned)
+    (new : Plan) → y.schema ≡ ds → list ≡ y.fan (values_of t.resident.got) m
+    → fanned_weight (y.fan (values_of t.resident.got) m) ≤ most_wanted_weight → new ≡ say_all ds list t.plan
+    → record t { plan = new } ≡ passes_on y from m t
+passes_each y ds from m t list new judged same light is =
+    let few : nat_lt most_wanted_weight (fanned_weight (y.fan (values_of t.resident.got) m)) ≡ false =
+    grind (arith, nat_tests, light) in
+    (λ i. record t { plan = (is ∙ (λ j. say_all (sym judged j) (same j) t.plan)) i })
+    ∙ ap (λ b. if b then spreading (by_message t.plan.table from (fanned_weight (y.fan (values_of t.resident.got) m))) t
+    else record t { plan = say_all y.schema (y.fan (values_of t.resident.got) m) t.plan }) (sym few)
+
+-- or it would be too much
+pub passes_none : (y : Behaviour) (from : ℕ) (m : Plain) (t : Turning) (weight : ℕ) (new : List Spread)
+    → most_wanted_weight < weight → weight ≡ fanned_weight (y.fan (values_of t.resident.got) m)
+    → new ≡ by_message t.plan.table from weight t.spreads → record t { spreads = new } ≡ passes_on y from m t
+passes_none y from m t weight new heavy same is =
+    let much : nat_lt most_wanted_weight (fanned_weight (y.fan (values_of t.resident.got) m)) ≡ true =
+    grind (arith, nat_tests, heavy, same) in
+    (λ i. record t { spreads = (is ∙ ap (λ n. by_message t.plan.table from n t.spreads) same) i })
+    ∙ ap (λ b. if b then spreading (by_message t.plan.table from (fanned_weight (y.fan (values_of t.resident.got) m))) t
+    else record t { plan = say_all y.schema (y.fan (values_of t.resident.got) m) t.plan }) (sym much)

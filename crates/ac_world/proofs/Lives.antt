@@ -14,6 +14,7 @@ use Rattle.ac_world.specs.declared.acts.Act.{Act}
 use Rattle.ac_world.specs.declared.acts.Act.TheVariants as act
 use Rattle.ac_world.specs.Outboxes.{Outbox, Plan, posted, put, drop_own, dropped, said, committed, acted}
 use Rattle.ac_world.specs.Outboxes.{all_acted}
+use Rattle.ps_schema.specs.declared.Definition.{Definition}
 use Rattle.ac_world.specs.declared.aims.Aim.{Aim}
 use Rattle.ac_world.specs.Aims.{aim_at, aim_for}
 use Rattle.ac_world.specs.Turns.{say_at, say_all, answer_to}
@@ -105,14 +106,16 @@ pub numbers-say_at : (aim : Option Aim) (p : Plan) → numbers (say_at aim p).ta
 numbers-say_at None p = refl
 numbers-say_at (Some aim) p = refl
 
-pub numbers-say_all : (fs : List Fanned) (p : Plan) → numbers (say_all fs p).table ≡ numbers p.table
-numbers-say_all [] p = refl
-numbers-say_all (f ∷ fs) p =
-    numbers-say_all fs (say_at (aim_for (sequence (plains f.captures)) f.observe) p)
-    ∙ numbers-say_at (aim_for (sequence (plains f.captures)) f.observe) p
+pub numbers-say_all : (ds : List Definition) (fs : List Fanned) (p : Plan)
+    → numbers (say_all ds fs p).table ≡ numbers p.table
+numbers-say_all ds [] p = refl
+numbers-say_all ds (f ∷ fs) p =
+    numbers-say_all ds fs (say_at (aim_for ds (sequence (plains f.captures)) f.observe) p)
+    ∙ numbers-say_at (aim_for ds (sequence (plains f.captures)) f.observe) p
 
-pub numbers-answer_to : (peer : Plain) (p : Plan) → numbers (answer_to peer p).table ≡ numbers p.table
-numbers-answer_to peer p = numbers-say_at (aim_at (boolean true) peer) p
+pub numbers-answer_to : (ds : List Definition) (peer : Plain) (p : Plan)
+    → numbers (answer_to ds peer p).table ≡ numbers p.table
+numbers-answer_to ds peer p = numbers-say_at (aim_at ds (boolean true) peer) p
 
 -- ---- who is live stays live, and nobody else is
 

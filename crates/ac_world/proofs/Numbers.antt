@@ -18,6 +18,7 @@ use Rattle.ac_table.specs.declared.TableFault.{TableFault}
 use Rattle.ac_table.specs.declared.TableFault.TheVariants.{NoActor}
 use Rattle.ac_world.specs.Outboxes.{Outbox, Plan, plan_over, committed, posted}
 use Rattle.ac_world.specs.Worlds.{IsWorld, Resident, first_actors}
+use Rattle.ps_schema.specs.declared.Definition.{Definition}
 use Rattle.ac_world.specs.declared.aims.Aim.{Aim}
 use Rattle.ac_world.specs.Behaviours.{Behaviour}
 use Rattle.ac_world.specs.Systems.{changes}
@@ -71,18 +72,18 @@ numbers-taken_in y a from h v t =
     if_same (λ (t : Turning). numbers t.plan.table) (numbers t.plan.table) (has_row h t.resident.got) t
     (applied y a from (Add h v) t) refl (numbers-applied y a from (Add h v) t)
 
-numbers-passed_on : (from : ℕ) (fs : List Fanned) (t : Turning)
-    → numbers (passed_on from fs t).plan.table ≡ numbers t.plan.table
-numbers-passed_on from fs t =
-    if_same (λ (t : Turning). numbers t.plan.table) (numbers t.plan.table) _ _ _ refl (numbers-say_all fs t.plan)
+numbers-passed_on : (ds : List Definition) (from : ℕ) (fs : List Fanned) (t : Turning)
+    → numbers (passed_on ds from fs t).plan.table ≡ numbers t.plan.table
+numbers-passed_on ds from fs t =
+    if_same (λ (t : Turning). numbers t.plan.table) (numbers t.plan.table) _ _ _ refl (numbers-say_all ds fs t.plan)
 
 pub numbers-turned_by : (y : Behaviour) (a from : ℕ) (e : Event) (t : Turning)
     → numbers (turned_by y a from e t).plan.table ≡ numbers t.plan.table
 numbers-turned_by y a from (Assert h entity v) t = numbers-taken_in y a from h v t
 numbers-turned_by y a from (Retract h entity) t = numbers-applied y a from (Gone h) t
 numbers-turned_by y a from (Message entity v) t =
-    numbers-passed_on from (y.fan (values_of t.resident.got) v) t
-numbers-turned_by y a from (Sync entity peer) t = numbers-answer_to peer t.plan
+    numbers-passed_on y.schema from (y.fan (values_of t.resident.got) v) t
+numbers-turned_by y a from (Sync entity peer) t = numbers-answer_to y.schema peer t.plan
 
 pub numbers-all_turned : (y : Behaviour) (a from : ℕ) (es : List Event) (t : Turning)
     → numbers (all_turned y a from es t).plan.table ≡ numbers t.plan.table

@@ -2,6 +2,7 @@
 use Rattle.std.proofs.Common.{◌≡◌, ℕ, List, refl}
 use Rattle.std.specs.Map.{values_of}
 use Rattle.pv_value.specs.Plain.{Plain}
+use Rattle.ps_schema.specs.declared.Definition.{Definition}
 use Rattle.ds_space.specs.Spaces.{Rows, changed, Fits, IsApplied}
 use Rattle.ds_space.specs.declared.space.SpaceEvent.{SpaceEvent}
 use Rattle.ds_space.specs.declared.space.SpaceEvent.TheVariants.{Add, Gone}
@@ -12,9 +13,9 @@ use Rattle.ds_space.specs.Lemmas.Exact.{changes_exact}
 use Rattle.ac_world.specs.Behaviours.{dataspace}
 use Rattle.ac_world.specs.Systems.{FitsBy, changes}
 
-pub fits_by : (vs : List Plain) (e : SpaceEvent) → Fits vs e → FitsBy dataspace vs e
-fits_by vs (Add n v) fits = fits
-fits_by vs (Gone n) fits = tt
+pub fits_by : (ds : List Definition) (vs : List Plain) (e : SpaceEvent) → Fits vs e → FitsBy (dataspace ds) vs e
+fits_by ds vs (Add n v) fits = fits
+fits_by ds vs (Gone n) fits = tt
 
 -- its changes are those between what is wanted before and after
 pub exact : (old new : List Plain) (cs : List Change) → AreChanges old new cs → cs ≡ changes (wants old) (wants new)

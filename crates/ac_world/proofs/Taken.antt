@@ -13,6 +13,7 @@ use Rattle.ac_table.specs.declared.batches.Batch.{Batch}
 use Rattle.ac_table.specs.Tables.{TableState}
 use Rattle.ac_world.specs.declared.residents.Resident.{Resident as ResidentBy}
 use Rattle.ac_world.specs.declared.spreads.Spread.{Spread}
+use Rattle.ps_schema.specs.declared.Definition.{Definition}
 use Rattle.ac_world.specs.Behaviours.{Behaviour, dataspace, behaviour_of}
 use Rattle.ac_world.specs.Keeping.{resident_by, residents_by}
 use Rattle.ac_world.specs.Outboxes.{Plan, plan_over, committed}
@@ -76,21 +77,22 @@ found_behind a g es some = by (is_at (nat_cmp a) 0) (grind (arith, nat_tests, so
 
 -- ---- a dataspace's turn
 
-module _ (opened : ℕ) (bindings : List Binding) (table : TableState) (g : Resident)
+module _ (opened : ℕ) (ds : List Definition) (bindings : List Binding) (table : TableState) (g : Resident)
     (spaces : List (ℕ × ResidentBy Rows)) (held : List (ℕ × Deliveries)) (a : ℕ) (some : 0 < a) where
   abbrev world : WorldState
   world = record {
     opened = opened;
+    schema = ds;
     bindings = bindings;
     table = table;
     residents = (0, g) ∷ residents_by spaces;
     held = held;
   }
 
-  is_dataspace : behaviour_of bindings a ≡ dataspace
+  is_dataspace : behaviour_of ds bindings a ≡ dataspace ds
   is_dataspace = by a some
     where
-      by : (b : ℕ) → 0 < b → behaviour_of bindings b ≡ dataspace
+      by : (b : ℕ) → 0 < b → behaviour_of ds bindings b ≡ dataspace ds
       by zero less = absurd (omega (arith, less))
       by (suc b) less = refl
 
@@ -101,7 +103,8 @@ module _ (opened : ℕ) (bindings : List Binding) (table : TableState) (g : Resi
   -- the turn begins with what was taken out
   pub begun : (b : Batch) (taken : Option (ResidentBy Rows)) (r : ResidentBy Rows) → taken ≡ entry_of a spaces
       → seen r ≡ unwrap_or (option_map seen taken) no_resident
-      → turning_with dataspace (seen r) b ≡ all_turned (behaviour_of bindings a) a b.from b.events (begin_turn a world)
+      → turning_with (dataspace ds) (seen r) b
+      ≡ all_turned (behaviour_of ds bindings a) a b.from b.events (begin_turn a world)
   begun b taken r taken_is r_is =
       let was : seen r ≡ unwrap_or (entry_of a world.residents) no_resident =
       r_is ∙ ap (λ (o : Option (ResidentBy Rows)). unwrap_or (option_map seen o) no_resident) taken_is
@@ -112,10 +115,11 @@ module _ (opened : ℕ) (bindings : List Binding) (table : TableState) (g : Resi
   pub space_turn_is : (b : Batch) (taken : Option (ResidentBy Rows)) (r after : ResidentBy Rows) (t : Turning)
       (table_after : TableState) (less new : List (ℕ × ResidentBy Rows)) → IsStrictlySortedBy nat_cmp (keys_of spaces)
       → less ≡ remove_entry (is_at (nat_cmp a)) spaces → taken ≡ entry_of a spaces
-      → seen r ≡ unwrap_or (option_map seen taken) no_resident → t ≡ turning_with dataspace (seen r) b
+      → seen r ≡ unwrap_or (option_map seen taken) no_resident → t ≡ turning_with (dataspace ds) (seen r) b
       → seen after ≡ t.resident → new ≡ insert_entry nat_cmp less a after → table_after ≡ committed a t.plan
       → record {
         opened = opened;
+        schema = ds;
         bindings = bindings;
         table = table_after;
         residents = (0, g) ∷ residents_by new;
@@ -130,6 +134,7 @@ module _ (opened : ℕ) (bindings : List Binding) (table : TableState) (g : Resi
       ∙ sym (with_behind a t.resident g (residents_by spaces) some) in
       (λ i. record {
         opened = opened;
+        schema = ds;
         bindings = bindings;
         table = table_is i;
         residents = residents i;

@@ -7,6 +7,7 @@ use Rattle.pv_value.specs.Plain.{Plain, symbol, record_of, no_more, then_more}
 use Rattle.pv_value.specs.Order.{order}
 use Rattle.pv_value.specs.Sets.{ascending_by}
 use Rattle.pv_words.specs.Words.{is_word}
+use Rattle.ps_schema.specs.declared.Definition.{Definition}
 use Rattle.ds_space.specs.Wants.{wants, wanted_weight, is_observer}
 use Rattle.ds_space.specs.declared.space.Fanned.{Fanned}
 use Rattle.ds_space.specs.Fans.{fan_of, weight_of_fanned}
@@ -16,6 +17,8 @@ use Rattle.ac_world.specs.Aims.{Aim, aim_for, aim_of}
 
 -- for the values that an actor has got
 pub record Behaviour : Type 0 where
+  -- what guards judge by in the references through which it sends
+  pub schema : List Definition
   -- the keys of what it wants, ascending, each once
   pub keys : List Plain → List Plain
   -- what arrives of what a key wants, and at which object
@@ -31,8 +34,8 @@ fanned_weight fs = min (weight_of_fanned fs) (2 ^ 64 - 1)
 
 -- ---- a dataspace
 
-abbrev pub dataspace : Behaviour
-dataspace = record { keys = wants; aim = aim_of; weight = wanted_weight; fan = fan_of }
+abbrev pub dataspace : List Definition → Behaviour
+dataspace ds = record { schema = ds; keys = wants; aim = aim_of ds; weight = wanted_weight; fan = fan_of }
 
 -- ---- the gatekeeper
 
@@ -42,22 +45,24 @@ asks (record_of (symbol l) (then_more s (then_more r no_more))) = is_word l (cod
 asks v = false
 
 -- the reply to s, for the object that r names
-abbrev pub answer_for : List Binding → Plain → Option Aim
-answer_for bs (record_of l (then_more s rest)) = aim_for (reply_to bs s) (record_of l (then_more s rest))
-answer_for bs v = None
+abbrev pub answer_for : List Definition → List Binding → Plain → Option Aim
+answer_for ds bs (record_of l (then_more s rest)) = aim_for ds (reply_to bs s) (record_of l (then_more s rest))
+answer_for ds bs v = None
 
 -- each distinct value that asks is a key; what is wanted isn't limited, and messages are dropped
-abbrev pub gatekeeper : List Binding → Behaviour
-gatekeeper bs = record {
+abbrev pub gatekeeper : List Definition → List Binding → Behaviour
+gatekeeper ds bs = record {
+  schema = ds;
   keys = λ vs. ascending_by order (filter asks vs);
-  aim = answer_for bs;
+  aim = answer_for ds bs;
   weight = λ vs. 0;
   fan = λ vs m. [];
 }
 
 -- ---- the actors
 
--- where these references are bound: actor 0 is the gatekeeper, and the others are dataspaces
-abbrev pub behaviour_of : List Binding → ℕ → Behaviour
-behaviour_of bs zero = gatekeeper bs
-behaviour_of bs (suc a) = dataspace
+-- where guards judge by this schema, and these references are bound: actor 0 is the gatekeeper, and the others are
+-- dataspaces
+abbrev pub behaviour_of : List Definition → List Binding → ℕ → Behaviour
+behaviour_of ds bs zero = gatekeeper ds bs
+behaviour_of ds bs (suc a) = dataspace ds

@@ -7,6 +7,7 @@ use Rattle.std.specs.Map.{lookup, remove_entry, values_of}
 use Rattle.std.specs.BTreeMap.{insert_entry, is_at}
 use Rattle.pv_value.specs.Plain.{Plain, boolean, sequence, plains}
 use Rattle.pv_value.specs.Order.{order}
+use Rattle.ps_schema.specs.declared.Definition.{Definition}
 use Rattle.ds_space.specs.Limits.{most_wanted_weight}
 use Rattle.ds_space.specs.Spaces.{Rows, changed, has_row}
 use Rattle.ds_space.specs.declared.space.SpaceEvent.{SpaceEvent}
@@ -117,29 +118,29 @@ say_at None p = p
 say_at (Some aim) p = said aim.at.actor (Message aim.at.entity aim.value) p
 
 -- the captures of a message go to each that observes it
-abbrev pub say_all : List Fanned → Plan → Plan
-say_all [] p = p
-say_all (f ∷ fs) p = say_all fs (say_at (aim_for (sequence (plains f.captures)) f.observe) p)
+abbrev pub say_all : List Definition → List Fanned → Plan → Plan
+say_all ds [] p = p
+say_all ds (f ∷ fs) p = say_all ds fs (say_at (aim_for ds (sequence (plains f.captures)) f.observe) p)
 
 -- a message goes to all of them, or, where that would be too much, to none
-abbrev pub passed_on : ℕ → List Fanned → Turning → Turning
-passed_on from fs t =
+abbrev pub passed_on : List Definition → ℕ → List Fanned → Turning → Turning
+passed_on ds from fs t =
     if nat_lt most_wanted_weight (fanned_weight fs)
     then spreading (by_message t.plan.table from (fanned_weight fs)) t
-    else record t { plan = say_all fs t.plan }
+    else record t { plan = say_all ds fs t.plan }
 
 abbrev pub passes_on : Behaviour → ℕ → Plain → Turning → Turning
-passes_on y from v t = passed_on from (y.fan (values_of t.resident.got) v) t
+passes_on y from v t = passed_on y.schema from (y.fan (values_of t.resident.got) v) t
 
 -- a sync is answered by the message `#t` through its peer
-abbrev pub answer_to : Plain → Plan → Plan
-answer_to peer p = say_at (aim_at (boolean true) peer) p
+abbrev pub answer_to : List Definition → Plain → Plan → Plan
+answer_to ds peer p = say_at (aim_at ds (boolean true) peer) p
 
 abbrev pub turned_by : Behaviour → ℕ → ℕ → Event → Turning → Turning
 turned_by y a from (Assert h entity v) t = taken_in y a from h v t
 turned_by y a from (Retract h entity) t = applied y a from (Gone h) t
 turned_by y a from (Message entity v) t = passes_on y from v t
-turned_by y a from (Sync entity peer) t = record t { plan = answer_to peer t.plan }
+turned_by y a from (Sync entity peer) t = record t { plan = answer_to y.schema peer t.plan }
 
 abbrev pub all_turned : Behaviour → ℕ → ℕ → List Event → Turning → Turning
 all_turned y a from [] t = t
@@ -162,7 +163,8 @@ end_turn a w t = record {
 }
 
 abbrev pub system_turn : ℕ → Batch → WorldState → After
-system_turn a b w = end_turn a w (all_turned (behaviour_of w.bindings a) a b.from b.events (begin_turn a w))
+system_turn a b w =
+    end_turn a w (all_turned (behaviour_of w.schema w.bindings a) a b.from b.events (begin_turn a w))
 
 -- a connection takes its batch, which the hub sends
 abbrev pub deliver : ℕ → List Event → WorldState → WorldState

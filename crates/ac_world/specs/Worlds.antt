@@ -6,6 +6,7 @@ use Rattle.std.specs.Map.{lookup, remove_entry}
 use Rattle.std.specs.BTreeMap.{insert_entry, is_at}
 use Rattle.std.specs.Ordering.{nat_cmp}
 use Rattle.pv_value.specs.Plain.{Plain}
+use Rattle.ps_schema.specs.declared.Definition.{Definition}
 use Rattle.ds_space.specs.Spaces.{Rows}
 use Rattle.gk_sturdy.specs.declared.bound.Binding.{Binding}
 use Rattle.gk_sturdy.specs.Bindings.{with_binding}
@@ -44,10 +45,12 @@ pub record Gatekeeping : Type 0 where
 abbrev pub Deliveries : Type 0
 Deliveries = List (ℕ × Held)
 
--- The table has the next handle, the rows, and the live actors with their inboxes. A dataspace to which nothing was
--- ever delivered may stand in no list, and so may a connection.
+-- The schema is what guards judge by; no change of the world changes it. The table has the next handle, the rows, and
+-- the live actors with their inboxes. A dataspace to which nothing was ever delivered may stand in no list, and so may
+-- a connection.
 pub record WorldState : Type 0 where
   pub opened : ℕ
+  pub schema : List Definition
   pub bindings : List Binding
   pub table : TableState
   pub residents : List (ℕ × Resident)
@@ -77,10 +80,11 @@ abbrev pub first_actors : ℕ → TableState
 first_actors zero = opening
 first_actors (suc n) = joined n (first_actors n)
 
--- the gatekeeper and the dataspaces are live
-abbrev pub beginning : WorldState
-beginning = record {
+-- guards judge by this schema; the gatekeeper and the dataspaces are live
+abbrev pub beginning : List Definition → WorldState
+beginning ds = record {
   opened = 0;
+  schema = ds;
   bindings = [];
   table = first_actors 9;
   residents = (0, no_resident) ∷ [];

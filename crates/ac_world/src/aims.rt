@@ -5,7 +5,7 @@ ghost use Rattle.ac_world.specs.Aims.{aim_by, aim_at, observer_in, aim_for};
 use ds_space::Reference;
 use pv_value::{NoMemory, Node, Value};
 use sr_caveat::Cap;
-use sr_pass::{NoNames, pass};
+use sr_pass::{Judge, pass};
 use std::alloc::Global;
 
 /// What is to be told, and at which object.
@@ -15,11 +15,16 @@ pub struct Aim {
     pub value: Value,
 }
 
-/// What the caveats of a reference let pass of a value. No guard lets anything pass.
-pub(crate) fn aim_by(alloc: Global, value: &Value, cap: &Cap) -> Result<Option<Aim>, NoMemory>
-    ensures { IfOk result (λ aim. aim ≡ aim_by value.now cap.now) }
+/// What the caveats of a reference let pass of a value.
+pub(crate) fn aim_by<J: Judge>(
+    alloc: Global,
+    judge: &J,
+    value: &Value,
+    cap: &Cap,
+) -> Result<Option<Aim>, NoMemory>
+    ensures { IfOk result (λ aim. aim ≡ aim_by (J.schema judge.now) value.now cap.now) }
 {
-    let Some(value) = pass(alloc, cap.caveats.as_slice(), value, &NoNames)? else {
+    let Some(value) = pass(alloc, cap.caveats.as_slice(), value, judge)? else {
         return Ok(None);
     };
     let at = Reference {
@@ -31,11 +36,16 @@ pub(crate) fn aim_by(alloc: Global, value: &Value, cap: &Cap) -> Result<Option<A
 
 /// What arrives of a value that is sent through the reference that another value writes. The actor
 /// may be gone.
-pub fn aim_at(alloc: Global, value: &Value, reference: &Value) -> Result<Option<Aim>, NoMemory>
-    ensures { IfOk result (λ aim. aim ≡ aim_at value.now reference.now) }
+pub fn aim_at<J: Judge>(
+    alloc: Global,
+    judge: &J,
+    value: &Value,
+    reference: &Value,
+) -> Result<Option<Aim>, NoMemory>
+    ensures { IfOk result (λ aim. aim ≡ aim_at (J.schema judge.now) value.now reference.now) }
 {
     match Cap::of_value(alloc, reference)? {
-        Some(cap) => aim_by(alloc, value, &cap),
+        Some(cap) => aim_by(alloc, judge, value, &cap),
         None => Ok(None),
     }
 }
@@ -57,11 +67,16 @@ pub(crate) fn observer_in(observation: &Value) -> Option<&Value>
 }
 
 /// What arrives of a value that is sent to the one that observes.
-pub fn aim_for(alloc: Global, value: &Value, observation: &Value) -> Result<Option<Aim>, NoMemory>
-    ensures { IfOk result (λ aim. aim ≡ aim_for value.now observation.now) }
+pub fn aim_for<J: Judge>(
+    alloc: Global,
+    judge: &J,
+    value: &Value,
+    observation: &Value,
+) -> Result<Option<Aim>, NoMemory>
+    ensures { IfOk result (λ aim. aim ≡ aim_for (J.schema judge.now) value.now observation.now) }
 {
     match observer_in(observation) {
-        Some(observer) => aim_at(alloc, value, observer),
+        Some(observer) => aim_at(alloc, judge, value, observer),
         None => Ok(None),
     }
 }

@@ -1,5 +1,5 @@
 //! A dataspace among the system actors, over any body of [`Space`].
-ghost use Rattle.std.specs.Prelude.{◌≡◌, [], IfOk};
+ghost use Rattle.std.specs.Prelude.{◌≡◌, [], IfOk, refl};
 ghost use Rattle.ac_world.specs.Behaviours.{dataspace};
 
 use crate::aims::Aim;
@@ -7,6 +7,7 @@ use crate::readings::{Reading, aim_of};
 use crate::systems::System;
 use ds_space::{Applied, Fan, Space, SpaceEvent};
 use pv_value::{NoMemory, Value};
+use sr_pass::Judge;
 use std::alloc::Global;
 use std::marker::Model;
 
@@ -47,7 +48,9 @@ impl<S: Space + Drop> Dataspace<S> {
 impl<S: Space + Drop> System for Dataspace<S> {
     ghost rows = { λ s. s };
 
-    ghost behaviour = { λ s. dataspace };
+    ghost behaviour = { λ ds s. dataspace ds };
+
+    ghost judged = { λ ds s. refl };
 
     ghost bound = { λ s. [] };
 
@@ -63,8 +66,13 @@ impl<S: Space + Drop> System for Dataspace<S> {
         self.space.has(handle)
     }
 
-    fn aim(&mut self, alloc: Global, key: &Value) -> Result<Option<Aim>, NoMemory> {
-        aim_of(alloc, &mut self.last, key)
+    fn aim<J: Judge>(
+        &mut self,
+        alloc: Global,
+        judge: &J,
+        key: &Value,
+    ) -> Result<Option<Aim>, NoMemory> {
+        aim_of(alloc, judge, &mut self.last, key)
     }
 
     fn fan(&self, alloc: Global, message: &Value) -> Result<Fan, NoMemory> {

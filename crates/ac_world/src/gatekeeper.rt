@@ -1,8 +1,10 @@
 //! The gatekeeper, which answers those who resolve signed references.
-ghost use Rattle.std.specs.Prelude.{◌≡◌, [], ◌∷◌, ◌&&◌, not, None, IfOk, if◌then◌else◌, codes};
+ghost use Rattle.std.specs.Prelude.{◌≡◌, List, [], ◌∷◌, ◌&&◌, not, None, IfOk, refl};
+ghost use Rattle.std.specs.Prelude.{if◌then◌else◌, codes};
 ghost use Rattle.std.specs.Map.{lookup, values_of};
 ghost use Rattle.std.specs.BTreeMap.{is_at};
 ghost use Rattle.std.specs.Ordering.{nat_cmp};
+ghost use Rattle.ps_schema.specs.declared.Definition.{Definition};
 ghost use Rattle.ds_space.specs.Changes.{among};
 ghost use Rattle.ds_space.specs.Wants.{is_observer as observes};
 ghost use Rattle.ds_space.specs.declared.space.SpaceEvent.TheVariants.{Add, Gone};
@@ -18,6 +20,7 @@ use ds_space::{Applied, Change, Changes, Fan, SpaceEvent, reference_of};
 use gk_sturdy::{Bindings, reply};
 use pv_value::{NoMemory, Node, Text, Value};
 use pv_words::{is_word, worded};
+use sr_pass::Judge;
 use std::alloc::Global;
 use std::collections::BTreeMap;
 use std::marker::Model;
@@ -76,8 +79,9 @@ impl Gatekeeper {
         value: Value,
     ) -> Result<Applied<Gatekeeper>, NoMemory>
         requires { lookup (is_at (nat_cmp handle)) self.got ≡ None }
-        ensures applied { IfOk result (IsAppliedBy (λ g. g.got) (λ g. gatekeeper g.bindings)
-            (gatekeeper self.bindings) self.got (Add handle value)) }
+        ensures applied { IfOk result (λ applied. (ds : List Definition)
+            → IsAppliedBy (λ g. g.got) (λ g. gatekeeper ds g.bindings)
+            (gatekeeper ds self.bindings) self.got (Add handle value) applied) }
         ensures bound { IfOk result (StaysIn (λ g. g.bindings) self.bindings) }
     {
         let is_new = self.is_new(&value);
@@ -88,8 +92,9 @@ impl Gatekeeper {
 
     /// A row goes, where it is there.
     fn remove(mut self, alloc: Global, handle: u64) -> Result<Applied<Gatekeeper>, NoMemory>
-        ensures applied { IfOk result (IsAppliedBy (λ g. g.got) (λ g. gatekeeper g.bindings)
-            (gatekeeper self.bindings) self.got (Gone handle)) }
+        ensures applied { IfOk result (λ applied. (ds : List Definition)
+            → IsAppliedBy (λ g. g.got) (λ g. gatekeeper ds g.bindings)
+            (gatekeeper ds self.bindings) self.got (Gone handle) applied) }
         ensures bound { IfOk result (StaysIn (λ g. g.bindings) self.bindings) }
     {
         match self.rows.remove(&handle) {
@@ -106,7 +111,9 @@ impl Gatekeeper {
 impl System for Gatekeeper {
     ghost rows = { λ g. g.got };
 
-    ghost behaviour = { λ g. gatekeeper g.bindings };
+    ghost behaviour = { λ ds g. gatekeeper ds g.bindings };
+
+    ghost judged = { λ ds g. refl };
 
     ghost bound = { λ g. g.bindings };
 
@@ -121,8 +128,13 @@ impl System for Gatekeeper {
         self.rows.contains_key(&handle)
     }
 
-    fn aim(&mut self, alloc: Global, key: &Value) -> Result<Option<Aim>, NoMemory> {
-        answer_for(alloc, &self.bindings, key)
+    fn aim<J: Judge>(
+        &mut self,
+        alloc: Global,
+        judge: &J,
+        key: &Value,
+    ) -> Result<Option<Aim>, NoMemory> {
+        answer_for(alloc, judge, &self.bindings, key)
     }
 
     fn fan(&self, alloc: Global, _message: &Value) -> Result<Fan, NoMemory> {
@@ -163,8 +175,14 @@ fn asks_as(word: &Text, observer: &Value) -> bool
 }
 
 /// What arrives of the reply to one that asks.
-fn answer_for(alloc: Global, bindings: &Bindings, key: &Value) -> Result<Option<Aim>, NoMemory>
-    ensures { IfOk result (λ aim. aim ≡ answer_for bindings.now key.now) }
+fn answer_for<J: Judge>(
+    alloc: Global,
+    judge: &J,
+    bindings: &Bindings,
+    key: &Value,
+) -> Result<Option<Aim>, NoMemory>
+    ensures { IfOk result
+        (λ aim. aim ≡ answer_for (J.schema judge.now) bindings.now key.now) }
 {
     let Node::Rec(record) = &key.node else {
         return Ok(None);
@@ -173,7 +191,7 @@ fn answer_for(alloc: Global, bindings: &Bindings, key: &Value) -> Result<Option<
         return Ok(None);
     };
     let reply = reply(alloc, bindings, step)?;
-    aim_for(alloc, &reply, key)
+    aim_for(alloc, judge, &reply, key)
 }
 
 /// Whether a value is an embedded reference to an object of a watcher or of a connection.

@@ -13,6 +13,7 @@ use crate::outboxes::Outbox;
 use ac_table::{Event, Table};
 use ds_space::{FanList, Fanned};
 use pv_value::{NoMemory, Value};
+use sr_pass::Judge;
 use std::alloc::Global;
 use std::marker::Model;
 
@@ -107,29 +108,44 @@ impl Plan {
     }
 
     /// A sync's answer, as it gets through the peer. Where the peer is no reference nobody is told.
-    pub fn answer(&mut self, alloc: Global, peer: &Value) -> Result<(), NoMemory>
-        ensures { OnOk result (self.new ≡ answer_to peer.now self.old) }
+    pub fn answer<J: Judge>(
+        &mut self,
+        alloc: Global,
+        judge: &J,
+        peer: &Value,
+    ) -> Result<(), NoMemory>
+        ensures { OnOk result (self.new ≡ answer_to (J.schema judge.now) peer.now self.old) }
     {
-        let aim = aim_at(alloc, &Value::boolean(true), peer)?;
+        let aim = aim_at(alloc, judge, &Value::boolean(true), peer)?;
         self.say_at(aim)
     }
 
     /// The captures of a message, to the one that observes it.
-    fn say_fanned(&mut self, alloc: Global, fanned: Fanned) -> Result<(), NoMemory>
-        ensures { OnOk result (self.new
-            ≡ say_at (aim_for (sequence (plains fanned.captures)) fanned.observe) self.old) }
+    fn say_fanned<J: Judge>(
+        &mut self,
+        alloc: Global,
+        judge: &J,
+        fanned: Fanned,
+    ) -> Result<(), NoMemory>
+        ensures { OnOk result (self.new ≡ say_at (aim_for (J.schema judge.now)
+            (sequence (plains fanned.captures)) fanned.observe) self.old) }
     {
         let Fanned { observe, captures } = fanned;
-        let aim = aim_for(alloc, &Value::sequence(captures), &observe)?;
+        let aim = aim_for(alloc, judge, &Value::sequence(captures), &observe)?;
         self.say_at(aim)
     }
 
     /// The captures of a message, to each that observes it.
-    pub fn say_all(&mut self, alloc: Global, list: FanList) -> Result<(), NoMemory>
-        ensures { OnOk result (self.new ≡ say_all list.items self.old) }
+    pub fn say_all<J: Judge>(
+        &mut self,
+        alloc: Global,
+        judge: &J,
+        list: FanList,
+    ) -> Result<(), NoMemory>
+        ensures { OnOk result (self.new ≡ say_all (J.schema judge.now) list.items self.old) }
     {
         for fanned in list {
-            self.say_fanned(alloc, fanned)?;
+            self.say_fanned(alloc, judge, fanned)?;
         }
         Ok(())
     }

@@ -5,6 +5,7 @@ ghost use Rattle.ac_world.specs.Aims.{aim_at, aim_for, aim_of};
 use crate::aims::{Aim, aim_by, observer_in};
 use pv_value::{NoMemory, Node, Value};
 use sr_caveat::Cap;
+use sr_pass::Judge;
 use std::alloc::Global;
 use std::marker::Model;
 
@@ -56,11 +57,16 @@ impl Reading {
     }
 
     /// What arrives of a value that is sent through the reference.
-    pub(crate) fn aim(&self, alloc: Global, value: &Value) -> Result<Option<Aim>, NoMemory>
-        ensures { IfOk result (λ aim. aim ≡ aim_at value.now self.now) }
+    pub(crate) fn aim<J: Judge>(
+        &self,
+        alloc: Global,
+        judge: &J,
+        value: &Value,
+    ) -> Result<Option<Aim>, NoMemory>
+        ensures { IfOk result (λ aim. aim ≡ aim_at (J.schema judge.now) value.now self.now) }
     {
         match &self.cap {
-            Some(cap) => aim_by(alloc, value, cap),
+            Some(cap) => aim_by(alloc, judge, value, cap),
             None => Ok(None),
         }
     }
@@ -68,12 +74,13 @@ impl Reading {
 
 /// What arrives of what a key `[o c]` wants, c, at the object that o names. The reference is read
 /// where it isn't the last one that was.
-pub(crate) fn aim_of(
+pub(crate) fn aim_of<J: Judge>(
     alloc: Global,
+    judge: &J,
     last: &mut Option<Reading>,
     key: &Value,
 ) -> Result<Option<Aim>, NoMemory>
-    ensures { IfOk result (λ aim. aim ≡ aim_of key.now) }
+    ensures { IfOk result (λ aim. aim ≡ aim_of (J.schema judge.now) key.now) }
 {
     let Node::Seq(items) = &key.node else {
         return Ok(None);
@@ -81,23 +88,24 @@ pub(crate) fn aim_of(
     let [observation, captures] = items.as_slice() else {
         return Ok(None);
     };
-    aim_at_observer(alloc, last, captures, observation)
+    aim_at_observer(alloc, judge, last, captures, observation)
 }
 
 /// What arrives of a value that is sent to the one that observes.
-fn aim_at_observer(
+fn aim_at_observer<J: Judge>(
     alloc: Global,
+    judge: &J,
     last: &mut Option<Reading>,
     value: &Value,
     observation: &Value,
 ) -> Result<Option<Aim>, NoMemory>
-    ensures { IfOk result (λ aim. aim ≡ aim_for value.now observation.now) }
+    ensures { IfOk result (λ aim. aim ≡ aim_for (J.schema judge.now) value.now observation.now) }
 {
     let Some(observer) = observer_in(observation) else {
         return Ok(None);
     };
     let reading = Reading::of(alloc, last.take(), observer)?;
-    let aim = reading.aim(alloc, value)?;
+    let aim = reading.aim(alloc, judge, value)?;
     *last = Some(reading);
     Ok(aim)
 }

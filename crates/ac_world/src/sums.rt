@@ -15,6 +15,7 @@ use crate::world::World;
 use ac_table::{Batch, Event, Table};
 use ds_space::Space;
 use pv_value::weight;
+use sr_pass::Judge;
 use std::collections::{BTreeMap, VecDeque};
 
 /// How many, and how much they weigh. Each ends at the greatest u64.
@@ -164,7 +165,7 @@ fn row_weight(actor: u32, table: &Table) -> u64
     sum
 }
 
-impl<S: Space + Drop> World<S> {
+impl<S: Space + Drop, J: Judge + Drop> World<S, J> {
     /// What the values of an actor's rows weigh together.
     pub fn row_weight(&self, actor: u32) -> u64
         ensures { result ≡ top (row_weight actor self.now) }

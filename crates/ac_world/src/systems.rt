@@ -3,6 +3,7 @@ ghost use Rattle.std.specs.Prelude.{◌≡◌, ℕ, List, IfOk};
 ghost use Rattle.std.specs.Map.{values_of};
 ghost use Rattle.pv_value.specs.Plain.{Plain};
 ghost use Rattle.ds_space.specs.Spaces.{IsNew, has_row};
+ghost use Rattle.ps_schema.specs.declared.Definition.{Definition};
 ghost use Rattle.ac_world.specs.Behaviours.{Behaviour};
 ghost use Rattle.gk_sturdy.specs.declared.bound.Binding.{Binding};
 ghost use Rattle.ac_world.specs.Staying.{StaysIn};
@@ -11,6 +12,7 @@ ghost use Rattle.ac_world.specs.Systems.{IsAppliedBy, IsFanBy};
 use crate::aims::Aim;
 use ds_space::{Applied, Fan, SpaceEvent};
 use pv_value::{NoMemory, Value};
+use sr_pass::Judge;
 use std::alloc::Global;
 
 /// What a system actor has got, as rows under handles, and what it does by that.
@@ -18,8 +20,8 @@ pub trait System {
     /// The rows, ascending by handle.
     ghost rows: { Self → List (ℕ × Plain) };
 
-    /// What it wants, and to whom messages go.
-    ghost behaviour: { Self → Behaviour };
+    /// What it wants, and to whom messages go, where guards judge by a schema.
+    ghost behaviour: { List Definition → Self → Behaviour };
 
     /// The references that are bound, where it is the gatekeeper. No turn changes them.
     ghost bound: { Self → List Binding };
@@ -27,8 +29,8 @@ pub trait System {
     /// A row comes or goes. For want of memory the actor is gone.
     fn apply(self, alloc: Global, event: SpaceEvent) -> Result<Applied<Self>, NoMemory>
         requires { IsNew (rows self) event }
-        ensures applied { IfOk result
-            (IsAppliedBy rows behaviour (behaviour self) (rows self) event) }
+        ensures applied { IfOk result (λ applied. (ds : List Definition)
+            → IsAppliedBy rows (behaviour ds) (behaviour ds self) (rows self) event applied) }
         ensures bound { IfOk result (StaysIn bound (bound self)) };
 
     /// Whether a row has this handle.
@@ -36,14 +38,23 @@ pub trait System {
         ensures { result ≡ has_row handle (rows self.now) };
 
     /// What arrives of what a key wants. It may remember what it has read; all else stays.
-    fn aim(&mut self, alloc: Global, key: &Value) -> Result<Option<Aim>, NoMemory>
-        ensures aim { IfOk result (λ aim. aim ≡ (behaviour self.old).aim key.now) }
+    fn aim<J: Judge>(
+        &mut self,
+        alloc: Global,
+        judge: &J,
+        key: &Value,
+    ) -> Result<Option<Aim>, NoMemory>
+        ensures aim { IfOk result
+            (λ aim. aim ≡ (behaviour (J.schema judge.now) self.old).aim key.now) }
         ensures rows { rows self.new ≡ rows self.old }
-        ensures behaviour { behaviour self.new ≡ behaviour self.old }
+        ensures behaviour { (ds : List Definition) → behaviour ds self.new ≡ behaviour ds self.old }
         ensures bound { bound self.new ≡ bound self.old };
 
     /// To whom a message goes.
     fn fan(&self, alloc: Global, message: &Value) -> Result<Fan, NoMemory>
-        ensures { IfOk result (IsFanBy (behaviour self.now) (values_of (rows self.now))
-            message.now) };
+        ensures { IfOk result (λ fan. (ds : List Definition)
+            → IsFanBy (behaviour ds self.now) (values_of (rows self.now)) message.now fan) };
+
+    /// Its guards judge by the schema.
+    ghost judged: { (ds : List Definition) (s : Self) → (behaviour ds s).schema ≡ ds };
 }

@@ -29,35 +29,39 @@ use ac_table::{Batch, Event, Row, Table, TableFault};
 use ds_space::Space;
 use gk_sturdy::Binding;
 use pv_value::{NoMemory, Value};
+use sr_pass::Judge;
 use std::alloc::Global;
 use std::collections::BTreeMap;
 use std::marker::Model;
 
 /// Live actors with their inboxes, rows, and what was delivered to whom.
 #[derive(Drop)]
-pub struct World<S: Space + Drop> {
+pub struct World<S: Space + Drop, J: Judge + Drop> {
     pub(crate) opened: u32,
+    pub(crate) judge: J,
     pub(crate) table: Table,
     pub(crate) gatekeeper: Resident<Gatekeeper>,
     pub(crate) spaces: BTreeMap<u32, Resident<Dataspace<S>>>,
     pub(crate) held: BTreeMap<u32, Deliveries>,
 }
 
-impl<S: Space + Drop> Model for World<S> {
+impl<S: Space + Drop, J: Judge + Drop> Model for World<S, J> {
     ghost use Rattle.std.specs.Coded.{codes};
     ghost use Rattle.pv_value.specs.Lemmas.Coded.{plain_code};
     ghost use Rattle.sr_caveat.specs.Lemmas.Coded.{caveat_code};
+    ghost use Rattle.ps_schema.specs.Lemmas.CodedDefinitions.{definition_code};
     ghost use Rattle.ac_world.specs.Worlds.{WorldState, IsWorld};
 
     ghost Value = { WorldState };
 
-    ghost coded = { Prim.hlevel (codes, plain_code, caveat_code) };
+    ghost coded = { Prim.hlevel (codes, plain_code, caveat_code, definition_code) };
 
     ghost use Rattle.std.specs.Prelude.{◌∷◌};
     ghost use Rattle.ac_world.specs.Keeping.{resident_by, residents_by};
 
     ghost view = { λ w. record {
       opened = w.opened;
+      schema = J.schema w.judge;
       bindings = w.gatekeeper.system.bindings;
       table = w.table;
       residents = (0, resident_by (λ g. g.got) w.gatekeeper) ∷ residents_by w.spaces.entries;
@@ -67,10 +71,11 @@ impl<S: Space + Drop> Model for World<S> {
     ghost invariant = { λ w. IsWorld w.opened w.table };
 }
 
-impl<S: Space + Drop> World<S> {
-    /// The opening: the gatekeeper and the dataspaces are live, and nothing is said.
-    pub fn begin(alloc: Global) -> Result<World<S>, NoMemory>
-        ensures { IfOk result (λ w. w ≡ beginning) }
+impl<S: Space + Drop, J: Judge + Drop> World<S, J> {
+    /// The opening: the gatekeeper and the dataspaces are live, and nothing is said. Guards judge
+    /// by what is handed in.
+    pub fn begin(alloc: Global, judge: J) -> Result<World<S, J>, NoMemory>
+        ensures { IfOk result (λ w. w ≡ beginning (J.schema judge)) }
     {
         let mut table = Table::new(alloc);
         for actor in 0..FIRST_OTHER {
@@ -78,11 +83,19 @@ impl<S: Space + Drop> World<S> {
         }
         Ok(World {
             opened: 0,
+            judge,
             table,
             gatekeeper: Resident::new(alloc, Gatekeeper::new(alloc)),
             spaces: BTreeMap::new(alloc),
             held: BTreeMap::new(alloc),
         })
+    }
+
+    /// What guards judge by.
+    pub fn judge(&self) -> &J
+        ensures { J.schema result.now ≡ self.now.schema }
+    {
+        &self.judge
     }
 
     /// The handle that is drawn next.
@@ -141,7 +154,7 @@ impl<S: Space + Drop> World<S> {
     }
 
     /// A reference is bound, where its oid isn't. For want of memory the world is gone.
-    pub fn bind(mut self, given: Binding) -> Result<World<S>, NoMemory>
+    pub fn bind(mut self, given: Binding) -> Result<World<S, J>, NoMemory>
         ensures { IfOk result (λ w. w ≡ binding given self) }
     {
         self.gatekeeper.system.bindings.add(given)?;
@@ -149,7 +162,7 @@ impl<S: Space + Drop> World<S> {
     }
 
     /// The next connection is live; answers its number.
-    pub fn arrive(mut self) -> Result<(World<S>, u32), NoMemory>
+    pub fn arrive(mut self) -> Result<(World<S, J>, u32), NoMemory>
         requires { self.opened < 2 ^ 31 }
         ensures world { IfOk result (λ done. done.0 ≡ arrived self) }
         ensures number { IfOk result (λ done. done.1 ≡ self.opened + 1) }
@@ -161,12 +174,13 @@ impl<S: Space + Drop> World<S> {
     }
 
     /// A live connection's acts, in order.
-    pub fn send(self, alloc: Global, actor: u32, acts: Vec<Act>) -> Result<World<S>, NoMemory>
+    pub fn send(self, alloc: Global, actor: u32, acts: Vec<Act>) -> Result<World<S, J>, NoMemory>
         requires { is_live actor self.table ≡ true }
         ensures { IfOk result (λ w. w ≡ sent actor acts.items self) }
     {
         let World {
             opened,
+            judge,
             table,
             gatekeeper,
             spaces,
@@ -176,6 +190,7 @@ impl<S: Space + Drop> World<S> {
         plan.act_all(actor, acts)?;
         Ok(World {
             opened,
+            judge,
             table: plan.commit(actor)?,
             gatekeeper,
             spaces,
@@ -184,13 +199,14 @@ impl<S: Space + Drop> World<S> {
     }
 
     /// The gatekeeper's turn, its batch taken.
-    fn gatekeeper_turn(self, alloc: Global, batch: Batch) -> Result<(World<S>, Turned), NoMemory>
+    fn gatekeeper_turn(self, alloc: Global, batch: Batch) -> Result<(World<S, J>, Turned), NoMemory>
         requires { is_live 0 self.table ≡ true }
         ensures world { IfOk result (λ done. done.0 ≡ (system_turn 0 batch self).world) }
         ensures turned { IfOk result (λ done. done.1 ≡ (system_turn 0 batch self).turned) }
     {
         let World {
             opened,
+            judge,
             table,
             gatekeeper,
             spaces,
@@ -200,9 +216,10 @@ impl<S: Space + Drop> World<S> {
             resident,
             plan,
             spreads,
-        } = turned(alloc, GATEKEEPER, gatekeeper, table, batch)?;
+        } = turned(alloc, &judge, GATEKEEPER, gatekeeper, table, batch)?;
         let world = World {
             opened,
+            judge,
             table: plan.commit(GATEKEEPER)?,
             gatekeeper: resident,
             spaces,
@@ -217,7 +234,7 @@ impl<S: Space + Drop> World<S> {
         alloc: Global,
         actor: u32,
         batch: Batch,
-    ) -> Result<(World<S>, Turned), NoMemory>
+    ) -> Result<(World<S, J>, Turned), NoMemory>
         requires live { is_live actor self.table ≡ true }
         requires other { 0 < actor }
         ensures world { IfOk result (λ done. done.0 ≡ (system_turn actor batch self).world) }
@@ -225,6 +242,7 @@ impl<S: Space + Drop> World<S> {
     {
         let World {
             opened,
+            judge,
             table,
             gatekeeper,
             mut spaces,
@@ -236,10 +254,11 @@ impl<S: Space + Drop> World<S> {
             resident,
             plan,
             spreads,
-        } = turned(alloc, actor, resident, table, batch)?;
+        } = turned(alloc, &judge, actor, resident, table, batch)?;
         spaces.insert(actor, resident)?;
         let world = World {
             opened,
+            judge,
             table: plan.commit(actor)?,
             gatekeeper,
             spaces,
@@ -265,7 +284,7 @@ impl<S: Space + Drop> World<S> {
         alloc: Global,
         actor: u32,
         batch: Batch,
-    ) -> Result<(World<S>, Turned), NoMemory>
+    ) -> Result<(World<S, J>, Turned), NoMemory>
         requires { is_system actor ≡ false }
         ensures world { IfOk result (λ done. done.0 ≡ (turn_with actor batch self).world) }
         ensures turned { IfOk result (λ done. done.1 ≡ (turn_with actor batch self).turned) }
@@ -280,7 +299,7 @@ impl<S: Space + Drop> World<S> {
         alloc: Global,
         actor: u32,
         batch: Batch,
-    ) -> Result<(World<S>, Turned), NoMemory>
+    ) -> Result<(World<S, J>, Turned), NoMemory>
         requires { is_live actor self.table ≡ true }
         ensures world { IfOk result (λ done. done.0 ≡ (turn_with actor batch self).world) }
         ensures turned { IfOk result (λ done. done.1 ≡ (turn_with actor batch self).turned) }
@@ -295,7 +314,7 @@ impl<S: Space + Drop> World<S> {
     }
 
     /// An actor takes the first batch of its inbox. For want of memory the world is gone.
-    pub fn turn(mut self, alloc: Global, actor: u32) -> Result<(World<S>, Turned), NoMemory>
+    pub fn turn(mut self, alloc: Global, actor: u32) -> Result<(World<S, J>, Turned), NoMemory>
         ensures world { IfOk result (λ done. done.0 ≡ (turn actor self).world) }
         ensures turned { IfOk result (λ done. done.1 ≡ (turn actor self).turned) }
     {
@@ -307,7 +326,7 @@ impl<S: Space + Drop> World<S> {
     }
 
     /// The turn of the lowest system actor for which a batch waits.
-    pub fn work(self, alloc: Global) -> Result<(World<S>, Turned), NoMemory>
+    pub fn work(self, alloc: Global) -> Result<(World<S, J>, Turned), NoMemory>
         ensures world { IfOk result (λ done. done.0 ≡ (work self).world) }
         ensures turned { IfOk result (λ done. done.1 ≡ (work self).turned) }
     {
@@ -319,7 +338,7 @@ impl<S: Space + Drop> World<S> {
 
     /// An actor that isn't always live goes, where it is live, with its rows, its inbox and what it
     /// has got; each live target is told of its rows there.
-    pub fn end(mut self, alloc: Global, actor: u32) -> Result<World<S>, NoMemory>
+    pub fn end(mut self, alloc: Global, actor: u32) -> Result<World<S, J>, NoMemory>
         requires { 9 ≤ actor }
         ensures { IfOk result (λ w. w ≡ ended_of actor self) }
     {
@@ -359,8 +378,9 @@ fn resident_or_new<S: Space + Drop>(
 }
 
 /// A system actor's turn over a batch.
-fn turned<Y: System + Drop>(
+fn turned<Y: System + Drop, J: Judge>(
     alloc: Global,
+    judge: &J,
     actor: u32,
     resident: Resident<Y>,
     table: Table,
@@ -368,7 +388,8 @@ fn turned<Y: System + Drop>(
 ) -> Result<Turning<Y>, NoMemory>
     requires { is_live actor table ≡ true }
     ensures turned { IfOk result (λ t. turning_by Y.rows t
-        ≡ all_turned (Y.behaviour resident.system) actor batch.from batch.events (record {
+        ≡ all_turned (Y.behaviour (J.schema judge.now) resident.system) actor batch.from
+        batch.events (record {
           resident = resident_by Y.rows resident;
           plan = plan_over table;
           spreads = [];
@@ -382,7 +403,7 @@ fn turned<Y: System + Drop>(
         spreads: Spreads::new(alloc),
     };
     let Batch { from, events } = batch;
-    turning.turn_all(alloc, actor, from, events.into_vec())
+    turning.turn_all(alloc, judge, actor, from, events.into_vec())
 }
 
 /// What was delivered, or nothing.

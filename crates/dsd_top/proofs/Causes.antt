@@ -227,6 +227,6 @@ said_err P (Ok t) x h k = tt
 said_err P (Err f) x h k = subst P (sym h) k
 
 -- an error of reading comes before the end of the input
-pub early : (e : ReadFault) → IsBehindInput (from_read e) → ⊥
-early reading.Failed b = b.0 refl
-early reading.NoMemory b = b.1 refl
+pub early : (c : Command) (e : ReadFault) → IsBehindInput c (from_read e) → ⊥
+early c reading.Failed b = b.0 refl
+early c reading.NoMemory b = b.1 refl

@@ -63,9 +63,13 @@ module _ (files : Files) where
   unmade_known m bytes WriteFailed h = absurd h
   unmade_known m bytes NoMemory h = (4, within (Make m) 4 (lit< tt), refl)
   unmade_known m bytes (Limit w) h = (5, within (Make m) 5 (lit< tt), refl)
-  unmade_known m bytes (BadConfig n) h = absurd h
-  unmade_known Run bytes (NotBuilt n) h = (6, lit< tt, refl)
-  unmade_known RunText bytes (NotBuilt n) h = (6, lit< tt, refl)
+  unmade_known Run bytes (BadConfig n) h = (6, lit< tt, refl)
+  unmade_known RunText bytes (BadConfig n) h = (6, lit< tt, refl)
+  unmade_known CanonicalForms bytes (BadConfig n) h = absurd h
+  unmade_known Printed bytes (BadConfig n) h = absurd h
+  unmade_known Written bytes (BadConfig n) h = absurd h
+  unmade_known Run bytes (NotBuilt n) h = (7, lit< tt, refl)
+  unmade_known RunText bytes (NotBuilt n) h = (7, lit< tt, refl)
   unmade_known CanonicalForms bytes (NotBuilt n) h = absurd h
   unmade_known Printed bytes (NotBuilt n) h = absurd h
   unmade_known Written bytes (NotBuilt n) h = absurd h
@@ -106,7 +110,7 @@ module _ (files : Files) where
   unready_stands (Check k) left (NotBuilt n) h = absurd h
 
   -- such a cause comes before the input is read
-  pub unready_early : (c : Command) (f : Fault) → IsUnready files c f → IsBehindInput f → ⊥
+  pub unready_early : (c : Command) (f : Fault) → IsUnready files c f → IsBehindInput c f → ⊥
   unready_early (Make m) f h b = absurd h
   unready_early (Check k) (BadInput n) h b = absurd h
   unready_early (Check k) BadWords h b = absurd h
@@ -114,7 +118,7 @@ module _ (files : Files) where
   unready_early (Check k) WriteFailed h b = absurd h
   unready_early (Check k) NoMemory h b = b.1 refl
   unready_early (Check k) (Limit w) h b = absurd h
-  unready_early (Check k) (BadConfig n) h b = b.2 refl
+  unready_early (Check k) (BadConfig n) h b = absurd (let none : Some k.file ≡ None = b.2 refl in cc)
   unready_early (Check k) (NotBuilt n) h b = absurd h
 
   made_stands : (m : Making) (bytes : List ℕ) (f : Fault) → IsUnmadeFor m bytes f
@@ -125,7 +129,7 @@ module _ (files : Files) where
   made_stands m bytes WriteFailed h = absurd h
   made_stands m bytes NoMemory h = tt
   made_stands m bytes (Limit w) h = h
-  made_stands m bytes (BadConfig n) h = absurd h
+  made_stands m bytes (BadConfig n) h = h
   made_stands m bytes (NotBuilt n) h = h
 
   judged_stands : (k : Checking) (ds : List Definition) (bytes : List ℕ) (f : Fault) → IsSchemaIn files k ds

@@ -14,4 +14,4 @@ pub reported : (input : Input) (form : Form) (bytes out : List ℕ) (ran : RanSt
     → LeavesAs input bytes ran → v ≡ report_of ran → out ≡ in_form form v → IsReported input form bytes out
 reported input form bytes out ran v law leaves told written = λ N decides.
     let l = leaves N decides in
-    (l.0, l.1, λ k. law k l.0.steps l.2, written ∙ ap (in_form form) (told ∙ ap report_of l.3))
+    (l.0, l.1, λ k. law l.0.schema k l.0.steps l.2, written ∙ ap (in_form form) (told ∙ ap report_of l.3))

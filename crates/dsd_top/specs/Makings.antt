@@ -6,7 +6,7 @@ use Rattle.sc_events.specs.declared.inputs.Form.TheVariants as input
 use Rattle.sc_report.specs.Reports.{report_of}
 use Rattle.sc_script.specs.Leavings.{ran_of}
 use Rattle.rl_stream.specs.Nexts.{Decider, Decides}
-use Rattle.sc_script.specs.Runs.{Cause, bad, limit, not_built, goes, stops, Running}
+use Rattle.sc_script.specs.Runs.{Cause, bad, limit, config, not_built, goes, stops, Running}
 use Rattle.sc_script.specs.Scripts.{IsCourseOf}
 use Rattle.dsd_top.specs.Forms.{in_form}
 use Rattle.dsd_top.specs.Values.{IsBadAt, AreMade}
@@ -20,7 +20,7 @@ use Rattle.dsd_top.specs.declared.words.Making.TheVariants.{Run, RunText, Canoni
 abbrev pub IsReported : Input → Form → List ℕ → List ℕ → Type 0
 IsReported input form bytes out =
     (N : Decider) → Decides N → (r : Running) × IsCourseOf N input bytes (goes r)
-    × ((k : ℕ) → HoldsFromScratch k r.steps) × (out ≡ in_form form (report_of (ran_of r.steps)))
+    × ((k : ℕ) → HoldsFromScratch r.schema k r.steps) × (out ≡ in_form form (report_of (ran_of r.schema r.steps)))
 
 -- the input stops as a script for this cause
 abbrev pub StopsFor : Input → List ℕ → Cause → Type 0
@@ -51,6 +51,12 @@ abbrev pub PassesLimit : Making → List ℕ → ℕ → Type 0
 PassesLimit Run bytes w = StopsFor input.Binary bytes (limit w)
 PassesLimit RunText bytes w = StopsFor input.Text bytes (limit w)
 PassesLimit m bytes w = IsTooLong bytes w
+
+-- event n of the input gives what is no schema, or binds by a guard whose name the schema doesn't define
+abbrev pub IsUnschemedAt : Making → List ℕ → ℕ → Type 0
+IsUnschemedAt Run bytes n = StopsFor input.Binary bytes (config n)
+IsUnschemedAt RunText bytes n = StopsFor input.Text bytes (config n)
+IsUnschemedAt m bytes n = ⊥
 
 -- value n of the input goes past what is built
 abbrev pub IsUnbuiltAt : Making → List ℕ → ℕ → Type 0

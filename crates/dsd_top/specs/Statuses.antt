@@ -1,5 +1,5 @@
 -- What a status says of the words, the host's files, the input and what was written.
-use Rattle.std.specs.Prelude.{◌≢◌, ℕ, List, [], ◌∷◌, Option, Some, None, Contains, IfSome}
+use Rattle.std.specs.Prelude.{◌≡◌, ◌≢◌, ℕ, List, [], ◌∷◌, Option, Some, None, Contains, IfSome}
 use Rattle.out_ports.specs.Ports.{Appends, AppendsFront}
 use Rattle.out_ports.specs.declared.streams.ReadFault.{ReadFault}
 use Rattle.out_ports.specs.declared.streams.ReadFault.TheVariants as reading
@@ -10,7 +10,7 @@ use Rattle.sc_script.specs.declared.faults.ScriptFault.TheVariants as stopped
 use Rattle.dsd_top.specs.Asked.{Checking}
 use Rattle.dsd_top.specs.Commands.{made_by, IsOfTable, IsTextOf, HasText}
 use Rattle.dsd_top.specs.Forms.{verdict_by}
-use Rattle.dsd_top.specs.Makings.{IsMadeOf, IsMalformedAt, IsTooLong, PassesLimit, IsUnbuiltAt}
+use Rattle.dsd_top.specs.Makings.{IsMadeOf, IsMalformedAt, IsTooLong, PassesLimit, IsUnschemedAt, IsUnbuiltAt}
 use Rattle.dsd_top.specs.Schemas.{Files, IsSchemaIn, IsBadFileAt}
 use Rattle.dsd_top.specs.Values.{IsBadAt, AreMade}
 use Rattle.dsd_top.specs.declared.faults.Fault.{Fault}
@@ -36,15 +36,15 @@ use Rattle.dsd_top.specs.declared.words.Request.TheVariants.{Do, Tell}
 abbrev pub IsStatus : ℕ → Type 0
 IsStatus n = Contains (0 ∷ 1 ∷ 2 ∷ 3 ∷ 4 ∷ 5 ∷ 6 ∷ 7 ∷ 10 ∷ []) n
 
--- what isn't built comes of scripts alone
-abbrev pub unbuilt_of : Making → List ℕ
-unbuilt_of Run = 10 ∷ []
-unbuilt_of RunText = 10 ∷ []
-unbuilt_of m = []
+-- what is no schema, and what isn't built, comes of scripts alone
+abbrev pub of_scripts : Making → List ℕ
+of_scripts Run = 7 ∷ 10 ∷ []
+of_scripts RunText = 7 ∷ 10 ∷ []
+of_scripts m = []
 
--- those that come for a command: a file is refused for `check` alone
+-- those that come for a command
 abbrev pub statuses_by : Command → List ℕ
-statuses_by (Make m) = 0 ∷ 1 ∷ 3 ∷ 4 ∷ 5 ∷ 6 ∷ unbuilt_of m
+statuses_by (Make m) = 0 ∷ 1 ∷ 3 ∷ 4 ∷ 5 ∷ 6 ∷ of_scripts m
 statuses_by (Check k) = 0 ∷ 1 ∷ 3 ∷ 4 ∷ 5 ∷ 6 ∷ 7 ∷ []
 
 -- those that come for a notice: one whose text is always the same takes no memory
@@ -81,9 +81,9 @@ IsAnswerOf files (Make m) bytes out = IsMadeOf m bytes out
 IsAnswerOf files (Check k) bytes out =
     (ds : List Definition) × IsSchemaIn files k ds × AreMade input.Text (verdict_by ds k.name) bytes out
 
--- the file is refused, with this number
+-- the file is refused, or what a script says of its schema, with this number
 abbrev pub IsBadConfigAt : Files → Command → List ℕ → ℕ → Type 0
-IsBadConfigAt files (Make m) bytes n = ⊥
+IsBadConfigAt files (Make m) bytes n = IsUnschemedAt m bytes n
 IsBadConfigAt files (Check k) bytes n = IsBadFileAt files k n
 
 -- value n of the input is malformed, where no file is refused
@@ -143,9 +143,9 @@ status_of (fault.Limit w) = 6
 status_of (fault.BadConfig n) = 7
 status_of (fault.NotBuilt n) = 10
 
--- the causes that come only behind the whole input
-abbrev pub IsBehindInput : Fault → Type 0
-IsBehindInput f = (status_of f ≢ 3) × (status_of f ≢ 5) × (status_of f ≢ 7)
+-- the causes of a command that come only behind the whole input: where a file is read it is judged before
+abbrev pub IsBehindInput : Command → Fault → Type 0
+IsBehindInput c f = (status_of f ≢ 3) × (status_of f ≢ 5) × (status_of f ≡ 7 → file_of (Some c) ≡ None)
 
 -- what a cause says of what is asked for, of the host's files and of the input, with its number
 abbrev pub Stands : Option Request → Files → Option (List ℕ) → Fault → Type 0
@@ -168,6 +168,7 @@ IsToldFault n f = ⊥
 abbrev pub from_script : ScriptFault → Fault
 from_script (stopped.Bad n) = fault.BadInput n
 from_script (stopped.Limit w) = fault.Limit w
+from_script (stopped.Schema n) = fault.BadConfig n
 from_script (stopped.NotBuilt n) = fault.NotBuilt n
 from_script stopped.NoMemory = fault.NoMemory
 

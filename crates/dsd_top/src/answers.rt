@@ -8,6 +8,7 @@ ghost use Rattle.dsd_top.specs.Works.{IsReady, IsUnready, CanJudge, IsAnswerBy, 
 ghost use Rattle.dsd_top.specs.Works.{IsUnmadeFor};
 ghost use Rattle.dsd_top.specs.declared.faults.Fault.TheVariants as fault;
 
+use crate::conformance::Conformance;
 use crate::faults::Fault;
 use crate::forms::{Each, Form, value_in};
 use crate::schemas::schema_of;
@@ -95,7 +96,7 @@ fn report_in(alloc: Global, bytes: &[u8], input: Input, form: Form) -> Result<Ve
     ensures stop { IfErr result (StopsAt input bytes.now) }
 {
     settled_holdings_are_from_scratch();
-    let ran = run_script::<PlainSpace>(alloc, bytes, input)?;
+    let ran = run_script::<PlainSpace, Conformance>(alloc, bytes, input, Conformance)?;
     let value = report(alloc, &ran)?;
     Ok(value_in(alloc, &value, form)?)
 }

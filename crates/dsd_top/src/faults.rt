@@ -78,6 +78,7 @@ impl From<ScriptFault> for Fault {
         match fault {
             ScriptFault::Bad(n) => Fault::BadInput(n),
             ScriptFault::Limit(limit) => Fault::Limit(limit),
+            ScriptFault::Schema(n) => Fault::BadConfig(n),
             ScriptFault::NotBuilt(n) => Fault::NotBuilt(n),
             ScriptFault::NoMemory => Fault::NoMemory,
         }

@@ -2,6 +2,7 @@
 #![tactic(auto)]
 
 mod answers;
+mod conformance;
 mod faults;
 mod forms;
 mod lines;

@@ -34,8 +34,10 @@ fn do_command<I: Source, O: Sink, H: Host>(
 ) -> Result<(), Fault>
     ensures known { IfErr result (λ f. Contains (statuses_by command.now) (status_of f)) }
     ensures ended { OnOk result (I.ended input.new ≡ true) }
-    ensures ended_first { IfErr result (λ f. IsBehindInput f → I.ended input.new ≡ true) }
-    ensures unread { IfErr result (λ f. status_of f ≡ 7 → input.new ≡ input.old) }
+    ensures ended_first { IfErr result (λ f. IsBehindInput command.now f
+        → I.ended input.new ≡ true) }
+    ensures unread { IfErr result (λ f. status_of f ≡ 7 → file_of (Some command.now) ≢ None
+        → input.new ≡ input.old) }
     ensures done { OnOk result (IfSome (I.left input.old) (λ bytes. IsAnswered
         (H.files host.old) command.now bytes (O.held out.old) (O.held out.new))) }
     ensures cause { IfErr result (Stands (Some (Do command.now))
@@ -110,8 +112,8 @@ fn show<O: Sink, E: Sink>(alloc: Global, notice: &Notice, out: &mut O, diag: &mu
 /// Does what the words say, and answers the status: 0 where all input was read, or a notice asked
 /// for, and all output written, 1 where a value of the input is malformed, 2 where the words are
 /// none of the table's, 3 where the input or a file failed, 4 where the output failed, 5 for want
-/// of memory, 6 where a limit is passed, 7 where a file is refused, 10 where the input goes past
-/// what is built.
+/// of memory, 6 where a limit is passed, 7 where a file is refused, or what a script says of its
+/// schema, 10 where the input goes past what is built.
 /// At every status but 0 one line on `diag` says why; a fault of `diag` changes nothing else.
 pub fn dsd_once<I: Source, O: Sink, E: Sink, H: Host>(
     alloc: Global,
@@ -135,7 +137,8 @@ pub fn dsd_once<I: Source, O: Sink, E: Sink, H: Host>(
     ensures limit { result ≡ 6
         → IfTold (command_of (texts words.now)) (I.left input.old) (IsOver (H.files host.old)) }
     ensures bad_config { result ≡ 7
-        → IfTold (command_of (texts words.now)) (I.left input.old) (IsBadConfig (H.files host.old)) }
+        → IfTold (command_of (texts words.now)) (I.left input.old)
+        (IsBadConfig (H.files host.old)) }
     ensures not_built { result ≡ 10
         → IfTold (command_of (texts words.now)) (I.left input.old) (IsNotBuilt (H.files host.old)) }
     // The count that rose is that of the input, or that of the host's files before anything was
@@ -147,10 +150,12 @@ pub fn dsd_once<I: Source, O: Sink, E: Sink, H: Host>(
 
     // A command has its file judged and then reads the input to its end, before anything else
     // decides; what is no command leaves the input unread.
-    ensures ended { result ≢ 3 → result ≢ 5 → result ≢ 7
+    ensures ended { result ≢ 3 → result ≢ 5
+        → (result ≡ 7 → file_of (command_of (texts words.now)) ≡ None)
         → IfSome (command_of (texts words.now)) (λ c. I.ended input.new ≡ true) }
     ensures unread { command_of (texts words.now) ≡ None → input.new ≡ input.old }
-    ensures unread_yet { result ≡ 7 → input.new ≡ input.old }
+    ensures unread_yet { result ≡ 7 → file_of (command_of (texts words.now)) ≢ None
+        → input.new ≡ input.old }
 
     // A notice is written.
     ensures shown { result ≡ 0 → IfSome (notice_of (texts words.now))
@@ -219,7 +224,8 @@ where
     ensures limit { result ≡ 6
         → IfTold (command_of (texts words.now)) (I.left input.old) (IsOver (H.files host.old)) }
     ensures bad_config { result ≡ 7
-        → IfTold (command_of (texts words.now)) (I.left input.old) (IsBadConfig (H.files host.old)) }
+        → IfTold (command_of (texts words.now)) (I.left input.old)
+        (IsBadConfig (H.files host.old)) }
     ensures not_built { result ≡ 10
         → IfTold (command_of (texts words.now)) (I.left input.old) (IsNotBuilt (H.files host.old)) }
     // The count that rose is that of the input, or that of the host's files before anything was
@@ -231,10 +237,12 @@ where
 
     // A command has its file judged and then reads the input to its end, before anything else
     // decides; what is no command leaves the input unread.
-    ensures ended { result ≢ 3 → result ≢ 5 → result ≢ 7
+    ensures ended { result ≢ 3 → result ≢ 5
+        → (result ≡ 7 → file_of (command_of (texts words.now)) ≡ None)
         → IfSome (command_of (texts words.now)) (λ c. I.ended input.new ≡ true) }
     ensures unread { command_of (texts words.now) ≡ None → input.new ≡ input.old }
-    ensures unread_yet { result ≡ 7 → input.new ≡ input.old }
+    ensures unread_yet { result ≡ 7 → file_of (command_of (texts words.now)) ≢ None
+        → input.new ≡ input.old }
 
     // A notice is written.
     ensures shown { result ≡ 0 → IfSome (notice_of (texts words.now))

@@ -9,6 +9,7 @@ use Rattle.std.specs.List.{AllByRecursion, list_any}
 use Rattle.std.specs.Option.{option_or}
 use Rattle.pv_value.specs.Plain.{Plain}
 use Rattle.sr_caveat.specs.declared.caps.Cap.{Cap}
+use Rattle.ps_schema.specs.declared.Definition.{Definition}
 use Rattle.ac_table.specs.declared.batches.Row.{Row as TableRow}
 use Rattle.ac_table.specs.Tables.{TableState, asserted}
 use Rattle.ac_world.specs.declared.acts.Act.{Act}
@@ -120,8 +121,8 @@ pub record IsWalked (t : TableState) (next : ℕ) (ports : PortsState) : Type 0 
   pub stand : StandBelow next ports
 
 -- the rows that are left, and those that the events to come ask for
-abbrev pub rows_then : ℕ → TableState → ℕ → PortsState → List TurnEvent → List TableRow
-rows_then k t next ports es = rows_left k ports es t.rows ++ rows_asked ports.exports k next es
+abbrev pub rows_then : List Definition → ℕ → TableState → ℕ → PortsState → List TurnEvent → List TableRow
+rows_then ds k t next ports es = rows_left k ports es t.rows ++ rows_asked ds ports.exports k next es
 
 pub all_acted_more : (a : ℕ) (xs : List Act) (x : Act) (p : Plan)
     → all_acted a (xs ++ x ∷ []) p ≡ acted a x (all_acted a xs p)
@@ -130,11 +131,13 @@ all_acted_more a (y ∷ xs) x p = all_acted_more a xs x (acted a y p)
 
 -- ---- a message and a sync
 
-quiet_leads : (k oid : ℕ) (to : Cap) (ev : Event) (es : List TurnEvent) (t : TableState) (next : ℕ)
-    (ports : PortsState) → cap_under ports.exports oid ≡ Some to → row_asked ports.exports k next (Some to) ev es ≡ []
-    → next_after ports.exports k (Some to) ev next ≡ next → ((n : ℕ) → takes_row ports n ev ≡ false)
-    → rows_then k t next ports es ≡ rows_then k t next ports (record { oid = oid; event = ev } ∷ es)
-quiet_leads k oid to ev es t next ports found none same silent = λ i. left i ++ asked i
+quiet_leads : (ds : List Definition) (k oid : ℕ) (to : Cap) (ev : Event) (es : List TurnEvent) (t : TableState)
+    (next : ℕ)
+    (ports : PortsState) → cap_under ports.exports oid ≡ Some to
+    → row_asked ds ports.exports k next (Some to) ev es ≡ []
+    → next_after ds ports.exports k (Some to) ev next ≡ next → ((n : ℕ) → takes_row ports n ev ≡ false)
+    → rows_then ds k t next ports es ≡ rows_then ds k t next ports (record { oid = oid; event = ev } ∷ es)
+quiet_leads ds k oid to ev es t next ports found none same silent = λ i. left i ++ asked i
   where
     left : rows_left k ports es t.rows ≡ rows_left k ports (record { oid = oid; event = ev } ∷ es) t.rows
     left =
@@ -142,11 +145,11 @@ quiet_leads k oid to ev es t next ports found none same silent = λ i. left i ++
         (all_from _ (λ r. ap (λ b. not ((r.owner == actor_of k) && (b || takes ports es r.handle)))
         (sym (silent r.handle))) t.rows)
 
-    asked : rows_asked ports.exports k next es
-        ≡ rows_asked ports.exports k next (record { oid = oid; event = ev } ∷ es)
+    asked : rows_asked ds ports.exports k next es
+        ≡ rows_asked ds ports.exports k next (record { oid = oid; event = ev } ∷ es)
     asked =
-        sym (λ i. (ap (λ o. row_asked ports.exports k next o ev es) found ∙ none) i
-        ++ rows_asked ports.exports k ((ap (λ o. next_after ports.exports k o ev next) found ∙ same) i) es)
+        sym (λ i. (ap (λ o. row_asked ds ports.exports k next o ev es) found ∙ none) i
+        ++ rows_asked ds ports.exports k ((ap (λ o. next_after ds ports.exports k o ev next) found ∙ same) i) es)
 
 -- ---- an assertion
 
@@ -180,36 +183,38 @@ walked_made k h to v t next ports walked = record {
     by g n false o found is = let less = walked.stand g n (found ∙ is) in omega (arith, less)
 
 -- what an assertion asks for, at the reference that is found
-asked_at : (k h oid : ℕ) (to : Cap) (v : Plain) (o : Option Plain) (es : List TurnEvent) (next : ℕ) (ports : PortsState)
-    → cap_under ports.exports oid ≡ Some to → let_in ports.exports k to v ≡ o
-    → rows_asked ports.exports k next (record { oid = oid; event = Assert v h } ∷ es)
+asked_at : (ds : List Definition) (k h oid : ℕ) (to : Cap) (v : Plain) (o : Option Plain) (es : List TurnEvent)
+    (next : ℕ) (ports : PortsState)
+    → cap_under ports.exports oid ≡ Some to → let_in ds ports.exports k to v ≡ o
+    → rows_asked ds ports.exports k next (record { oid = oid; event = Assert v h } ∷ es)
     ≡ row_of k next to (takes_back es h) o
-    ++ rows_asked ports.exports k (if is_some o then next + 1 else next) es
-asked_at k h oid to v o es next ports found is =
-    ap (λ c. row_asked ports.exports k next c (Assert v h) es
-    ++ rows_asked ports.exports k (next_after ports.exports k c (Assert v h) next) es) found
+    ++ rows_asked ds ports.exports k (if is_some o then next + 1 else next) es
+asked_at ds k h oid to v o es next ports found is =
+    ap (λ c. row_asked ds ports.exports k next c (Assert v h) es
+    ++ rows_asked ds ports.exports k (next_after ds ports.exports k c (Assert v h) next) es) found
     ∙ ap (λ p. row_of k next to (takes_back es h) p
-    ++ rows_asked ports.exports k (if is_some p then next + 1 else next) es) is
+    ++ rows_asked ds ports.exports k (if is_some p then next + 1 else next) es) is
 
 -- of a value that gets through
-assert_leads : (k h oid : ℕ) (to : Cap) (v u : Plain) (es : List TurnEvent) (t : TableState) (next : ℕ)
-    (ports : PortsState) → cap_under ports.exports oid ≡ Some to → let_in ports.exports k to v ≡ Some u
+assert_leads : (ds : List Definition) (k h oid : ℕ) (to : Cap) (v u : Plain) (es : List TurnEvent) (t : TableState)
+    (next : ℕ)
+    (ports : PortsState) → cap_under ports.exports oid ≡ Some to → let_in ds ports.exports k to v ≡ Some u
     → inbound_of h ports ≡ None → IsWalked t next ports
-    → rows_then k (asserted (actor_of k) 0 to.actor to.entity u t) (next + 1) (taken_into_use h (Row next) ports) es
-    ≡ rows_then k t next ports (record { oid = oid; event = Assert v h } ∷ es)
-assert_leads k h oid to v u es t next ports found through free walked =
+    → rows_then ds k (asserted (actor_of k) 0 to.actor to.entity u t) (next + 1) (taken_into_use h (Row next) ports) es
+    ≡ rows_then ds k t next ports (record { oid = oid; event = Assert v h } ∷ es)
+assert_leads ds k h oid to v u es t next ports found through free walked =
     ap (λ rows. rows ++ later) (filter-append _ t.rows (new t.next ∷ [])
     ∙ (λ i. old i ++ made i))
     ∙ append_assoc (rows_left k ports (record { oid = oid; event = Assert v h } ∷ es) t.rows)
     (row_of k next to (takes_back es h) (Some u)) later
     ∙ ap (λ rows. rows_left k ports (record { oid = oid; event = Assert v h } ∷ es) t.rows ++ rows)
-    (sym (asked_at k h oid to v (Some u) es next ports found through))
+    (sym (asked_at ds k h oid to v (Some u) es next ports found through))
   where
     after_it : PortsState
     after_it = taken_into_use h (Row next) ports
 
     later : List TableRow
-    later = rows_asked ports.exports k (next + 1) es
+    later = rows_asked ds ports.exports k (next + 1) es
 
     new : ℕ → TableRow
     new n = new_row k to u n
@@ -250,13 +255,14 @@ takes_noted ports h n (Retract g) free =
     by false none = refl
 
 -- of one that is refused
-noted_leads : (k h oid : ℕ) (to : Cap) (v : Plain) (es : List TurnEvent) (t : TableState) (next : ℕ)
-    (ports : PortsState) → cap_under ports.exports oid ≡ Some to → let_in ports.exports k to v ≡ None
+noted_leads : (ds : List Definition) (k h oid : ℕ) (to : Cap) (v : Plain) (es : List TurnEvent) (t : TableState)
+    (next : ℕ)
+    (ports : PortsState) → cap_under ports.exports oid ≡ Some to → let_in ds ports.exports k to v ≡ None
     → inbound_of h ports ≡ None
-    → rows_then k t next (taken_into_use h Refused ports) es
-    ≡ rows_then k t next ports (record { oid = oid; event = Assert v h } ∷ es)
-noted_leads k h oid to v es t next ports found refused free =
-    λ i. left i ++ sym (asked_at k h oid to v None es next ports found refused) i
+    → rows_then ds k t next (taken_into_use h Refused ports) es
+    ≡ rows_then ds k t next ports (record { oid = oid; event = Assert v h } ∷ es)
+noted_leads ds k h oid to v es t next ports found refused free =
+    λ i. left i ++ sym (asked_at ds k h oid to v None es next ports found refused) i
   where
     left : rows_left k (taken_into_use h Refused ports) es t.rows
         ≡ rows_left k ports (record { oid = oid; event = Assert v h } ∷ es) t.rows
@@ -286,12 +292,12 @@ walked_noted h t next ports walked = record {
 abbrev retraction : ℕ → ℕ → TurnEvent
 retraction oid h = record { oid = oid; event = Retract h }
 
-asked_alike : (k oid h : ℕ) (to : Cap) (es : List TurnEvent) (next : ℕ) (ports : PortsState)
+asked_alike : (ds : List Definition) (k oid h : ℕ) (to : Cap) (es : List TurnEvent) (next : ℕ) (ports : PortsState)
     → cap_under ports.exports oid ≡ Some to
-    → rows_asked ports.exports k next es ≡ rows_asked ports.exports k next (retraction oid h ∷ es)
-asked_alike k oid h to es next ports found =
-    ap (λ o. row_asked ports.exports k next o (Retract h) es
-    ++ rows_asked ports.exports k (next_after ports.exports k o (Retract h) next) es) (sym found)
+    → rows_asked ds ports.exports k next es ≡ rows_asked ds ports.exports k next (retraction oid h ∷ es)
+asked_alike ds k oid h to es next ports found =
+    ap (λ o. row_asked ds ports.exports k next o (Retract h) es
+    ++ rows_asked ds ports.exports k (next_after ds ports.exports k o (Retract h) next) es) (sym found)
 
 -- a row for which the handle doesn't stand is taken back as before
 taken_alike : (ports : PortsState) (h n : ℕ) (es : List TurnEvent) → KeysAscend ports.handles
@@ -317,11 +323,12 @@ walked_freed h t u next ports walked same below once = record {
     by g n false o found is = walked.stand g n (found ∙ is)
 
 -- of a handle that stands for no row
-refused_leads : (k h oid : ℕ) (to : Cap) (es : List TurnEvent) (t : TableState) (next : ℕ) (ports : PortsState)
+refused_leads : (ds : List Definition) (k h oid : ℕ) (to : Cap) (es : List TurnEvent) (t : TableState) (next : ℕ)
+    (ports : PortsState)
     → cap_under ports.exports oid ≡ Some to → inbound_of h ports ≡ Some Refused → IsWalked t next ports
-    → rows_then k t next (freed h ports) es ≡ rows_then k t next ports (retraction oid h ∷ es)
-refused_leads k h oid to es t next ports found stood walked =
-    λ i. left i ++ asked_alike k oid h to es next ports found i
+    → rows_then ds k t next (freed h ports) es ≡ rows_then ds k t next ports (retraction oid h ∷ es)
+refused_leads ds k h oid to es t next ports found stood walked =
+    λ i. left i ++ asked_alike ds k oid h to es next ports found i
   where
     left : rows_left k (freed h ports) es t.rows ≡ rows_left k ports (retraction oid h ∷ es) t.rows
     left =
@@ -330,12 +337,13 @@ refused_leads k h oid to es t next ports found stood walked =
         (taken_alike ports h r.handle es walked.ascend (ap (stands_for r.handle) stood))) t.rows)
 
 -- of one that stands for a row
-taken_leads : (k h m oid : ℕ) (to : Cap) (es : List TurnEvent) (t u : TableState) (next : ℕ) (ports : PortsState)
+taken_leads : (ds : List Definition) (k h m oid : ℕ) (to : Cap) (es : List TurnEvent) (t u : TableState) (next : ℕ)
+    (ports : PortsState)
     → cap_under ports.exports oid ≡ Some to → inbound_of h ports ≡ Some (Row m) → IsWalked t next ports
     → u.rows ≡ filter (stays (actor_of k) m) t.rows
-    → rows_then k u next (freed h ports) es ≡ rows_then k t next ports (retraction oid h ∷ es)
-taken_leads k h m oid to es t u next ports found stood walked less =
-    λ i. left i ++ asked_alike k oid h to es next ports found i
+    → rows_then ds k u next (freed h ports) es ≡ rows_then ds k t next ports (retraction oid h ∷ es)
+taken_leads ds k h m oid to es t u next ports found stood walked less =
+    λ i. left i ++ asked_alike ds k oid h to es next ports found i
   where
     each : (r : TableRow) (own same : Bool) → (m == r.handle) ≡ same → (r.handle == m) ≡ same
         → (not (same && own) && not (own && takes (freed h ports) es r.handle))
@@ -363,8 +371,8 @@ taken_leads k h m oid to es t u next ports found stood walked less =
 pub record Leads (k : ℕ) (w : WorldState) (e : TurnEvent) (es : List TurnEvent) (x y : Admitting) : Type 0 where
   pub walked : IsWalked (plan_of k w y).table y.next y.ports
   pub later : x.next ≤ y.next
-  pub same : rows_then k (plan_of k w y).table y.next y.ports es
-      ≡ rows_then k (plan_of k w x).table x.next x.ports (e ∷ es)
+  pub same : rows_then w.schema k (plan_of k w y).table y.next y.ports es
+      ≡ rows_then w.schema k (plan_of k w x).table x.next x.ports (e ∷ es)
 
 or_none : (f g : Option Fault) → option_or f g ≡ None → (f ≡ None) × (g ≡ None)
 or_none None g is = (refl, is)
@@ -377,14 +385,14 @@ retraction_leads : (k oid h : ℕ) (w : WorldState) (to : Cap) (es : List TurnEv
 retraction_leads k oid h w to es x None found stood walked = record {
   walked = walked;
   later = omega arith;
-  same = quiet_leads k oid to (Retract h) es (plan_of k w x).table x.next x.ports found refl refl
+  same = quiet_leads w.schema k oid to (Retract h) es (plan_of k w x).table x.next x.ports found refl refl
       (λ n. ap (stands_for n) stood);
 }
 retraction_leads k oid h w to es x (Some Refused) found stood walked = record {
   walked =
       walked_freed h (plan_of k w x).table (plan_of k w x).table x.next x.ports walked refl walked.below walked.once;
   later = omega arith;
-  same = refused_leads k h oid to es (plan_of k w x).table x.next x.ports found stood walked;
+  same = refused_leads w.schema k h oid to es (plan_of k w x).table x.next x.ports found stood walked;
 }
 retraction_leads k oid h w to es x (Some (Row m)) found stood walked =
     let t : TableState = (plan_of k w x).table in
@@ -400,7 +408,7 @@ retraction_leads k oid h w to es x (Some (Row m)) found stood walked =
           (all_kept _ (stays (actor_of k) m) t.rows walked.below))
           (subst AreOnce (sym rows) (once_filter (stays (actor_of k) m) t.rows walked.once));
       later = omega arith;
-      same = taken_leads k h m oid to es t u x.next x.ports found stood walked rows;
+      same = taken_leads w.schema k h m oid to es t u x.next x.ports found stood walked rows;
     }
 
 free_handle : (h : ℕ) (ports : PortsState) → where_it_is (is_in_use h ports) (HandleInUse h) ≡ None
@@ -412,13 +420,13 @@ free_handle h ports is = by (inbound_of h ports) is
     by (Some i) is = absurd cc
 
 assertion_leads : (k oid h : ℕ) (w : WorldState) (to : Cap) (v : Plain) (o : Option Plain) (es : List TurnEvent)
-    (x : Admitting) → cap_under x.ports.exports oid ≡ Some to → let_in x.ports.exports k to v ≡ o
+    (x : Admitting) → cap_under x.ports.exports oid ≡ Some to → let_in w.schema x.ports.exports k to v ≡ o
     → inbound_of h x.ports ≡ None → IsWalked (plan_of k w x).table x.next x.ports
     → Leads k w (record { oid = oid; event = Assert v h }) es x (after_assertion w to o h x)
 assertion_leads k oid h w to v None es x found through free walked = record {
   walked = walked_noted h (plan_of k w x).table x.next x.ports walked;
   later = omega arith;
-  same = noted_leads k h oid to v es (plan_of k w x).table x.next x.ports found through free;
+  same = noted_leads w.schema k h oid to v es (plan_of k w x).table x.next x.ports found through free;
 }
 assertion_leads k oid h w to v (Some u) es x found through free walked =
     let is : (plan_of k w (after_assertion w to (Some u) h x)).table
@@ -428,8 +436,8 @@ assertion_leads k oid h w to v (Some u) es x found through free walked =
       walked = subst (λ t. IsWalked t (x.next + 1) (taken_into_use h (Row x.next) x.ports)) (sym is)
           (walked_made k h to u (plan_of k w x).table x.next x.ports walked);
       later = omega arith;
-      same = ap (λ t. rows_then k t (x.next + 1) (taken_into_use h (Row x.next) x.ports) es) is
-          ∙ assert_leads k h oid to v u es (plan_of k w x).table x.next x.ports found through free walked;
+      same = ap (λ t. rows_then w.schema k t (x.next + 1) (taken_into_use h (Row x.next) x.ports) es) is
+          ∙ assert_leads w.schema k h oid to v u es (plan_of k w x).table x.next x.ports found through free walked;
     }
 
 message_leads : (k oid : ℕ) (w : WorldState) (to : Cap) (v : Plain) (o : Option Plain) (es : List TurnEvent)
@@ -438,7 +446,7 @@ message_leads : (k oid : ℕ) (w : WorldState) (to : Cap) (v : Plain) (o : Optio
 message_leads k oid w to v None es x found walked = record {
   walked = walked;
   later = omega arith;
-  same = quiet_leads k oid to (Message v) es (plan_of k w x).table x.next x.ports found refl refl (λ n. refl);
+  same = quiet_leads w.schema k oid to (Message v) es (plan_of k w x).table x.next x.ports found refl refl (λ n. refl);
 }
 message_leads k oid w to v (Some u) es x found walked =
     let is : (plan_of k w (after_message w to (Some u) x)).table ≡ (plan_of k w x).table =
@@ -446,8 +454,9 @@ message_leads k oid w to v (Some u) es x found walked =
     record {
       walked = subst (λ t. IsWalked t x.next x.ports) (sym is) walked;
       later = omega arith;
-      same = ap (λ t. rows_then k t x.next x.ports es) is
-          ∙ quiet_leads k oid to (Message v) es (plan_of k w x).table x.next x.ports found refl refl (λ n. refl);
+      same = ap (λ t. rows_then w.schema k t x.next x.ports es) is
+          ∙ quiet_leads w.schema k oid to (Message v) es (plan_of k w x).table x.next x.ports found refl refl
+          (λ n. refl);
     }
 
 event_leads : (k oid : ℕ) (w : WorldState) (to : Cap) (ev : Event) (es : List TurnEvent) (x : Admitting)
@@ -455,26 +464,28 @@ event_leads : (k oid : ℕ) (w : WorldState) (to : Cap) (ev : Event) (es : List 
     → IsWalked (plan_of k w x).table x.next x.ports
     → Leads k w (record { oid = oid; event = ev }) es x (after_event k w to ev x)
 event_leads k oid w to (Assert v h) es x found none walked =
-    assertion_leads k oid h w to v (let_in x.ports.exports k to v) es x found refl
+    assertion_leads k oid h w to v (let_in w.schema x.ports.exports k to v) es x found refl
     (free_handle h x.ports (or_none _ _ (or_none _ _ (or_none _ _ none).0).0).1) walked
 event_leads k oid w to (Retract h) es x found none walked =
     retraction_leads k oid h w to es x (inbound_of h x.ports) found refl walked
 event_leads k oid w to (Message v) es x found none walked =
-    message_leads k oid w to v (let_in x.ports.exports k to v) es x found walked
+    message_leads k oid w to v (let_in w.schema x.ports.exports k to v) es x found walked
 event_leads k oid w to (Sync peer) es x found none walked =
     let is : (plan_of k w (after_event k w to (Sync peer) x)).table ≡ (plan_of k w x).table =
     ap (λ p. p.table) (all_acted_more (actor_of k) x.acts _ (plan_over w.table)) in
     record {
       walked = subst (λ t. IsWalked t x.next x.ports) (sym is) walked;
       later = omega arith;
-      same = ap (λ t. rows_then k t x.next x.ports es) is
-          ∙ quiet_leads k oid to (Sync peer) es (plan_of k w x).table x.next x.ports found refl refl (λ n. refl);
+      same = ap (λ t. rows_then w.schema k t x.next x.ports es) is
+          ∙ quiet_leads w.schema k oid to (Sync peer) es (plan_of k w x).table x.next x.ports found refl refl
+          (λ n. refl);
     }
 
 -- ---- all events
 
-all_left : (k : ℕ) (t : TableState) (next : ℕ) (ports : PortsState) → rows_then k t next ports [] ≡ t.rows
-all_left k t next ports =
+all_left : (ds : List Definition) (k : ℕ) (t : TableState) (next : ℕ) (ports : PortsState)
+    → rows_then ds k t next ports [] ≡ t.rows
+all_left ds k t next ports =
     append-nil (rows_left k ports [] t.rows)
     ∙ filter_all _ t.rows (all_from _ (λ r. by (r.owner == actor_of k)) t.rows)
   where
@@ -486,7 +497,7 @@ all_left k t next ports =
 pub record HaveLed (k : ℕ) (w : WorldState) (es : List TurnEvent) (x y : Admitting) : Type 0 where
   pub walked : IsWalked (plan_of k w y).table y.next y.ports
   pub later : x.next ≤ y.next
-  pub rows : (plan_of k w y).table.rows ≡ rows_then k (plan_of k w x).table x.next x.ports es
+  pub rows : (plan_of k w y).table.rows ≡ rows_then w.schema k (plan_of k w x).table x.next x.ports es
 
 pub all_led : (k : ℕ) (w : WorldState) (es : List TurnEvent) (x y : Admitting)
     → IsWalked (plan_of k w x).table x.next x.ports → all_admitted k w es x ≡ admitted y → HaveLed k w es x y
@@ -495,7 +506,7 @@ all_led k w [] x y walked is =
     subst (HaveLed k w [] x) same (record {
       walked = walked;
       later = omega arith;
-      rows = sym (all_left k (plan_of k w x).table x.next x.ports);
+      rows = sym (all_left w.schema k (plan_of k w x).table x.next x.ports);
     })
 all_led k w (e ∷ es) x y walked is =
     by (cause_of k w e x) refl is (λ walked_on later. all_led k w es (after k w e x) y walked_on later)

@@ -5,6 +5,7 @@ use Rattle.std.proofs.lemmas.List.{append-nil, append_assoc}
 use Rattle.std.specs.List.{flat_map}
 use Rattle.std.specs.Option.{option_or}
 use Rattle.pv_value.specs.Plain.{Plain}
+use Rattle.ps_schema.specs.declared.Definition.{Definition}
 use Rattle.ac_table.specs.declared.batches.Batch.{Batch}
 use Rattle.ac_table.specs.Tables.{is_live}
 use Rattle.ac_world.specs.Worlds.{actor_of}
@@ -74,11 +75,11 @@ tells_then k s t u told first tells keeps = record {
 -- ---- all steps
 
 -- what is true of connection k after these steps, which led to s
-pub record IsTold (k : ℕ) (es : List Step) (s : State) : Type 0 where
+pub record IsTold (ds : List Definition) (k : ℕ) (es : List Step) (s : State) : Type 0 where
   pub unborn : s.world.opened < k → is_live (actor_of k) s.world.table ≡ false
-  pub first : s.world.opened < k → first_from k opening es ≡ None
-  pub told : s.world.opened < k → told_from k opening es ≡ []
-  pub own : (p : PortsState) → ports_of k s ≡ Some p → AreItsOwn k es p.exports
+  pub first : s.world.opened < k → first_from k (opening ds) es ≡ None
+  pub told : s.world.opened < k → told_from k (opening ds) es ≡ []
+  pub own : (p : PortsState) → ports_of k s ≡ Some p → AreItsOwn ds k es p.exports
 
 option_or_assoc : {A : Type 0} (x y z : Option A) → option_or x (option_or y z) ≡ option_or (option_or x y) z
 option_or_assoc (Some x) y z = refl
@@ -102,44 +103,44 @@ told_more k s (f ∷ es) e =
     ap (λ bs. told_by k s f ++ bs) (told_more k (step s f).state es e)
     ∙ sym (append_assoc (told_by k s f) (told_from k (step s f).state es) _)
 
-pub one_more : (k : ℕ) (es : List Step) (e : Step) → IsTold k es (replay es)
-    → Tells k (replay es) (step (replay es) e).state (told_by k (replay es) e) (first_by k (replay es) e)
-    → IsTold k (es ++ e ∷ []) (step (replay es) e).state
-one_more k es e is tells = record {
+pub one_more : (ds : List Definition) (k : ℕ) (es : List Step) (e : Step) → IsTold ds k es (replay ds es)
+    → Tells k (replay ds es) (step (replay ds es) e).state (told_by k (replay ds es) e) (first_by k (replay ds es) e)
+    → IsTold ds k (es ++ e ∷ []) (step (replay ds es) e).state
+one_more ds k es e is tells = record {
   unborn = λ l. tells.live l (is.unborn (before l));
   first = λ l.
-      first_more k opening es e
+      first_more k (opening ds) es e
       ∙ (λ i. option_or (is.first (before l) i) ((tells.silent l (is.unborn (before l))).1 i));
   told = λ l.
-      told_more k opening es e
+      told_more k (opening ds) es e
       ∙ (λ i. is.told (before l) i ++ (tells.silent l (is.unborn (before l))).0 i);
   own = λ p there. by p (tells.named p there);
 }
   where
     s : State
-    s = replay es
+    s = replay ds es
 
     before : (step s e).state.world.opened < k → s.world.opened < k
     before l = omega (arith, l, tells.opened)
 
     by : (p : PortsState) → WasTold k s (told_by k s e) p ⊎ CameWith k s (told_by k s e) (first_by k s e) p
-        → AreItsOwn k (es ++ e ∷ []) p.exports
+        → AreItsOwn ds k (es ++ e ∷ []) p.exports
     by p (inl w) =
         let old = is.own w.before w.there in (
           old.0,
-          first_more k opening es e ∙ ap (λ o. option_or o (first_by k s e)) old.1,
+          first_more k (opening ds) es e ∙ ap (λ o. option_or o (first_by k s e)) old.1,
           w.exports
               ∙ ap (λ xs. all_exported xs (flat_map (foreign_to k) (told_by k s e))) old.2
-              ∙ sym (all_exported-more (old.0 ∷ []) (objects_told k es) (flat_map (foreign_to k) (told_by k s e)))
+              ∙ sym (all_exported-more (old.0 ∷ []) (objects_told ds k es) (flat_map (foreign_to k) (told_by k s e)))
               ∙ ap (all_exported (old.0 ∷ []))
-              (sym (ap (flat_map (foreign_to k)) (told_more k opening es e)
-              ∙ flat_map_append (foreign_to k) (told_from k opening es) (told_by k s e))),
+              (sym (ap (flat_map (foreign_to k)) (told_more k (opening ds) es e)
+              ∙ flat_map_append (foreign_to k) (told_from k (opening ds) es) (told_by k s e))),
         )
     by p (inr c) =
         let later : s.world.opened < k = omega (arith, c.next) in (
           c.object,
-          first_more k opening es e ∙ (λ i. option_or (is.first later i) (c.is_first i)),
+          first_more k (opening ds) es e ∙ (λ i. option_or (is.first later i) (c.is_first i)),
           c.exports
               ∙ ap (λ bs. all_exported (c.object ∷ []) (flat_map (foreign_to k) bs))
-              (sym (told_more k opening es e ∙ (λ i. is.told later i ++ c.untold i))),
+              (sym (told_more k (opening ds) es e ∙ (λ i. is.told later i ++ c.untold i))),
         )

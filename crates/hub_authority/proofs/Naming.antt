@@ -4,6 +4,7 @@ use Rattle.std.proofs.Common.{None, ◌⊎◌, inl, inr, refl, sym, ap, ◌∙�
 use Rattle.std.specs.List.{flat_map}
 use Rattle.std.proofs.lemmas.Bool.Decides.{nat_tests}
 use Rattle.pv_value.specs.Plain.{Plain}
+use Rattle.ps_schema.specs.declared.Definition.{Definition}
 use Rattle.ac_table.specs.declared.batches.Batch.{Batch}
 use Rattle.ac_table.specs.Tables.{is_live, first_batch, popped}
 use Rattle.ac_world.specs.declared.turns.Turned.TheVariants as turned
@@ -200,62 +201,66 @@ module _ (k : ℕ) (s : State) (valid : IsValid s) (ports : PortsState) (named :
 
 -- ---- all steps
 
-record IsMeant (k : ℕ) (es : List Step) (s : State) : Type 0 where
-  unsent : s.world.opened < k → flat_map events_in (sent_to k es) ≡ []
+record IsMeant (ds : List Definition) (k : ℕ) (es : List Step) (s : State) : Type 0 where
+  unsent : s.world.opened < k → flat_map events_in (sent_to ds k es) ≡ []
   names : (p : PortsState) → ports_of k s ≡ Some p
-      → AreSentAs p.exports k (events_of (told_from k opening es)) (flat_map events_in (sent_to k es))
+      → AreSentAs p.exports k (events_of (told_from k (opening ds) es)) (flat_map events_in
+      (sent_to ds k es))
 
-sent_more : (k : ℕ) (es : List Step) (e : Step) → flat_map events_in (sent_to k (es ++ e ∷ []))
-    ≡ flat_map events_in (sent_to k es) ++ flat_map events_in (sent_by k e (step (replay es) e).reply)
-sent_more k es e =
-    ap (flat_map events_in) (sent_to-more k es e) ∙ flat_map_append events_in (sent_to k es) _
+sent_more : (ds : List Definition) (k : ℕ) (es : List Step) (e : Step)
+    → flat_map events_in (sent_to ds k (es ++ e ∷ []))
+    ≡ flat_map events_in (sent_to ds k es) ++ flat_map events_in (sent_by k e (step (replay ds es) e).reply)
+sent_more ds k es e =
+    ap (flat_map events_in) (sent_to-more ds k es e) ∙ flat_map_append events_in (sent_to ds k es) _
 
-told_events_more : (k : ℕ) (es : List Step) (e : Step) → events_of (told_from k opening (es ++ e ∷ []))
-    ≡ events_of (told_from k opening es) ++ events_of (told_by k (replay es) e)
-told_events_more k es e =
-    ap events_of (told_more k opening es e)
-    ∙ flat_map_append (λ (b : Batch). b.events) (told_from k opening es) (told_by k (replay es) e)
+told_events_more : (ds : List Definition) (k : ℕ) (es : List Step) (e : Step)
+    → events_of (told_from k (opening ds) (es ++ e ∷ []))
+    ≡ events_of (told_from k (opening ds) es) ++ events_of (told_by k (replay ds es) e)
+told_events_more ds k es e =
+    ap events_of (told_more k (opening ds) es e)
+    ∙ flat_map_append (λ (b : Batch). b.events) (told_from k (opening ds) es) (told_by k (replay ds es) e)
 
-meant_more : (k : ℕ) (es : List Step) (e : Step) → IsValid (replay es) → IsTold k es (replay es)
-    → IsMeant k es (replay es)
-    → Tells k (replay es) (step (replay es) e).state (told_by k (replay es) e) (first_by k (replay es) e)
-    → IsMeant k (es ++ e ∷ []) (step (replay es) e).state
-meant_more k es e valid told is tells = record {
+meant_more : (ds : List Definition) (k : ℕ) (es : List Step) (e : Step) → IsValid (replay ds es)
+    → IsTold ds k es (replay ds es)
+    → IsMeant ds k es (replay ds es)
+    → Tells k (replay ds es) (step (replay ds es) e).state (told_by k (replay ds es) e) (first_by k (replay ds es) e)
+    → IsMeant ds k (es ++ e ∷ []) (step (replay ds es) e).state
+meant_more ds k es e valid told is tells = record {
   unsent = λ l.
       let old = is.unsent (before l) in
       let new = dead_step k s e (told.unborn (before l)) in
-      sent_more k es e ∙ (λ i. old i ++ new i);
+      sent_more ds k es e ∙ (λ i. old i ++ new i);
   names = λ p there. by p (tells.named p there);
 }
   where
     s : State
-    s = replay es
+    s = replay ds es
 
     before : (step s e).state.world.opened < k → s.world.opened < k
     before l = omega (arith, l, tells.opened)
 
     old_told : List Batch
-    old_told = told_from k opening es
+    old_told = told_from k (opening ds) es
 
     old_sent : List TurnEvent
-    old_sent = flat_map events_in (sent_to k es)
+    old_sent = flat_map events_in (sent_to ds k es)
 
     new_sent : List TurnEvent
     new_sent = flat_map events_in (sent_by k e (step s e).reply)
 
     both : (p : PortsState)
         → AreSentAs p.exports k (events_of old_told ++ events_of (told_by k s e)) (old_sent ++ new_sent)
-        → AreSentAs p.exports k (events_of (told_from k opening (es ++ e ∷ [])))
-        (flat_map events_in (sent_to k (es ++ e ∷ [])))
+        → AreSentAs p.exports k (events_of (told_from k (opening ds) (es ++ e ∷ [])))
+        (flat_map events_in (sent_to ds k (es ++ e ∷ [])))
     both p all =
-        subst (λ ds. AreSentAs p.exports k ds (flat_map events_in (sent_to k (es ++ e ∷ []))))
-        (sym (told_events_more k es e))
+        subst (λ bs. AreSentAs p.exports k bs (flat_map events_in (sent_to ds k (es ++ e ∷ []))))
+        (sym (told_events_more ds k es e))
         (subst (λ ts. AreSentAs p.exports k (events_of old_told ++ events_of (told_by k s e)) ts)
-        (sym (sent_more k es e)) all)
+        (sym (sent_more ds k es e)) all)
 
     by : (p : PortsState) → WasTold k s (told_by k s e) p ⊎ CameWith k s (told_by k s e) (first_by k s e) p
-        → AreSentAs p.exports k (events_of (told_from k opening (es ++ e ∷ [])))
-        (flat_map events_in (sent_to k (es ++ e ∷ [])))
+        → AreSentAs p.exports k (events_of (told_from k (opening ds) (es ++ e ∷ [])))
+        (flat_map events_in (sent_to ds k (es ++ e ∷ [])))
     by p (inl w) =
         let more : List Plain = flat_map (foreign_to k) (told_by k s e) in
         let now : List Plain = all_exported w.before.exports more in
@@ -272,32 +277,33 @@ meant_more k es e valid told is tells = record {
         let silent : old_sent ++ new_sent ≡ [] =
         (λ i. is.unsent later i ++ dead_step k s e (told.unborn later) i) in
         both p
-        (subst (λ ds. AreSentAs p.exports k ds (old_sent ++ new_sent)) (sym none)
+        (subst (λ bs. AreSentAs p.exports k bs (old_sent ++ new_sent)) (sym none)
         (subst (λ ts. AreSentAs p.exports k [] ts) (sym silent) tt))
 
 -- the steps that are still to come, after those that were
-all_meant : (k : ℕ) (before later : List Step) → AreAllowed (replay before) later → IsValid (replay before)
-    → IsTold k before (replay before) → IsMeant k before (replay before)
-    → IsMeant k (before ++ later) (replay (before ++ later))
-all_meant k before [] may valid told is = subst (λ es. IsMeant k es (replay es)) (sym (append-nil before)) is
-all_meant k before (e ∷ es) may valid told is =
-    let tells = step_tells k (replay before) e in
-    let next : (step (replay before) e).state ≡ replay (before ++ e ∷ []) = sym (replay-more before e) in
-    subst (λ ds. IsMeant k ds (replay ds)) (append_assoc before (e ∷ []) es)
-    (all_meant k (before ++ e ∷ []) es
+all_meant : (ds : List Definition) (k : ℕ) (before later : List Step) → AreAllowed (replay ds before) later
+    → IsValid (replay ds before)
+    → IsTold ds k before (replay ds before) → IsMeant ds k before (replay ds before)
+    → IsMeant ds k (before ++ later) (replay ds (before ++ later))
+all_meant ds k before [] may valid told is = subst (λ es. IsMeant ds k es (replay ds es)) (sym (append-nil before)) is
+all_meant ds k before (e ∷ es) may valid told is =
+    let tells = step_tells k (replay ds before) e in
+    let next : (step (replay ds before) e).state ≡ replay ds (before ++ e ∷ []) = sym (replay-more ds before e) in
+    subst (λ all. IsMeant ds k all (replay ds all)) (append_assoc before (e ∷ []) es)
+    (all_meant ds k (before ++ e ∷ []) es
     (subst (λ t. AreAllowed t es) next may.1)
-    (subst IsValid next (stays_valid.1 (replay before) e valid may.0))
-    (subst (IsTold k (before ++ e ∷ [])) next (one_more k before e told tells))
-    (subst (IsMeant k (before ++ e ∷ [])) next (meant_more k before e valid told is tells)))
+    (subst IsValid next (stays_valid.1 (replay ds before) e valid may.0))
+    (subst (IsTold ds k (before ++ e ∷ [])) next (one_more ds k before e told tells))
+    (subst (IsMeant ds k (before ++ e ∷ [])) next (meant_more ds k before e valid told is tells)))
 
 none_named : (b : Bool) (p : PortsState) → cond b None None ≡ Some p → ⊥
 none_named true p is = cc
 none_named false p is = cc
 
 pub names_mean : Names
-names_mean k steps ports may there =
-    (all_meant k [] steps may stays_valid.0 (at_first k)
+names_mean ds k steps ports may there =
+    (all_meant ds k [] steps may (stays_valid.0 ds) (at_first ds k)
     (record {
       unsent = λ l. refl;
-      names = λ p is. absurd (none_named (is_live (actor_of k) opening.world.table) p is);
+      names = λ p is. absurd (none_named (is_live (actor_of k) (opening ds).world.table) p is);
     })).names ports there

@@ -244,7 +244,7 @@ run_in_order s (e ∷ es) may valid h all =
     (step_in_order s e h all)
 
 pub taken_packets : TakenPackets
-taken_packets steps k es ports may there taken =
-    taken_does (replay steps) k es ports
-    (orderly_of k ports (replay steps) (replay_hub steps may)
-    (run_in_order opening steps may stays_valid.0 (replay_hub [] tt) tt) there) there taken
+taken_packets ds steps k es ports may there taken =
+    taken_does (replay ds steps) k es ports
+    (orderly_of k ports (replay ds steps) (replay_hub ds steps may)
+    (run_in_order (opening ds) steps may (stays_valid.0 ds) (replay_hub ds [] tt) tt) there) there taken

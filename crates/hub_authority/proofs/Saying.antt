@@ -112,9 +112,10 @@ message_says k b w to (Some v) x =
 -- one event of a packet, at an export
 event_says : (k b : ℕ) (w : WorldState) (to : Cap) (ev : Event) (x : Admitting)
     → said_to b (plan_of k w (after_event k w to ev x)).out
-    ≡ said_to b (plan_of k w x).out ++ message_asked x.ports.exports k b (Some to) ev
+    ≡ said_to b (plan_of k w x).out ++ message_asked w.schema x.ports.exports k b (Some to) ev
 event_says k b w to (Assert v h) x =
-    assertion_says k b h w to (let_in x.ports.exports k to v) x ∙ sym (append-nil (said_to b (plan_of k w x).out))
+    assertion_says k b h w to (let_in w.schema x.ports.exports k to v) x ∙ sym (append-nil (said_to b
+    (plan_of k w x).out))
 event_says k b w to (Retract h) x = by (inbound_of h x.ports) ∙ sym (append-nil (said_to b (plan_of k w x).out))
   where
     by : (o : Option Inbound) → said_to b (plan_of k w (after_retraction h o w x)).out ≡ said_to b (plan_of k w x).out
@@ -123,7 +124,7 @@ event_says k b w to (Retract h) x = by (inbound_of h x.ports) ∙ sym (append-ni
     by (Some (Row n)) =
         ap (λ p. said_to b p.out) (all_acted_more (actor_of k) x.acts (act.Retract n) (plan_over w.table))
         ∙ said_dropped b (actor_of k) n (plan_of k w x)
-event_says k b w to (Message v) x = message_says k b w to (let_in x.ports.exports k to v) x
+event_says k b w to (Message v) x = message_says k b w to (let_in w.schema x.ports.exports k to v) x
 event_says k b w to (Sync peer) x =
     ap (λ p. said_to b p.out) (all_acted_more (actor_of k) x.acts _ (plan_over w.table))
     ∙ said_nothing b to.actor _ (plan_of k w x).out refl
@@ -131,7 +132,7 @@ event_says k b w to (Sync peer) x =
 
 -- all events of a packet that is admitted
 pub events_say : (k b : ℕ) (w : WorldState) (es : List TurnEvent) (x y : Admitting) → all_admitted k w es x ≡ admitted y
-    → said_to b (plan_of k w y).out ≡ said_to b (plan_of k w x).out ++ messages_asked x.ports.exports k b es
+    → said_to b (plan_of k w y).out ≡ said_to b (plan_of k w x).out ++ messages_asked w.schema x.ports.exports k b es
 events_say k b w [] x y is =
     let same : x ≡ y = cc in
     ap (λ z. said_to b (plan_of k w z).out) (sym same) ∙ sym (append-nil (said_to b (plan_of k w x).out))
@@ -140,22 +141,22 @@ events_say k b w (e ∷ es) x y is =
   where
     at : (o : Option Cap) → cause_at k w o e x ≡ None
         → said_to b (plan_of k w (after_at k w o e.event x)).out
-        ≡ said_to b (plan_of k w x).out ++ message_asked x.ports.exports k b o e.event
+        ≡ said_to b (plan_of k w x).out ++ message_asked w.schema x.ports.exports k b o e.event
     at None none = absurd cc
     at (Some to) none = event_says k b w to e.event x
 
     by : (c : Option Fault) → cause_of k w e x ≡ c → unless c (all_admitted k w es (after k w e x)) ≡ admitted y
         → (all_admitted k w es (after k w e x) ≡ admitted y → said_to b (plan_of k w y).out
-        ≡ said_to b (plan_of k w (after k w e x)).out ++ messages_asked (after k w e x).ports.exports k b es)
+        ≡ said_to b (plan_of k w (after k w e x)).out ++ messages_asked w.schema (after k w e x).ports.exports k b es)
         → said_to b (plan_of k w y).out
-        ≡ said_to b (plan_of k w x).out ++ messages_asked x.ports.exports k b (e ∷ es)
+        ≡ said_to b (plan_of k w x).out ++ messages_asked w.schema x.ports.exports k b (e ∷ es)
     by None none is later =
         later is
-        ∙ (λ i. at (cap_at e.oid x.ports) none i ++ messages_asked
+        ∙ (λ i. at (cap_at e.oid x.ports) none i ++ messages_asked w.schema
         (exports_after k w (cap_at e.oid x.ports) e.event x i) k b es)
         ∙ append_assoc (said_to b (plan_of k w x).out)
-        (message_asked x.ports.exports k b (cap_under x.ports.exports e.oid) e.event)
-        (messages_asked x.ports.exports k b es)
+        (message_asked w.schema x.ports.exports k b (cap_under x.ports.exports e.oid) e.event)
+        (messages_asked w.schema x.ports.exports k b es)
     by (Some f) some is later = absurd cc
 
 -- ---- the targets of an outbox ascend

@@ -4,6 +4,7 @@ use Rattle.std.proofs.Common.{refl, ap, sym, ◌∙◌, subst, filter, length}
 use Rattle.std.specs.List.{AllByRecursion}
 use Rattle.pv_value.specs.Plain.{Plain}
 use Rattle.sr_caveat.specs.declared.caps.Cap.{Cap}
+use Rattle.ps_schema.specs.declared.Definition.{Definition}
 use Rattle.ac_table.specs.Tables.{Actor, IsTable, find_actor, is_live}
 use Rattle.ac_world.specs.Outboxes.{Plan, plan_over, told_to}
 use Rattle.ac_world.specs.Worlds.{actor_of}
@@ -66,33 +67,35 @@ row_owned k next to gone None = tt
 row_owned k next to true (Some v) = tt
 row_owned k next to false (Some v) = (refl, tt)
 
-asked_owned : (exports : List Plain) (k next : ℕ) (o : Option Cap) (e : Event) (later : List TurnEvent)
-    → AllByRecursion (λ r. r.owner ≡ actor_of k) (row_asked exports k next o e later)
-asked_owned exports k next None e later = tt
-asked_owned exports k next (Some to) (Retract h) later = tt
-asked_owned exports k next (Some to) (Message v) later = tt
-asked_owned exports k next (Some to) (Sync peer) later = tt
-asked_owned exports k next (Some to) (Assert v h) later =
-    row_owned k next to (takes_back later h) (let_in exports k to v)
+asked_owned : (ds : List Definition) (exports : List Plain) (k next : ℕ) (o : Option Cap) (e : Event)
+    (later : List TurnEvent)
+    → AllByRecursion (λ r. r.owner ≡ actor_of k) (row_asked ds exports k next o e later)
+asked_owned ds exports k next None e later = tt
+asked_owned ds exports k next (Some to) (Retract h) later = tt
+asked_owned ds exports k next (Some to) (Message v) later = tt
+asked_owned ds exports k next (Some to) (Sync peer) later = tt
+asked_owned ds exports k next (Some to) (Assert v h) later =
+    row_owned k next to (takes_back later h) (let_in ds exports k to v)
 
-rows_owned : (exports : List Plain) (k next : ℕ) (es : List TurnEvent)
-    → AllByRecursion (λ r. r.owner ≡ actor_of k) (rows_asked exports k next es)
-rows_owned exports k next [] = tt
-rows_owned exports k next (e ∷ es) =
+rows_owned : (ds : List Definition) (exports : List Plain) (k next : ℕ) (es : List TurnEvent)
+    → AllByRecursion (λ r. r.owner ≡ actor_of k) (rows_asked ds exports k next es)
+rows_owned ds exports k next [] = tt
+rows_owned ds exports k next (e ∷ es) =
     let to = cap_under exports e.oid in
-    all_append _ (row_asked exports k next to e.event es) _ (asked_owned exports k next to e.event es)
-    (rows_owned exports k (next_after exports k to e.event next) es)
+    all_append _ (row_asked ds exports k next to e.event es) _ (asked_owned ds exports k next to e.event es)
+    (rows_owned ds exports k (next_after ds exports k to e.event next) es)
 
 -- ---- a packet that is admitted
 
 -- from s to the state before the step's end
 pub record Made (k : ℕ) (ports : PortsState) (es : List TurnEvent) (s t : State) : Type 0 where
   pub rows : t.world.table.rows
-      ≡ rows_left k ports es s.world.table.rows ++ rows_asked ports.exports k s.world.table.next es
+      ≡ rows_left k ports es s.world.table.rows ++ rows_asked s.world.schema ports.exports k s.world.table.next es
   pub live : (a : ℕ) → is_live a t.world.table ≡ is_live a s.world.table
   pub messages : (b : ℕ) (x y : Actor) → find_actor b s.world.table.actors ≡ Some x
       → find_actor b t.world.table.actors ≡ Some y
-      → messages_in (events_of y.inbox) ≡ messages_in (events_of x.inbox) ++ messages_asked ports.exports k b es
+      → messages_in (events_of y.inbox) ≡ messages_in
+      (events_of x.inbox) ++ messages_asked s.world.schema ports.exports k b es
 
 made : (k : ℕ) (ports : PortsState) (es : List TurnEvent) (s : State) (x : Admitting) → IsOrderly s ports
     → all_admitted k s.world es (before_all k ports s.world) ≡ admitted x
@@ -129,11 +132,13 @@ made_live : (k : ℕ) (ports : PortsState) (es : List TurnEvent) (s t : State) �
 made_live k ports es s t table live made =
     filter_all _ t.world.table.rows
     (subst (AllByRecursion (λ r. is_live r.owner t.world.table ≡ true)) (sym made.rows)
-    (all_append _ (rows_left k ports es s.world.table.rows) (rows_asked ports.exports k s.world.table.next es)
+    (all_append _ (rows_left k ports es s.world.table.rows)
+    (rows_asked s.world.schema ports.exports k s.world.table.next es)
     (all_kept _ _ s.world.table.rows
     (all_weaker _ _ (λ r is. made.live r.owner ∙ is) s.world.table.rows table.owners_live))
     (all_weaker _ _ (λ r own. ap (λ a. is_live a t.world.table) own ∙ made.live (actor_of k) ∙ live)
-    (rows_asked ports.exports k s.world.table.next es) (rows_owned ports.exports k s.world.table.next es))))
+    (rows_asked s.world.schema ports.exports k s.world.table.next es)
+    (rows_owned s.world.schema ports.exports k s.world.table.next es))))
 
 does : (k : ℕ) (ports : PortsState) (es : List TurnEvent) (s t : State) → IsTable s.world.table
     → is_live (actor_of k) s.world.table ≡ true → Made k ports es s t

@@ -250,7 +250,7 @@ quiet_system k a b s system =
     w = record s.world { table = popped a s.world.table }
 
     y : Behaviour
-    y = behaviour_of s.world.bindings a
+    y = behaviour_of s.world.schema s.world.bindings a
 
     t : Turning
     t = all_turned y a b.from b.events (begin_turn a w)

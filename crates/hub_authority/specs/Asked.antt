@@ -3,8 +3,10 @@ use Rattle.std.specs.Prelude.{ℕ, ◌+◌, ◌==◌, ◌&&◌, Bool, true, fals
 use Rattle.std.specs.Prelude.{Option, Some, None, is_some, option_and_then, if◌then◌else◌}
 use Rattle.std.specs.List.{list_any, flat_map}
 use Rattle.pv_value.specs.Plain.{Plain}
+use Rattle.ps_schema.specs.declared.Definition.{Definition}
 use Rattle.sr_caveat.specs.declared.caps.Cap.{Cap}
 use Rattle.sr_caveat.specs.Caps.{cap_of}
+use Rattle.sr_pass.specs.Passing.{passed}
 use Rattle.ac_table.specs.declared.batches.Row.{Row as TableRow}
 use Rattle.ac_table.specs.declared.batches.Event.{Event as Told}
 use Rattle.ac_table.specs.declared.batches.Event.TheVariants as told
@@ -17,7 +19,6 @@ use Rattle.rl_ports.specs.declared.ports.Inbound.{Inbound}
 use Rattle.rl_ports.specs.declared.ports.Inbound.TheVariants.{Row, Refused}
 use Rattle.rl_ports.specs.Ports.{PortsState, inbound_of}
 use Rattle.rl_wire.specs.Crossing.{crossed_in}
-use Rattle.hub_machine.specs.Admission.{let_through}
 
 -- ---- rows
 
@@ -29,9 +30,9 @@ takes_back es h = list_any (retracted_by h) es
 abbrev pub cap_under : List Plain → ℕ → Option Cap
 cap_under exports oid = option_and_then cap_of (slice_get exports oid)
 
--- what the caveats of the reference let pass of a value that connection k sends through it
-abbrev pub let_in : List Plain → ℕ → Cap → Plain → Option Plain
-let_in exports k to v = let_through to (crossed_in exports k v)
+-- what the caveats of the reference let pass of a value that connection k sends through it; guards judge by a schema
+abbrev pub let_in : List Definition → List Plain → ℕ → Cap → Plain → Option Plain
+let_in ds exports k to v = passed ds to.caveats (crossed_in exports k v)
 
 -- the row of a value that gets through to an object, where no later event takes it back
 abbrev pub row_of : ℕ → ℕ → Cap → Bool → Option Plain → List TableRow
@@ -46,27 +47,28 @@ row_of k next to false (Some v) = record {
   value = v;
 } ∷ []
 
-abbrev pub row_asked : List Plain → ℕ → ℕ → Option Cap → Event → List TurnEvent → List TableRow
-row_asked exports k next (Some to) (Assert v h) later = row_of k next to (takes_back later h) (let_in exports k to v)
-row_asked exports k next (Some to) (Retract h) later = []
-row_asked exports k next (Some to) (Message v) later = []
-row_asked exports k next (Some to) (Sync peer) later = []
-row_asked exports k next None e later = []
+abbrev pub row_asked : List Definition → List Plain → ℕ → ℕ → Option Cap → Event → List TurnEvent → List TableRow
+row_asked ds exports k next (Some to) (Assert v h) later =
+    row_of k next to (takes_back later h) (let_in ds exports k to v)
+row_asked ds exports k next (Some to) (Retract h) later = []
+row_asked ds exports k next (Some to) (Message v) later = []
+row_asked ds exports k next (Some to) (Sync peer) later = []
+row_asked ds exports k next None e later = []
 
 -- each assertion draws a handle of which the value gets through
-abbrev pub next_after : List Plain → ℕ → Option Cap → Event → ℕ → ℕ
-next_after exports k (Some to) (Assert v h) next = if is_some (let_in exports k to v) then next + 1 else next
-next_after exports k (Some to) (Retract h) next = next
-next_after exports k (Some to) (Message v) next = next
-next_after exports k (Some to) (Sync peer) next = next
-next_after exports k None e next = next
+abbrev pub next_after : List Definition → List Plain → ℕ → Option Cap → Event → ℕ → ℕ
+next_after ds exports k (Some to) (Assert v h) next = if is_some (let_in ds exports k to v) then next + 1 else next
+next_after ds exports k (Some to) (Retract h) next = next
+next_after ds exports k (Some to) (Message v) next = next
+next_after ds exports k (Some to) (Sync peer) next = next
+next_after ds exports k None e next = next
 
 -- the rows that the events ask for, from the next handle on
-abbrev pub rows_asked : List Plain → ℕ → ℕ → List TurnEvent → List TableRow
-rows_asked exports k next [] = []
-rows_asked exports k next (e ∷ es) =
-    row_asked exports k next (cap_under exports e.oid) e.event es
-    ++ rows_asked exports k (next_after exports k (cap_under exports e.oid) e.event next) es
+abbrev pub rows_asked : List Definition → List Plain → ℕ → ℕ → List TurnEvent → List TableRow
+rows_asked ds exports k next [] = []
+rows_asked ds exports k next (e ∷ es) =
+    row_asked ds exports k next (cap_under exports e.oid) e.event es
+    ++ rows_asked ds exports k (next_after ds exports k (cap_under exports e.oid) e.event next) es
 
 -- whether what a handle stands for is the row under n
 abbrev pub stands_for : ℕ → Option Inbound → Bool
@@ -93,16 +95,16 @@ abbrev pub message_to : ℕ → Cap → Option Plain → List Told
 message_to b to None = []
 message_to b to (Some v) = if to.actor == b then told.Message to.entity v ∷ [] else []
 
-abbrev pub message_asked : List Plain → ℕ → ℕ → Option Cap → Event → List Told
-message_asked exports k b (Some to) (Message v) = message_to b to (let_in exports k to v)
-message_asked exports k b (Some to) (Assert v h) = []
-message_asked exports k b (Some to) (Retract h) = []
-message_asked exports k b (Some to) (Sync peer) = []
-message_asked exports k b None e = []
+abbrev pub message_asked : List Definition → List Plain → ℕ → ℕ → Option Cap → Event → List Told
+message_asked ds exports k b (Some to) (Message v) = message_to b to (let_in ds exports k to v)
+message_asked ds exports k b (Some to) (Assert v h) = []
+message_asked ds exports k b (Some to) (Retract h) = []
+message_asked ds exports k b (Some to) (Sync peer) = []
+message_asked ds exports k b None e = []
 
 -- the messages to actor b for which the events ask, in order
-abbrev pub messages_asked : List Plain → ℕ → ℕ → List TurnEvent → List Told
-messages_asked exports k b es = flat_map (λ e. message_asked exports k b (cap_under exports e.oid) e.event) es
+abbrev pub messages_asked : List Definition → List Plain → ℕ → ℕ → List TurnEvent → List Told
+messages_asked ds exports k b es = flat_map (λ e. message_asked ds exports k b (cap_under exports e.oid) e.event) es
 
 abbrev pub message_in : Told → List Told
 message_in (told.Message entity v) = told.Message entity v ∷ []

@@ -3,6 +3,7 @@
 -- "capabilities".
 use Rattle.std.specs.Prelude.{◌≡◌, ℕ, ◌++◌, List, Some}
 use Rattle.std.specs.List.{flat_map}
+use Rattle.ps_schema.specs.declared.Definition.{Definition}
 use Rattle.ac_table.specs.Tables.{Actor, find_actor}
 use Rattle.rl_packet.specs.declared.packets.TurnEvent.{TurnEvent}
 use Rattle.rl_packet.specs.Holding.{events_in}
@@ -24,26 +25,30 @@ use Rattle.hub_authority.specs.Named.{told_from, AreItsOwn}
 pub record DoesWhatIsAsked (k : ℕ) (ports : PortsState) (es : List TurnEvent) (s t : State) : Type 0 where
   -- the rows are those that were there and aren't taken back, and then those that are asked for
   pub rows : t.world.table.rows ≡ of_the_live t
-      (rows_left k ports es s.world.table.rows ++ rows_asked ports.exports k s.world.table.next es)
+      (rows_left k ports es s.world.table.rows ++ rows_asked s.world.schema ports.exports k s.world.table.next es)
   -- to the messages that wait for a live actor come exactly those that are asked for
   pub messages : (b : ℕ) (x y : Actor) → find_actor b s.world.table.actors ≡ Some x
       → find_actor b t.world.table.actors ≡ Some y
-      → messages_in (events_of y.inbox) ≡ messages_in (events_of x.inbox) ++ messages_asked ports.exports k b es
+      → messages_in (events_of y.inbox) ≡ messages_in
+      (events_of x.inbox) ++ messages_asked s.world.schema ports.exports k b es
 
 -- after each list of steps whose callers saw to their conditions
 abbrev pub TakenPackets : Type 0
 TakenPackets =
-    (steps : List Step) (k : ℕ) (es : List TurnEvent) (ports : PortsState) → AreAllowed opening steps
-    → ports_of k (replay steps) ≡ Some ports → (step (replay steps) (Packet k es)).reply ≡ Taken
-    → DoesWhatIsAsked k ports es (replay steps) (step (replay steps) (Packet k es)).state
+    (ds : List Definition) (steps : List Step) (k : ℕ) (es : List TurnEvent) (ports : PortsState)
+    → AreAllowed (opening ds) steps → ports_of k (replay ds steps) ≡ Some ports
+    → (step (replay ds steps) (Packet k es)).reply ≡ Taken
+    → DoesWhatIsAsked k ports es (replay ds steps) (step (replay ds steps) (Packet k es)).state
 
 abbrev pub Exports : Type 0
-Exports = (k : ℕ) (steps : List Step) (ports : PortsState) → ports_of k (replay steps) ≡ Some ports
-    → AreItsOwn k steps ports.exports
+Exports =
+    (ds : List Definition) (k : ℕ) (steps : List Step) (ports : PortsState) → ports_of k (replay ds steps) ≡ Some ports
+    → AreItsOwn ds k steps ports.exports
 
 -- all that a live connection was sent means what was told, by its exports of now: a number stands for one reference while
 -- the connection lives
 abbrev pub Names : Type 0
 Names =
-    (k : ℕ) (steps : List Step) (ports : PortsState) → AreAllowed opening steps → ports_of k (replay steps) ≡ Some ports
-    → AreSentAs ports.exports k (events_of (told_from k opening steps)) (flat_map events_in (sent_to k steps))
+    (ds : List Definition) (k : ℕ) (steps : List Step) (ports : PortsState) → AreAllowed (opening ds) steps
+    → ports_of k (replay ds steps) ≡ Some ports
+    → AreSentAs ports.exports k (events_of (told_from k (opening ds) steps)) (flat_map events_in (sent_to ds k steps))

@@ -4,6 +4,7 @@ use Rattle.std.specs.Prelude.{◌≡◌, ℕ, ◌==◌, List, [], ◌∷◌, ◌
 use Rattle.std.specs.List.{flat_map}
 use Rattle.std.specs.Option.{option_or}
 use Rattle.pv_value.specs.Plain.{Plain}
+use Rattle.ps_schema.specs.declared.Definition.{Definition}
 use Rattle.ac_table.specs.declared.batches.Batch.{Batch}
 use Rattle.ac_table.specs.Tables.{first_batch}
 use Rattle.ac_world.specs.Worlds.{actor_of}
@@ -49,11 +50,11 @@ first_from k s [] = None
 first_from k s (e ∷ es) = option_or (first_by k s e) (first_from k (step s e).state es)
 
 -- the references of which connection k was told, those to its own objects excepted, in order
-abbrev pub objects_told : ℕ → List Step → List Plain
-objects_told k steps = flat_map (foreign_to k) (told_from k opening steps)
+abbrev pub objects_told : List Definition → ℕ → List Step → List Plain
+objects_told ds k steps = flat_map (foreign_to k) (told_from k (opening ds) steps)
 
 -- its first object, and then each of these once, in order of first use
-abbrev pub AreItsOwn : ℕ → List Step → List Plain → Type 0
-AreItsOwn k steps exports =
-    (first : Plain) × (first_from k opening steps ≡ Some first)
-    × (exports ≡ all_exported (first ∷ []) (objects_told k steps))
+abbrev pub AreItsOwn : List Definition → ℕ → List Step → List Plain → Type 0
+AreItsOwn ds k steps exports =
+    (first : Plain) × (first_from k (opening ds) steps ≡ Some first)
+    × (exports ≡ all_exported (first ∷ []) (objects_told ds k steps))

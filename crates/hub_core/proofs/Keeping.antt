@@ -5,13 +5,17 @@ use Rattle.std.specs.BTreeMap.{insert_entry, is_at}
 use Rattle.std.specs.Map.{remove_entry}
 use Rattle.std.specs.Ordering.{nat_cmp}
 use Rattle.pv_value.specs.Plain.{Plain}
-use Rattle.ac_world.specs.Worlds.{WorldState, arrived, ended_of, actor_of, entry_of}
+use Rattle.sr_caveat.specs.Caps.{IsSound}
+use Rattle.gk_sturdy.specs.declared.bound.Binding.{Binding}
+use Rattle.ac_world.specs.Worlds.{WorldState, arrived, ended_of, actor_of, entry_of, binding}
 use Rattle.ac_world.specs.Turns.{turn}
 use Rattle.rl_ports.specs.Ports.{PortsState, ports_to}
 use Rattle.hub_machine.specs.declared.faults.Fault.{Fault}
-use Rattle.hub_machine.specs.Machine.{actor_reference}
+use Rattle.hub_machine.specs.State.{State}
+use Rattle.hub_machine.specs.Machine.{actor_reference, is_barred}
 use Rattle.hub_valid.specs.Validity.{AreValid, IsValidEntry}
 use Rattle.hub_valid.specs.Lemmas.Hubs.{opened_is_valid, nameless_is_valid, departed_is_valid, turned_is_valid}
+use Rattle.hub_valid.specs.Lemmas.Hubs.{bound_is_valid}
 use Rattle.hub_core.proofs.Small.{AreSmall, small_with, small_without, entry_at}
 
 abbrev pub AreKept : WorldState → List (ℕ × PortsState) → List (ℕ × Fault) → Type 0
@@ -50,6 +54,12 @@ kept_turned a w world names faults is kept =
       kept.1,
       turned_is_valid a (record { world = w; connections = names; faults = []; stopped = false }) kept.2,
     )
+
+pub kept_bound : (b : Binding) (s : State) (world : WorldState) → IsSound b.cap → is_barred b s ≡ false
+    → world ≡ binding b s.world → AreKept s.world s.connections s.faults → AreKept world s.connections s.faults
+kept_bound b s world sound free is kept =
+    subst (λ (x : WorldState). AreKept x s.connections s.faults) (sym is)
+    (kept.0, kept.1, bound_is_valid b s sound free kept.2)
 
 pub opened_valid : (space number at : ℕ) (first : Plain) (w world : WorldState) (names : List (ℕ × PortsState))
     (p : PortsState) → space ≤ 8 → w.opened < 2 ^ 31 → world ≡ arrived w → number ≡ w.opened + 1 → at ≡ space

@@ -10,6 +10,7 @@ use ac_world::{FIRST_CONNECTION, Load, Spread};
 use ds_space::Space;
 use hub_machine::{DELIVERIES, DELIVERIES_WEIGHT, Fault, Reply, overrun};
 use pv_value::NoMemory;
+use sr_pass::Judge;
 use std::alloc::Global;
 
 /// More deliveries than may be.
@@ -19,9 +20,9 @@ fn overrun_by(load: Load) -> Option<Fault>
     overrun(DELIVERIES, 1, load.count).or(overrun(DELIVERIES_WEIGHT, 2, load.weight))
 }
 
-impl<S: Space + Drop> Hub<S> {
+impl<S: Space + Drop, J: Judge + Drop> Hub<S, J> {
     /// A connection ends. Its names are gone already.
-    fn end(self, alloc: Global, connection: u32) -> Result<Hub<S>, NoMemory>
+    fn end(self, alloc: Global, connection: u32) -> Result<Hub<S, J>, NoMemory>
         requires { connection ≤ 2 ^ 31 }
         ensures { IfOk result (λ h. h ≡ departed connection self) }
     {
@@ -41,7 +42,7 @@ impl<S: Space + Drop> Hub<S> {
     }
 
     /// A connection ends.
-    pub(crate) fn close(mut self, alloc: Global, connection: u32) -> Result<Hub<S>, NoMemory>
+    pub(crate) fn close(mut self, alloc: Global, connection: u32) -> Result<Hub<S, J>, NoMemory>
         requires { connection ≤ 2 ^ 31 }
         ensures { IfOk result (λ h. h ≡ closed connection self) }
     {
@@ -55,7 +56,7 @@ impl<S: Space + Drop> Hub<S> {
         alloc: Global,
         connection: u32,
         fault: Fault,
-    ) -> Result<Hub<S>, NoMemory>
+    ) -> Result<Hub<S, J>, NoMemory>
         requires { connection ≤ 2 ^ 31 }
         ensures { IfOk result (λ h. h ≡ departed_for connection fault self) }
     {
@@ -70,7 +71,7 @@ impl<S: Space + Drop> Hub<S> {
         alloc: Global,
         connection: u32,
         fault: Fault,
-    ) -> Result<Hub<S>, NoMemory>
+    ) -> Result<Hub<S, J>, NoMemory>
         requires { connection ≤ 2 ^ 31 }
         ensures { IfOk result (λ h. h ≡ failed connection fault self) }
     {
@@ -79,7 +80,7 @@ impl<S: Space + Drop> Hub<S> {
     }
 
     /// A connection that spread ends, where it is there.
-    fn spread_out(self, alloc: Global, spread: Spread) -> Result<Hub<S>, NoMemory>
+    fn spread_out(self, alloc: Global, spread: Spread) -> Result<Hub<S, J>, NoMemory>
         ensures { IfOk result (λ h. h ≡ spread_out spread self) }
     {
         if spread.actor < FIRST_CONNECTION || !self.live(spread.actor - 16) {
@@ -89,7 +90,7 @@ impl<S: Space + Drop> Hub<S> {
     }
 
     /// Those that spread end, in order.
-    fn all_spread_out(self, alloc: Global, spreads: &[Spread]) -> Result<Hub<S>, NoMemory>
+    fn all_spread_out(self, alloc: Global, spreads: &[Spread]) -> Result<Hub<S, J>, NoMemory>
         ensures { IfOk result (λ h. h ≡ all_spread_out spreads.now self) }
     {
         let mut hub = self;
@@ -116,7 +117,7 @@ impl<S: Space + Drop> Hub<S> {
         alloc: Global,
         connection: u32,
         fault: Option<Fault>,
-    ) -> Result<Hub<S>, NoMemory>
+    ) -> Result<Hub<S, J>, NoMemory>
         requires { IfSome fault (λ f. connection ≤ 2 ^ 31) }
         ensures { IfOk result (λ h. h ≡ failed_where connection fault self) }
     {
@@ -127,7 +128,7 @@ impl<S: Space + Drop> Hub<S> {
     }
 
     /// The connections of these numbers end for which too much is held and waits, in order.
-    fn all_overrun(self, alloc: Global, connections: &[u32]) -> Result<Hub<S>, NoMemory>
+    fn all_overrun(self, alloc: Global, connections: &[u32]) -> Result<Hub<S, J>, NoMemory>
         ensures { IfOk result (λ h. h ≡ all_overrun connections.now self) }
     {
         let mut hub = self;
@@ -150,7 +151,7 @@ impl<S: Space + Drop> Hub<S> {
     }
 
     /// The step's end: those end who have to.
-    fn finish(self, alloc: Global, spreads: &[Spread]) -> Result<Hub<S>, NoMemory>
+    fn finish(self, alloc: Global, spreads: &[Spread]) -> Result<Hub<S, J>, NoMemory>
         ensures { IfOk result (λ h. h ≡ finished spreads.now self) }
     {
         let hub = self.all_spread_out(alloc, spreads)?;
@@ -164,7 +165,7 @@ impl<S: Space + Drop> Hub<S> {
         alloc: Global,
         spreads: &[Spread],
         reply: Reply,
-    ) -> Result<(Hub<S>, Reply), NoMemory>
+    ) -> Result<(Hub<S, J>, Reply), NoMemory>
         ensures state { IfOk result (λ done. done.0 ≡ finished spreads.now self) }
         ensures reply { IfOk result (λ done. done.1 ≡ reply) }
     {

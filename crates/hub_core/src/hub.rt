@@ -18,6 +18,7 @@ use hub_machine::{CONNECTIONS, DATASPACES, Fault, Reply, Step, WORN_CONNECTIONS,
 use pv_value::{NoMemory, Value};
 use rl_ports::Ports;
 use sr_caveat::{Cap, has_embedded};
+use sr_pass::Judge;
 use std::alloc::Global;
 use std::collections::BTreeMap;
 use std::marker::Model;
@@ -25,25 +26,26 @@ use std::marker::Model;
 /// The state of the server: its world, what each live connection names, and the faults of which
 /// connections are still to be told.
 #[derive(Drop)]
-pub struct Hub<S: Space + Drop> {
-    pub(crate) world: World<S>,
+pub struct Hub<S: Space + Drop, J: Judge + Drop> {
+    pub(crate) world: World<S, J>,
     pub(crate) connections: BTreeMap<u32, Ports>,
     pub(crate) faults: BTreeMap<u32, Fault>,
     pub(crate) stopped: bool,
 }
 
-impl<S: Space + Drop> Model for Hub<S> {
+impl<S: Space + Drop, J: Judge + Drop> Model for Hub<S, J> {
     ghost use Rattle.std.specs.Prelude.{◌≤◌, ◌^◌};
     ghost use Rattle.std.specs.List.{AllByRecursion};
     ghost use Rattle.std.specs.Coded.{codes};
     ghost use Rattle.pv_value.specs.Lemmas.Coded.{plain_code};
     ghost use Rattle.sr_caveat.specs.Lemmas.Coded.{caveat_code};
+    ghost use Rattle.ps_schema.specs.Lemmas.CodedDefinitions.{definition_code};
     ghost use Rattle.hub_machine.specs.State.{State};
     ghost use Rattle.hub_valid.specs.Validity.{AreValid};
 
     ghost Value = { State };
 
-    ghost coded = { Prim.hlevel (codes, plain_code, caveat_code) };
+    ghost coded = { Prim.hlevel (codes, plain_code, caveat_code, definition_code) };
 
     ghost view = { λ h. record {
       world = h.world;
@@ -82,13 +84,14 @@ fn is_to_space(cap: &Cap) -> bool
     (1..=u32::from(DATASPACES)).contains(&cap.actor) && cap.entity == 0
 }
 
-impl<S: Space + Drop> Hub<S> {
+impl<S: Space + Drop, J: Judge + Drop> Hub<S, J> {
     /// The server at its beginning: the gatekeeper and the dataspaces, which have got nothing.
-    pub fn begin(alloc: Global) -> Result<Hub<S>, NoMemory>
-        ensures { IfOk result (λ h. h ≡ opening) }
+    /// Guards judge by what is handed in.
+    pub fn begin(alloc: Global, judge: J) -> Result<Hub<S, J>, NoMemory>
+        ensures { IfOk result (λ h. h ≡ opening (J.schema judge)) }
     {
         Ok(Hub {
-            world: World::begin(alloc)?,
+            world: World::begin(alloc, judge)?,
             connections: BTreeMap::new(alloc),
             faults: BTreeMap::new(alloc),
             stopped: false,
@@ -140,6 +143,13 @@ impl<S: Space + Drop> Hub<S> {
         self.ports(connection).is_some()
     }
 
+    /// What guards judge by.
+    pub fn judge(&self) -> &J
+        ensures { J.schema result.now ≡ self.now.world.schema }
+    {
+        self.world.judge()
+    }
+
     /// How many connections have come.
     pub fn opened(&self) -> u32
         ensures { result ≡ self.now.world.opened }
@@ -174,7 +184,7 @@ impl<S: Space + Drop> Hub<S> {
     }
 
     /// A reference is bound, where it may.
-    fn bind(self, alloc: Global, binding: Binding) -> Result<(Hub<S>, Reply), NoMemory>
+    fn bind(self, alloc: Global, binding: Binding) -> Result<(Hub<S, J>, Reply), NoMemory>
         ensures state { IfOk result
             (λ done. done.0 ≡ (bind_unless (is_barred binding self) binding self).state) }
         ensures reply { IfOk result
@@ -199,7 +209,7 @@ impl<S: Space + Drop> Hub<S> {
     }
 
     /// A connection comes.
-    fn open(self, alloc: Global, space: u8) -> Result<(Hub<S>, u32), NoMemory>
+    fn open(self, alloc: Global, space: u8) -> Result<(Hub<S, J>, u32), NoMemory>
         requires few { self.world.opened < 2 ^ 31 }
         requires space { space ≤ 8 }
         ensures state { IfOk result (λ done. done.0 ≡ opened space self) }
@@ -239,7 +249,7 @@ impl<S: Space + Drop> Hub<S> {
     }
 
     /// A connection comes, where it may.
-    fn arrive(self, alloc: Global, space: u8) -> Result<(Hub<S>, Reply), NoMemory>
+    fn arrive(self, alloc: Global, space: u8) -> Result<(Hub<S, J>, Reply), NoMemory>
         requires { self.world.opened < 2 ^ 31 }
         ensures state { IfOk result
             (λ done. done.0 ≡ (arrive_unless (refusal space self) space self).state) }
@@ -256,7 +266,7 @@ impl<S: Space + Drop> Hub<S> {
     }
 
     /// No connection is to come any more.
-    fn stop(mut self, alloc: Global) -> Result<(Hub<S>, Reply), NoMemory>
+    fn stop(mut self, alloc: Global) -> Result<(Hub<S, J>, Reply), NoMemory>
         ensures state { IfOk result
             (λ done. done.0 ≡ finished [] (record self { stopped = true })) }
         ensures reply { IfOk result (λ done. done.1 ≡ reply.Taken) }
@@ -266,7 +276,7 @@ impl<S: Space + Drop> Hub<S> {
     }
 
     /// A step that may be done.
-    fn machine_step(self, alloc: Global, event: Step) -> Result<(Hub<S>, Reply), NoMemory>
+    fn machine_step(self, alloc: Global, event: Step) -> Result<(Hub<S, J>, Reply), NoMemory>
         ensures state { IfOk result (λ done. done.0 ≡ (step_of self event).state) }
         ensures reply { IfOk result (λ done. done.1 ≡ (step_of self event).reply) }
     {
@@ -286,7 +296,7 @@ impl<S: Space + Drop> Hub<S> {
     }
 
     /// The state after a step, and what is answered to it. For want of memory the state is gone.
-    pub fn step(self, alloc: Global, event: Step) -> Result<(Hub<S>, Reply), NoMemory>
+    pub fn step(self, alloc: Global, event: Step) -> Result<(Hub<S, J>, Reply), NoMemory>
         ensures state { IfOk result (λ done. done.0 ≡ (step_of self event).state) }
         ensures reply { IfOk result (λ done. done.1 ≡ (step_of self event).reply) }
         ensures complete { IfOk result (λ done. IsComplete self event done.1) }

@@ -22,6 +22,7 @@ use hub_packets::{Admitting, Refusal, admission};
 use pv_value::NoMemory;
 use rl_packet::Turn;
 use rl_ports::Ports;
+use sr_pass::Judge;
 use std::alloc::Global;
 use std::collections::BTreeMap;
 
@@ -32,7 +33,7 @@ fn keeps_its_order(connections: &BTreeMap<u32, Ports>)
     let _ = connections.len();
 }
 
-impl<S: Space + Drop> Hub<S> {
+impl<S: Space + Drop, J: Judge + Drop> Hub<S, J> {
     /// A live connection's names, which are taken out of the state.
     pub(crate) fn take_ports(&mut self, connection: u32) -> Option<Ports>
         ensures ports { result ≡ ports_of connection self.old }
@@ -56,7 +57,7 @@ impl<S: Space + Drop> Hub<S> {
         alloc: Global,
         connection: u32,
         admitting: Admitting,
-    ) -> Result<Hub<S>, NoMemory>
+    ) -> Result<Hub<S, J>, NoMemory>
         requires live { is_live (actor_of connection) self.world.table ≡ true }
         requires small { connection ≤ 2 ^ 31 }
         requires valid { IsValid self → IsValid (accepted connection admitting self) }
@@ -85,7 +86,7 @@ impl<S: Space + Drop> Hub<S> {
         alloc: Global,
         connection: u32,
         refusal: Refusal,
-    ) -> Result<(Hub<S>, Reply), NoMemory>
+    ) -> Result<(Hub<S, J>, Reply), NoMemory>
         requires { connection ≤ 2 ^ 31 }
         ensures state { IfOk result (λ done. IsCauseAnd refusal
             (λ f. done.0 ≡ finished [] (departed_for connection f self))) }
@@ -102,13 +103,13 @@ impl<S: Space + Drop> Hub<S> {
     }
 
     /// A packet of a connection whose names were taken out of the state.
-    fn judge(
+    fn judge_packet(
         self,
         alloc: Global,
         connection: u32,
         ports: Ports,
         turn: &Turn,
-    ) -> Result<(Hub<S>, Reply), NoMemory>
+    ) -> Result<(Hub<S, J>, Reply), NoMemory>
         requires live { is_live (actor_of connection) self.world.table ≡ true }
         requires small { connection ≤ 2 ^ 31 }
         requires next { self.world.table.next < 2 ^ 62 }
@@ -134,7 +135,7 @@ impl<S: Space + Drop> Hub<S> {
         alloc: Global,
         connection: u32,
         turn: &Turn,
-    ) -> Result<(Hub<S>, Reply), NoMemory>
+    ) -> Result<(Hub<S, J>, Reply), NoMemory>
         requires next { self.world.table.next < 2 ^ 62 }
         ensures state { IfOk result (λ done. done.0
             ≡ (packet_at connection (ports_of connection self) turn.now self).state) }
@@ -142,7 +143,7 @@ impl<S: Space + Drop> Hub<S> {
             ≡ (packet_at connection (ports_of connection self) turn.now self).reply) }
     {
         match self.take_ports(connection) {
-            Some(ports) => self.judge(alloc, connection, ports, turn),
+            Some(ports) => self.judge_packet(alloc, connection, ports, turn),
             None => Ok((self, Reply::Gone)),
         }
     }
@@ -153,7 +154,7 @@ impl<S: Space + Drop> Hub<S> {
         alloc: Global,
         connection: u32,
         fault: Fault,
-    ) -> Result<(Hub<S>, Reply), NoMemory>
+    ) -> Result<(Hub<S, J>, Reply), NoMemory>
         ensures state { IfOk result (λ done. done.0
             ≡ (bad_at connection (ports_of connection self) fault self).state) }
         ensures reply { IfOk result (λ done. done.1
@@ -167,7 +168,11 @@ impl<S: Space + Drop> Hub<S> {
     }
 
     /// A connection goes.
-    pub(crate) fn leave(self, alloc: Global, connection: u32) -> Result<(Hub<S>, Reply), NoMemory>
+    pub(crate) fn leave(
+        self,
+        alloc: Global,
+        connection: u32,
+    ) -> Result<(Hub<S, J>, Reply), NoMemory>
         ensures state { IfOk result (λ done. done.0
             ≡ (close_at connection (ports_of connection self) self).state) }
         ensures reply { IfOk result (λ done. done.1

@@ -17,11 +17,12 @@ use hub_packets::all_to_send;
 use pv_value::NoMemory;
 use rl_packet::{Packet, Turn};
 use rl_ports::Ports;
+use sr_pass::Judge;
 use std::alloc::Global;
 
-impl<S: Space + Drop> Hub<S> {
+impl<S: Space + Drop, J: Judge + Drop> Hub<S, J> {
     /// The fault of an ended connection is told, where it is still to be told.
-    fn tell_fault(mut self, alloc: Global, actor: u32) -> Result<(Hub<S>, Reply), NoMemory>
+    fn tell_fault(mut self, alloc: Global, actor: u32) -> Result<(Hub<S, J>, Reply), NoMemory>
         ensures state { IfOk result
             (λ done. done.0 ≡ (tell_fault actor (fault_for actor self) self).state) }
         ensures reply { IfOk result
@@ -40,7 +41,7 @@ impl<S: Space + Drop> Hub<S> {
     }
 
     /// A connection names this from now on.
-    fn name(mut self, connection: u32, ports: Ports) -> Result<Hub<S>, NoMemory>
+    fn name(mut self, connection: u32, ports: Ports) -> Result<Hub<S, J>, NoMemory>
         requires small { connection ≤ 2 ^ 31 }
         requires valid { IsValid self → IsValid
             (record self { connections = with_entry connection ports self.connections }) }
@@ -58,7 +59,7 @@ impl<S: Space + Drop> Hub<S> {
         alloc: Global,
         connection: u32,
         batch: Batch,
-    ) -> Result<(Hub<S>, Reply), NoMemory>
+    ) -> Result<(Hub<S, J>, Reply), NoMemory>
         requires next { self.world.table.next ≤ 2 ^ 63 }
         requires valid { IsValidBatch (16 + self.world.opened) self.world.table.next batch }
         ensures state { IfOk result
@@ -79,7 +80,7 @@ impl<S: Space + Drop> Hub<S> {
         connection: u32,
         mut ports: Ports,
         batch: Batch,
-    ) -> Result<(Hub<S>, Reply), NoMemory>
+    ) -> Result<(Hub<S, J>, Reply), NoMemory>
         requires small { connection ≤ 2 ^ 31 }
         requires next { self.world.table.next ≤ 2 ^ 63 }
         requires batch { IsValidBatch (16 + self.world.opened) self.world.table.next batch }
@@ -105,7 +106,7 @@ impl<S: Space + Drop> Hub<S> {
         alloc: Global,
         actor: u32,
         turned: Turned,
-    ) -> Result<(Hub<S>, Reply), NoMemory>
+    ) -> Result<(Hub<S, J>, Reply), NoMemory>
         requires { IsToldSoundly turned self }
         ensures state { IfOk result (λ done. done.0 ≡ (after_turn actor turned self).state) }
         ensures reply { IfOk result (λ done. done.1 ≡ (after_turn actor turned self).reply) }
@@ -119,7 +120,7 @@ impl<S: Space + Drop> Hub<S> {
     }
 
     /// An actor's turn.
-    pub(crate) fn turn(self, alloc: Global, actor: u32) -> Result<(Hub<S>, Reply), NoMemory>
+    pub(crate) fn turn(self, alloc: Global, actor: u32) -> Result<(Hub<S, J>, Reply), NoMemory>
         requires { self.world.table.next < 2 ^ 62 }
         ensures state { IfOk result (λ done. done.0 ≡ (turn_of actor self).state) }
         ensures reply { IfOk result (λ done. done.1 ≡ (turn_of actor self).reply) }
@@ -141,7 +142,7 @@ impl<S: Space + Drop> Hub<S> {
     }
 
     /// The turn of the lowest of the system's actors for which a batch waits.
-    pub(crate) fn work(self, alloc: Global) -> Result<(Hub<S>, Reply), NoMemory>
+    pub(crate) fn work(self, alloc: Global) -> Result<(Hub<S, J>, Reply), NoMemory>
         requires { self.world.table.next < 2 ^ 62 }
         ensures state { IfOk result (λ done. done.0
             ≡ (work_by (lowest_waiting self.world.table) self).state) }

@@ -28,7 +28,7 @@ pub record IsPlanned (ends : List ℕ) (u : WorldState) (a : ℕ) (p : Plan) : T
   pub unheld : (b : ℕ) → is_live b u.table ≡ false → entry_of b u.held ≡ None
   pub moves : Moves a u.table p
   pub good : AreGood (16 + u.opened) a p
-  pub met : (b : ℕ) → b < 9 → IsMet (behaviour_of u.bindings b) b (resident_of b u) p.table.rows
+  pub met : (b : ℕ) → b < 9 → IsMet (behaviour_of u.schema u.bindings b) b (resident_of b u) p.table.rows
   -- a connection has come
   pub some : u.opened ≢ 0
 
@@ -82,7 +82,7 @@ commit_sound posted_to posted_table served_after ends u a p k =
       numbers = λ b is. k.numbers b (sym (live_done posted_table u a b p k.moves) ∙ is);
       rows = subst (AllByRecursion (IsGood (16 + u.opened))) (sym q.0) k.good.rows;
       served = served_done posted_to posted_table served_after ends u a p k;
-      met = λ b is. subst (IsMet (behaviour_of u.bindings b) b (resident_of b u)) (sym q.0) (k.met b is);
+      met = λ b is. subst (IsMet (behaviour_of u.schema u.bindings b) b (resident_of b u)) (sym q.0) (k.met b is);
       known = k.known;
       fresh = λ none. absurd (k.some none);
       held_ascends = k.held_ascends;

@@ -16,6 +16,7 @@ use Rattle.pv_value.specs.Order.{order}
 use Rattle.pv_words.specs.Parts.{same}
 use Rattle.rl_packet.specs.Holding.{holdings_in_order, insert_holding, is_before}
 use Rattle.rl_packet.specs.declared.holding.Holding.{Holding}
+use Rattle.ps_schema.specs.declared.Definition.{Definition}
 use Rattle.ac_table.specs.declared.batches.Row.{Row}
 use Rattle.ac_table.specs.declared.batches.Batch.{Batch}
 use Rattle.ac_table.specs.Tables.{TableState, Actor, IsTable, find_actor, is_live, waiting_in}
@@ -147,19 +148,19 @@ module _ (exports : List Plain) (w : WorldState) (s : IsSound [] w) (quiet : wai
       ∙ stands_map at_object (pair_held exports n) (pair_of_row exports n) (λ r. refl) (actor_of n) rows
 
   abbrev behaves : ℕ → Behaviour
-  behaves d = behaviour_of w.bindings d
+  behaves d = behaviour_of w.schema w.bindings d
 
   -- what a system actor tells a connection, from scratch
   abbrev tells : ℕ → ℕ → List Pair
-  tells n zero = told_replies exports n w.bindings (asserted_at 0 rows)
-  tells n (suc d) = told_over exports n (asserted_at (suc d) rows)
+  tells n zero = told_replies w.schema exports n w.bindings (asserted_at 0 rows)
+  tells n (suc d) = told_over w.schema exports n (asserted_at (suc d) rows)
 
   keys_told : (n d : ℕ)
       → IsPermutation
       (map (pair_by (behaves d) exports n) (filter (goes_to (behaves d) (actor_of n))
       ((behaves d).keys (asserted_at d rows)))) (tells n d)
-  keys_told n zero = keys_are_replied exports n w.bindings (asserted_at 0 rows)
-  keys_told n (suc d) = wants_are_told exports n (asserted_at (suc d) rows)
+  keys_told n zero = keys_are_replied w.schema exports n w.bindings (asserted_at 0 rows)
+  keys_told n (suc d) = wants_are_told w.schema exports n (asserted_at (suc d) rows)
 
   -- the rows of a system actor at a connection are what it tells it
   actor_tells : (n d : ℕ) → d < 9 → is_live d w.table ≡ true
@@ -167,7 +168,7 @@ module _ (exports : List Plain) (w : WorldState) (s : IsSound [] w) (quiet : wai
       (tells n d)
   actor_tells n d low live =
       let y : Behaviour = behaves d in
-      let law : IsLawful y = lawful w.bindings d in
+      let law : IsLawful y = lawful w.schema w.bindings d in
       let met = s.met d low in
       let wanted : keys_of (resident_of d w).handles ≡ passing y (y.keys (asserted_at d rows)) =
       met.keys ∙ ap (λ vs. passing y (y.keys vs)) (got_asserted d low live) in
@@ -215,7 +216,8 @@ module _ (exports : List Plain) (w : WorldState) (s : IsSound [] w) (quiet : wai
       ∙ filter_alike _ _ rows (all_weaker _ _ (λ r is. ap (λ b. (r.target == actor_of n) && b) is) rows owned_directly))
 
   pub held_scratch : (n : ℕ) → is_system (actor_of n) ≡ false → is_live (actor_of n) w.table ≡ true
-      → IsPermutation (map (pair_held exports n) (held_by (actor_of n) w)) (scratch_at exports n w.bindings rows)
+      → IsPermutation (map (pair_held exports n) (held_by (actor_of n) w))
+      (scratch_at w.schema exports n w.bindings rows)
   held_scratch n other live =
       let here : List Row = filter (λ r. r.target == actor_of n) rows in
       let parts : List Row = flat_map (λ d. filter (λ r. r.owner == d) here) residents in
@@ -224,11 +226,11 @@ module _ (exports : List Plain) (w : WorldState) (s : IsSound [] w) (quiet : wai
       ≡ flat_map (pairs_of n) residents ++ told_directly exports n rows =
       map-append (pair_of_row exports n) parts last
       ∙ (λ i. map_flat (pair_of_row exports n) (λ d. filter (λ r. r.owner == d) here) residents i ++ direct n i) in
-      subst (λ l. IsPermutation l (scratch_at exports n w.bindings rows)) (sym (held_stands n other live))
+      subst (λ l. IsPermutation l (scratch_at w.schema exports n w.bindings rows)) (sym (held_stands n other live))
       (IsPermutation-trans _ _ _
       (IsPermutation-map (pair_of_row exports n) here (parts ++ last)
       (by_number (λ r. r.owner) residents here residents_apart))
-      (subst (λ l. IsPermutation l (scratch_at exports n w.bindings rows)) (sym joined)
+      (subst (λ l. IsPermutation l (scratch_at w.schema exports n w.bindings rows)) (sym joined)
       (IsPermutation-append_left (told_directly exports n rows) _ _ (told_each n))))
 
 -- ---- a hub
@@ -270,16 +272,17 @@ pairs_of_holdings exports n (e ∷ es) = ap (λ l. pair_held exports n e ∷ l) 
 
 -- ---- a run
 
-pub settled_from : Holdings → ((steps : List Step) → AreAllowed opening steps → IsHub [] (replay steps))
+pub settled_from : Holdings
+    → ((ds : List Definition) (steps : List Step) → AreAllowed (opening ds) steps → IsHub [] (replay ds steps))
     → SettledHoldings
-settled_from holdings hubs k steps allowed settled live =
+settled_from holdings hubs ds k steps allowed settled live =
     let a = actor_of k in
-    let s = replay steps in
+    let s = replay ds steps in
     let exports : List Plain = exports_of k s in
     let got : List Holding = map (holding_of exports k) (held_by a s.world) in
-    subst (λ hs. IsPermutation (map pair_of hs) (scratch k s)) (sym (holdings k steps allowed live).0)
+    subst (λ hs. IsPermutation (map pair_of hs) (scratch k s)) (sym (holdings ds k steps allowed live).0)
     (IsPermutation-trans (map pair_of (holdings_in_order got)) (map pair_of got) (scratch k s)
     (IsPermutation-map pair_of (holdings_in_order got) got
     (IsPermutation-sym got (holdings_in_order got) (in_order_permutes got)))
     (subst (λ l. IsPermutation l (scratch k s)) (sym (pairs_of_holdings exports k (held_by a s.world)))
-    (scratch_stands s (hubs steps allowed) settled k live)))
+    (scratch_stands s (hubs ds steps allowed) settled k live)))

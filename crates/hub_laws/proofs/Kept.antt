@@ -170,7 +170,7 @@ pub record IsSound (ends : List ℕ) (w : WorldState) : Type 0 where
   pub numbers : (a : ℕ) → is_live a w.table ≡ true → a ≤ 16 + w.opened
   pub rows : AllByRecursion (IsGood (16 + w.opened)) w.table.rows
   pub served : (a : ℕ) (x : Actor) → find_actor a w.table.actors ≡ Some x → IsServed ends a x.inbox w (is_system a)
-  pub met : (a : ℕ) → a < 9 → IsMet (behaviour_of w.bindings a) a (resident_of a w) w.table.rows
+  pub met : (a : ℕ) → a < 9 → IsMet (behaviour_of w.schema w.bindings a) a (resident_of a w) w.table.rows
   pub known : (a : ℕ) → a < 9 → AllByRecursion (IsKnown (16 + w.opened)) (values_of (resident_of a w).got)
   -- before the first connection comes nothing was done
   pub fresh : w.opened ≡ 0 → IsFresh w

@@ -29,7 +29,7 @@ pub delivered : (w : WorldState) → IsSound [] w → IsDelivered w
 delivered w k a x found = delivered_to a x w k.table (is_system a) (k.served a x found)
 
 pub delivery : Delivery
-delivery steps may = delivered _ (replay_hub steps may).sound
+delivery ds steps may = delivered _ (replay_hub ds steps may).sound
 
 -- where its inbox is empty, a live actor has got all of it
 got_by : (a : ℕ) (x : Actor) (w : WorldState) → x.inbox ≡ [] → (s : Bool) → IsDeliveredTo a x w s → IsGotBy a w s
@@ -41,17 +41,17 @@ got_by a x w empty false is =
     empty is
 
 pub got_in_full : SettledDelivery
-got_in_full steps may settled a x found =
-    let w : WorldState = (replay steps).world in
+got_in_full ds steps may settled a x found =
+    let w : WorldState = (replay ds steps).world in
     got_by a x w (inbox_empty a w.table.actors x (omega (arith, settled)) found) (is_system a)
-    (delivery steps may a x found)
+    (delivery ds steps may a x found)
 
 pub wants : Wants
-wants steps may = (replay_hub steps may).sound.met
+wants ds steps may = (replay_hub ds steps may).sound.met
 
 pub have_ended : Endings
-have_ended steps may =
-    let h = replay_hub steps may in
+have_ended ds steps may =
+    let h = replay_hub ds steps may in
     record {
       owners = h.sound.table.owners_live;
       names = λ k dead. h.nameless k dead;

@@ -135,8 +135,9 @@ gone_sound P ends a w far some k =
       served = served_gone P ends a w k;
       met = λ b is.
           let ne : b ≢ a = λ same. absurd (omega (arith, is, far, same)) in
-          subst (IsMet (behaviour_of w.bindings b) b (resident_of b w)) (sym q.0)
-          (P.met_kept (behaviour_of w.bindings b) b (resident_of b w) w.table.rows (rows_of_others a w.table.rows)
+          subst (IsMet (behaviour_of w.schema w.bindings b) b (resident_of b w)) (sym q.0)
+          (P.met_kept (behaviour_of w.schema w.bindings b) b (resident_of b w) w.table.rows
+          (rows_of_others a w.table.rows)
           (k.met b is)
           (λ h r own found. P.others_keep a h w.table.rows r found (λ same. ne (sym own ∙ same)))
           (λ h r own found. (P.others_found a h w.table.rows r k.table.rows_ascend found).0));

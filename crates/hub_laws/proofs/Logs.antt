@@ -19,6 +19,7 @@ use Rattle.ac_table.specs.declared.batches.Event.{Event}
 use Rattle.ac_table.specs.declared.batches.Event.TheVariants.{Assert, Retract, Message, Sync}
 use Rattle.ac_table.specs.declared.batches.Batch.{Batch}
 use Rattle.ac_table.specs.Lemmas.Lists.{cmp_above}
+use Rattle.ps_schema.specs.declared.Definition.{Definition}
 use Rattle.ac_world.specs.declared.aims.Aim.{Aim}
 use Rattle.ac_world.specs.Behaviours.{Behaviour, fanned_weight}
 use Rattle.ac_world.specs.Systems.{changes}
@@ -128,8 +129,9 @@ got-taken_in y a from h v t =
     one_of false true s u passed got = inr passed
     one_of false false s u passed got = inl got
 
-got-passed_on : (from : ℕ) (fs : List Fanned) (t : Turning) → (passed_on from fs t).resident.got ≡ t.resident.got
-got-passed_on from fs t = one_of (nat_lt 33554432 (fanned_weight fs)) _ _ refl refl
+got-passed_on : (ds : List Definition) (from : ℕ) (fs : List Fanned) (t : Turning)
+    → (passed_on ds from fs t).resident.got ≡ t.resident.got
+got-passed_on ds from fs t = one_of (nat_lt 33554432 (fanned_weight fs)) _ _ refl refl
   where
     one_of : (b : Bool) (s u : Turning) → s.resident.got ≡ t.resident.got → u.resident.got ≡ t.resident.got
         → (if b then s else u).resident.got ≡ t.resident.got
@@ -147,7 +149,8 @@ log_turned_by y a from (Assert h entity v) t rest s = elim (got-taken_in y a fro
 ]
 log_turned_by y a from (Retract h entity) t rest s =
     rw (got-regot y a (without_entry h t.resident.got) t) (ascend_without_rest h t.resident.got rest s)
-log_turned_by y a from (Message entity v) t rest s = rw (got-passed_on from (y.fan (values_of t.resident.got) v) t) s
+log_turned_by y a from (Message entity v) t rest s =
+    rw (got-passed_on y.schema from (y.fan (values_of t.resident.got) v) t) s
 log_turned_by y a from (Sync entity peer) t rest s = s
 
 log_all_turned : (y : Behaviour) (a from : ℕ) (t : Turning) (es : List Event) (rest : List ℕ)
@@ -174,7 +177,7 @@ all_turned_by y P a from (Assert h entity v) t rest all = elim (got-taken_in y a
 all_turned_by y P a from (Retract h entity) t rest all =
     rw (got-regot y a (without_entry h t.resident.got) t) (all_without_rest P h t.resident.got rest all)
 all_turned_by y P a from (Message entity v) t rest all =
-    rw (got-passed_on from (y.fan (values_of t.resident.got) v) t) all
+    rw (got-passed_on y.schema from (y.fan (values_of t.resident.got) v) t) all
 all_turned_by y P a from (Sync entity peer) t rest all = all
 
 all_all_turned : (y : Behaviour) (P : ℕ → Type 0) (a from : ℕ) (t : Turning) (es : List Event) (rest : List ℕ)

@@ -92,7 +92,9 @@ delivered_planned a b w p k far is live plan = record {
       put_other a c (all_delivered b.events (held_by a w)) w.held ne ∙ k.unheld c before;
   moves = plan.moves;
   good = plan.good;
-  met = λ c s. subst (λ (t : TableState). IsMet (behaviour_of w.bindings c) c (resident_of c w) t.rows) (sym plan.same)
+  met =
+      λ c s. subst (λ (t : TableState). IsMet (behaviour_of w.schema w.bindings c) c (resident_of c w) t.rows)
+      (sym plan.same)
       (k.met c s);
   some = waits_after a w b k is;
 }

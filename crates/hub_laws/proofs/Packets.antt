@@ -95,7 +95,7 @@ planned met_kept a w p far live k plan = record {
   unheld = k.unheld;
   moves = plan.moves;
   good = plan.good;
-  met = λ d low. met_others met_kept (behaviour_of w.bindings d) a d (resident_of d w) w.table p
+  met = λ d low. met_others met_kept (behaviour_of w.schema w.bindings d) a d (resident_of d w) w.table p
       (λ same. absurd (omega (arith, low, far, same))) plan.moves (k.met d low);
   some = come_some a w far live k;
 }

@@ -3,6 +3,7 @@ use Rattle.std.proofs.Common.{◌≡◌, ℕ, ◌+◌, ◌≤◌, ◌==◌, List
 use Rattle.std.proofs.Common.{sym, ◌∙◌, subst, arith, is_some}
 use Rattle.std.proofs.lemmas.Bool.Decides.{nat_tests}
 use Rattle.std.specs.List.{AllByRecursion}
+use Rattle.ps_schema.specs.declared.Definition.{Definition}
 use Rattle.ac_table.specs.Tables.{is_live}
 use Rattle.ac_world.specs.Turns.{turn}
 use Rattle.ac_world.specs.Worlds.{WorldState, actor_of, entry_of, without_entry, ended_of, sent}
@@ -176,14 +177,14 @@ keeps_place = record {
   stops = λ s p. record { named = p.named; faults = p.faults };
 }
 
-in_place : (steps : List Step) → IsInPlace (replay steps)
-in_place steps = run_keeps IsInPlace keeps_place opening steps (record { named = tt; faults = tt })
+in_place : (ds : List Definition) (steps : List Step) → IsInPlace (replay ds steps)
+in_place ds steps = run_keeps IsInPlace keeps_place (opening ds) steps (record { named = tt; faults = tt })
 
 pub presence : Presence
-presence steps may =
-    let s : State = replay steps in
-    let h = replay_hub steps may in
-    let p : IsInPlace s = in_place steps in
+presence ds steps may =
+    let s : State = replay ds steps in
+    let h = replay_hub ds steps may in
+    let p : IsInPlace s = in_place ds steps in
     record {
       always = h.sound.always;
       no_watchers = h.sound.no_watchers;

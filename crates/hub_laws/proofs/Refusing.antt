@@ -241,5 +241,6 @@ module _ (s : State) (are_live : AreLive s.world.table) (f : Fault) where
       by false is = done_left e is
 
 pub refusals : Refusals
-refusals steps may e f is =
-    step_left (replay steps) (owners_are_live (replay steps).world.table (replay_hub steps may).sound.table) f e is
+refusals ds steps may e f is =
+    let s = replay ds steps in
+    step_left s (owners_are_live s.world.table (replay_hub ds steps may).sound.table) f e is

@@ -18,6 +18,7 @@ use Rattle.ac_table.specs.declared.batches.Batch.{Batch}
 use Rattle.ac_table.specs.declared.batches.Event.{Event}
 use Rattle.ac_table.specs.declared.batches.Event.TheVariants.{Message}
 use Rattle.ac_table.specs.Tables.{find_actor, is_live, first_batch, popped}
+use Rattle.ps_schema.specs.declared.Definition.{Definition}
 use Rattle.ac_world.specs.declared.aims.Aim.{Aim}
 use Rattle.ac_world.specs.declared.turns.Turned.TheVariants as turned
 use Rattle.ac_world.specs.Outboxes.{Plan, plan_over, told_to}
@@ -41,23 +42,23 @@ say_at_tells b None p = sym (append-nil (told_to b p.out))
 say_at_tells b (Some aim) p = told_to-told b aim.at.actor (Message aim.at.entity aim.value) p.out
 
 -- what one observation is told
-abbrev pub fanned_to : ℕ → Fanned → List Event
-fanned_to b f = message_aimed b (aim_for (sequence (plains f.captures)) f.observe)
+abbrev pub fanned_to : List Definition → ℕ → Fanned → List Event
+fanned_to ds b f = message_aimed b (aim_for ds (sequence (plains f.captures)) f.observe)
 
-say_all_tells : (b : ℕ) (fs : List Fanned) (p : Plan)
-    → told_to b (say_all fs p).out ≡ told_to b p.out ++ flat_map (fanned_to b) fs
-say_all_tells b [] p = sym (append-nil (told_to b p.out))
-say_all_tells b (f ∷ fs) p =
-    let aim : Option Aim = aim_for (sequence (plains f.captures)) f.observe in
-    say_all_tells b fs (say_at aim p)
-    ∙ ap (λ es. es ++ flat_map (fanned_to b) fs) (say_at_tells b aim p)
-    ∙ append_assoc (told_to b p.out) (message_aimed b aim) (flat_map (fanned_to b) fs)
+say_all_tells : (ds : List Definition) (b : ℕ) (fs : List Fanned) (p : Plan)
+    → told_to b (say_all ds fs p).out ≡ told_to b p.out ++ flat_map (fanned_to ds b) fs
+say_all_tells ds b [] p = sym (append-nil (told_to b p.out))
+say_all_tells ds b (f ∷ fs) p =
+    let aim : Option Aim = aim_for ds (sequence (plains f.captures)) f.observe in
+    say_all_tells ds b fs (say_at aim p)
+    ∙ ap (λ es. es ++ flat_map (fanned_to ds b) fs) (say_at_tells b aim p)
+    ∙ append_assoc (told_to b p.out) (message_aimed b aim) (flat_map (fanned_to ds b) fs)
 
-say_all_table : (fs : List Fanned) (p : Plan) → (say_all fs p).table ≡ p.table
-say_all_table [] p = refl
-say_all_table (f ∷ fs) p =
-    let aim : Option Aim = aim_for (sequence (plains f.captures)) f.observe in
-    say_all_table fs (say_at aim p) ∙ one aim
+say_all_table : (ds : List Definition) (fs : List Fanned) (p : Plan) → (say_all ds fs p).table ≡ p.table
+say_all_table ds [] p = refl
+say_all_table ds (f ∷ fs) p =
+    let aim : Option Aim = aim_for ds (sequence (plains f.captures)) f.observe in
+    say_all_table ds fs (say_at aim p) ∙ one aim
   where
     one : (o : Option Aim) → (say_at o p).table ≡ p.table
     one None = refl
@@ -65,20 +66,20 @@ say_all_table (f ∷ fs) p =
 
 -- ---- by observation
 
-observation_told : (b : ℕ) (m o : Plain)
-    → flat_map (fanned_to b) (fan_for o (captured o m)) ≡ message_by b m (observer_in o) (observer_of o)
-observation_told b m o = by (observer_in o) (observer_of o) refl
+observation_told : (ds : List Definition) (b : ℕ) (m o : Plain)
+    → flat_map (fanned_to ds b) (fan_for o (captured o m)) ≡ message_by ds b m (observer_in o) (observer_of o)
+observation_told ds b m o = by (observer_in o) (observer_of o) refl
   where
     aimed : Option Plain → Option (List Plain) → List Event
     aimed q None = []
-    aimed q (Some cs) = message_aimed b (option_and_then (aim_at (sequence (plains cs))) q) ++ []
+    aimed q (Some cs) = message_aimed b (option_and_then (aim_at ds (sequence (plains cs))) q) ++ []
 
-    fanned : (c : Option (List Plain)) → flat_map (fanned_to b) (fan_for o c) ≡ aimed (observer_in o) c
+    fanned : (c : Option (List Plain)) → flat_map (fanned_to ds b) (fan_for o c) ≡ aimed (observer_in o) c
     fanned None = refl
     fanned (Some cs) = refl
 
     told : (r : Plain) (p : Pattern) (c : Option (List Plain)) → matched p m ≡ c
-        → aimed (Some r) c ≡ message_by b m (Some r) (Some p)
+        → aimed (Some r) c ≡ message_by ds b m (Some r) (Some p)
     told r p None is = rw is refl
     told r p (Some cs) is = rw is refl
 
@@ -87,7 +88,7 @@ observation_told b m o = by (observer_in o) (observer_of o) refl
     none (Some cs) = refl
 
     by : (q : Option Plain) (p : Option Pattern) → observer_in o ≡ q
-        → flat_map (fanned_to b) (fan_for o (option_and_then (λ d. matched d m) p)) ≡ message_by b m q p
+        → flat_map (fanned_to ds b) (fan_for o (option_and_then (λ d. matched d m) p)) ≡ message_by ds b m q p
     by None p is =
         fanned (option_and_then (λ d. matched d m) p)
         ∙ ap (λ r. aimed r (option_and_then (λ d. matched d m) p)) is
@@ -96,41 +97,43 @@ observation_told b m o = by (observer_in o) (observer_of o) refl
     by (Some r) (Some p) is =
         fanned (matched p m) ∙ ap (λ q. aimed q (matched p m)) is ∙ told r p (matched p m) refl
 
-fan_told : (b : ℕ) (m : Plain) (os : List Plain) → flat_map (fanned_to b) (flat_map (λ o. fan_for o (captured o m)) os)
-    ≡ flat_map (λ o. message_by b m (observer_in o) (observer_of o)) os
-fan_told b m [] = refl
-fan_told b m (o ∷ os) =
-    flat_map_append (fanned_to b) (fan_for o (captured o m)) (flat_map (λ x. fan_for x (captured x m)) os)
-    ∙ (λ i. observation_told b m o i ++ fan_told b m os i)
+fan_told : (ds : List Definition) (b : ℕ) (m : Plain) (os : List Plain)
+    → flat_map (fanned_to ds b) (flat_map (λ o. fan_for o (captured o m)) os)
+    ≡ flat_map (λ o. message_by ds b m (observer_in o) (observer_of o)) os
+fan_told ds b m [] = refl
+fan_told ds b m (o ∷ os) =
+    flat_map_append (fanned_to ds b) (fan_for o (captured o m)) (flat_map (λ x. fan_for x (captured x m)) os)
+    ∙ (λ i. observation_told ds b m o i ++ fan_told ds b m os i)
 
 -- ---- a message
 
-passed_says : (from : ℕ) (m : Plain) (t : Turning) → fan_weight (values_of t.resident.got) m ≤ 33554432
-    → OnlySays (λ b. messages_over b (values_of t.resident.got) m) t.plan (passes_on dataspace from m t).plan
-passed_says from m t light = by (nat_lt 33554432 (fan_weight vs m)) refl
+passed_says : (ds : List Definition) (from : ℕ) (m : Plain) (t : Turning)
+    → fan_weight (values_of t.resident.got) m ≤ 33554432
+    → OnlySays (λ b. messages_over ds b (values_of t.resident.got) m) t.plan (passes_on (dataspace ds) from m t).plan
+passed_says ds from m t light = by (nat_lt 33554432 (fan_weight vs m)) refl
   where
     vs : List Plain
     vs = values_of t.resident.got
 
     by : (c : Bool) → nat_lt 33554432 (fan_weight vs m) ≡ c
-        → OnlySays (λ b. messages_over b vs m) t.plan
+        → OnlySays (λ b. messages_over ds b vs m) t.plan
         (cond c (spreading (by_message t.plan.table from (fan_weight vs m)) t)
-        (record t { plan = say_all (fan_of vs m) t.plan })).plan
+        (record t { plan = say_all ds (fan_of vs m) t.plan })).plan
     by true heavy = absurd (grind (arith, nat_tests, heavy, light))
     by false is = record {
-      table = say_all_table (fan_of vs m) t.plan;
-      told = λ b. say_all_tells b (fan_of vs m) t.plan
-          ∙ ap (λ es. told_to b t.plan.out ++ es) (fan_told b m (ascending_by order vs));
+      table = say_all_table ds (fan_of vs m) t.plan;
+      told = λ b. say_all_tells ds b (fan_of vs m) t.plan
+          ∙ ap (λ es. told_to b t.plan.out ++ es) (fan_told ds b m (ascending_by order vs));
     }
 
 pub says_messages : SaysMessages
-says_messages = (λ a from entity m t light. passed_says from m t light, λ bs a from entity m t. refl)
+says_messages = (λ ds a from entity m t light. passed_says ds from m t light, λ ds bs a from entity m t. refl)
 
-answer_says : (peer : Plain) (p : Plan)
-    → OnlySays (λ b. message_aimed b (aim_at (boolean true) peer)) p (answer_to peer p)
-answer_says peer p = record {
-  table = one (aim_at (boolean true) peer);
-  told = λ b. say_at_tells b (aim_at (boolean true) peer) p;
+answer_says : (ds : List Definition) (peer : Plain) (p : Plan)
+    → OnlySays (λ b. message_aimed b (aim_at ds (boolean true) peer)) p (answer_to ds peer p)
+answer_says ds peer p = record {
+  table = one (aim_at ds (boolean true) peer);
+  told = λ b. say_at_tells b (aim_at ds (boolean true) peer) p;
 }
   where
     one : (o : Option Aim) → (say_at o p).table ≡ p.table
@@ -138,7 +141,7 @@ answer_says peer p = record {
     one (Some aim) = refl
 
 pub answers_syncs : AnswersSyncs
-answers_syncs y a from entity peer t = answer_says peer t.plan
+answers_syncs y a from entity peer t = answer_says y.schema peer t.plan
 
 -- ---- a turn over a message
 
@@ -146,27 +149,27 @@ say_at_outbox : (o : Option Aim) (p : Plan) → IsOutbox p.out → IsOutbox (say
 say_at_outbox None p is = is
 say_at_outbox (Some aim) p is = told_outbox aim.at.actor (Message aim.at.entity aim.value) p.out is
 
-say_all_outbox : (fs : List Fanned) (p : Plan) → IsOutbox p.out → IsOutbox (say_all fs p).out
-say_all_outbox [] p is = is
-say_all_outbox (f ∷ fs) p is =
-    let aim : Option Aim = aim_for (sequence (plains f.captures)) f.observe in
-    say_all_outbox fs (say_at aim p) (say_at_outbox aim p is)
+say_all_outbox : (ds : List Definition) (fs : List Fanned) (p : Plan) → IsOutbox p.out → IsOutbox (say_all ds fs p).out
+say_all_outbox ds [] p is = is
+say_all_outbox ds (f ∷ fs) p is =
+    let aim : Option Aim = aim_for ds (sequence (plains f.captures)) f.observe in
+    say_all_outbox ds fs (say_at aim p) (say_at_outbox aim p is)
 
-passed_outbox : (from : ℕ) (fs : List Fanned) (t : Turning) → IsOutbox t.plan.out
-    → IsOutbox (passed_on from fs t).plan.out
-passed_outbox from fs t is = by (nat_lt 33554432 (fanned_weight fs))
+passed_outbox : (ds : List Definition) (from : ℕ) (fs : List Fanned) (t : Turning) → IsOutbox t.plan.out
+    → IsOutbox (passed_on ds from fs t).plan.out
+passed_outbox ds from fs t is = by (nat_lt 33554432 (fanned_weight fs))
   where
     by : (c : Bool) → IsOutbox
         (cond c (spreading (by_message t.plan.table from (fanned_weight fs)) t)
-        (record t { plan = say_all fs t.plan })).plan.out
+        (record t { plan = say_all ds fs t.plan })).plan.out
     by true = is
-    by false = say_all_outbox fs t.plan is
+    by false = say_all_outbox ds fs t.plan is
 
 at_space : (a from entity : ℕ) (m : Plain) (w : WorldState) → is_space a ≡ true → is_live a w.table ≡ true
     → first_batch a w.table ≡ Some (record { from = from; events = Message entity m ∷ [] })
     → fan_weight (values_of (resident_of a w).got) m ≤ 33554432 → (b : ℕ)
     → find_actor b (turn a w).world.table.actors
-    ≡ grown a (messages_over b (values_of (resident_of a w).got) m) (find_actor b (popped a w.table).actors)
+    ≡ grown a (messages_over w.schema b (values_of (resident_of a w).got) m) (find_actor b (popped a w.table).actors)
 at_space a from entity m w space live first light b = by (is_live a w.table) (first_batch a w.table) live first
   where
     u : WorldState
@@ -176,14 +179,15 @@ at_space a from entity m w space live first light b = by (is_live a w.table) (fi
     batch = record { from = from; events = Message entity m ∷ [] }
 
     t : Turning
-    t = passes_on dataspace from m (begin_turn a u)
+    t = passes_on (dataspace w.schema) from m (begin_turn a u)
 
-    says : OnlySays (λ c. messages_over c (values_of (resident_of a w).got) m) (plan_over u.table) t.plan
-    says = passed_says from m (begin_turn a u) light
+    says : OnlySays (λ c. messages_over w.schema c (values_of (resident_of a w).got) m) (plan_over u.table) t.plan
+    says = passed_says w.schema from m (begin_turn a u) light
 
     Arrives : After → Type 0
     Arrives x = find_actor b x.world.table.actors
-        ≡ grown a (messages_over b (values_of (resident_of a w).got) m) (find_actor b (popped a w.table).actors)
+        ≡ grown a (messages_over w.schema b (values_of (resident_of a w).got) m)
+        (find_actor b (popped a w.table).actors)
 
     run : Arrives (end_turn a u t)
     run =
@@ -192,13 +196,13 @@ at_space a from entity m w space live first light b = by (is_live a w.table) (fi
       where
         outbox : IsOutbox t.plan.out
         outbox =
-            passed_outbox from (fan_of (values_of (resident_of a u).got) m) (begin_turn a u) are_outboxes.0
+            passed_outbox w.schema from (fan_of (values_of (resident_of a u).got) m) (begin_turn a u) are_outboxes.0
 
     -- a dataspace is a system actor, and behaves as one
     kinds : (d : ℕ) → is_space d ≡ true → is_system d ≡ true
     kinds d is = grind (arith, nat_tests, is)
 
-    behaves : (d : ℕ) → is_space d ≡ true → behaviour_of w.bindings d ≡ dataspace
+    behaves : (d : ℕ) → is_space d ≡ true → behaviour_of w.schema w.bindings d ≡ dataspace w.schema
     behaves zero is = absurd cc
     behaves (suc d) is = refl
 

@@ -4,6 +4,7 @@ use Rattle.pv_value.specs.Plain.{Plain, sequence, plains, boolean}
 use Rattle.ds_space.specs.declared.space.Fanned.{Fanned}
 use Rattle.ac_table.specs.declared.batches.Event.TheVariants.{Message}
 use Rattle.ac_table.specs.Tables.{TableState}
+use Rattle.ps_schema.specs.declared.Definition.{Definition}
 use Rattle.ac_world.specs.Outboxes.{Plan, said}
 use Rattle.ac_world.specs.declared.aims.Aim.{Aim}
 use Rattle.ac_world.specs.Turns.{say_at, say_all, answer_to}
@@ -31,16 +32,16 @@ say_at_only : (n a : ℕ) (t : TableState) (p : Plan) (o : Option Aim) → Moves
 say_at_only n a t p None m g = record { moves = m; good = g; same = refl }
 say_at_only n a t p (Some aim) m g = said_only n a t p aim.at.actor aim.at.entity aim.value m g
 
-pub answer_only : (n a : ℕ) (t : TableState) (p : Plan) (peer : Plain) → Moves a t p
-    → AreGood n a p → OnlySays n a t p (answer_to peer p)
-answer_only n a t p peer m g = say_at_only n a t p (aim_at (boolean true) peer) m g
+pub answer_only : (ds : List Definition) (n a : ℕ) (t : TableState) (p : Plan) (peer : Plain) → Moves a t p
+    → AreGood n a p → OnlySays n a t p (answer_to ds peer p)
+answer_only ds n a t p peer m g = say_at_only n a t p (aim_at ds (boolean true) peer) m g
 
-pub say_all_only : (n a : ℕ) (t : TableState) (p : Plan) (fs : List Fanned) → Moves a t p
-    → AreGood n a p → OnlySays n a t p (say_all fs p)
-say_all_only n a t p [] m g = record { moves = m; good = g; same = refl }
-say_all_only n a t p (f ∷ fs) m g =
-    let aim : Option Aim = aim_for (sequence (plains f.captures)) f.observe in
+pub say_all_only : (ds : List Definition) (n a : ℕ) (t : TableState) (p : Plan) (fs : List Fanned) → Moves a t p
+    → AreGood n a p → OnlySays n a t p (say_all ds fs p)
+say_all_only ds n a t p [] m g = record { moves = m; good = g; same = refl }
+say_all_only ds n a t p (f ∷ fs) m g =
+    let aim : Option Aim = aim_for ds (sequence (plains f.captures)) f.observe in
     let one = say_at_only n a t p aim m g in
     let next : Plan = say_at aim p in
-    let rest = say_all_only n a t next fs one.moves one.good in
+    let rest = say_all_only ds n a t next fs one.moves one.good in
     record { moves = rest.moves; good = rest.good; same = rest.same ∙ one.same }

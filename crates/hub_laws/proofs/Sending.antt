@@ -10,6 +10,7 @@ use Rattle.std.proofs.lemmas.List.{map-append}
 use Rattle.pv_value.specs.Plain.{embedded}
 use Rattle.pv_value.specs.Plain.{Plain}
 use Rattle.gk_sturdy.specs.declared.bound.Binding.{Binding}
+use Rattle.ps_schema.specs.declared.Definition.{Definition}
 use Rattle.ac_table.specs.declared.batches.Event.{Event}
 use Rattle.ac_table.specs.declared.batches.Event.TheVariants.{Assert, Retract, Message, Sync}
 use Rattle.ac_table.specs.declared.batches.Batch.{Batch}
@@ -412,7 +413,7 @@ abbrev pub HubsFrom : State → Type 0
 HubsFrom s = (steps : List Step) → AreAllowed s steps → IsHub [] (run_from s steps)
 
 abbrev pub HubAfter : Type 0
-HubAfter = HubsFrom opening
+HubAfter = (ds : List Definition) → HubsFrom (opening ds)
 
 run_sent : (k : ℕ) (steps : List Step) (es : List TurnEvent) (s : State) → HubsFrom s → AreAllowed s steps
     → AreSent k es s → AreSent k (es ++ flat_map events_in (sent_from s k steps)) (run_from s steps)
@@ -429,30 +430,30 @@ run_sent k (e ∷ steps) es s hubs allowed sent =
     (run_sent k steps (es ++ now) t hubs_later allowed.1 (step_sent k e es s (hubs [] tt) sent))
 
 -- no connection is live when all begins
-sent_first : (k : ℕ) → IsSound [] opening.world → AreSent k [] opening
-sent_first k sound = record {
+sent_first : (ds : List Definition) (k : ℕ) → IsSound [] (opening ds).world → AreSent k [] (opening ds)
+sent_first ds k sound = record {
   none = λ before. refl;
   live = λ x found.
-      let lives : is_live (actor_of k) opening.world.table ≡ true = ap is_some found in
+      let lives : is_live (actor_of k) (opening ds).world.table ≡ true = ap is_some found in
       let low : actor_of k ≤ 16 + 0 = sound.numbers (actor_of k) lives in
-      absurd (omega (arith, low, is_far [] opening.world k sound lives));
+      absurd (omega (arith, low, is_far [] (opening ds).world k sound lives));
 }
 
 pub holdings_hold : HubAfter → Holdings
-holdings_hold hubs k steps allowed lives = by (find_actor (actor_of k) s.world.table.actors) refl lives
+holdings_hold hubs ds k steps allowed lives = by (find_actor (actor_of k) s.world.table.actors) refl lives
   where
     s : State
-    s = replay steps
+    s = replay ds steps
 
-    all : AreSent k (flat_map events_in (sent_to k steps)) s
-    all = run_sent k steps [] opening hubs allowed (sent_first k (hubs [] tt).sound)
+    all : AreSent k (flat_map events_in (sent_to ds k steps)) s
+    all = run_sent k steps [] (opening ds) (hubs ds) allowed (sent_first ds k (hubs ds [] tt).sound)
 
     -- a live connection's exports are those kept for it
     kept_now : exports_kept k s ≡ exports_of k s
     kept_now = ap (λ c. exports_in (cond c (entry_of k s.connections) None)) (sym lives)
 
     by : (o : Option Actor) → find_actor (actor_of k) s.world.table.actors ≡ o → is_some o ≡ true
-        → AreWhatItGot (exports_of k s) k (held_by (actor_of k) s.world) (held (sent_to k steps))
+        → AreWhatItGot (exports_of k s) k (held_by (actor_of k) s.world) (held (sent_to ds k steps))
     by None found live = absurd cc
     by (Some x) found live =
         let t = all.live x found in

@@ -196,7 +196,8 @@ after_stays k a turned.Idle s apart = stays_not k s
 after_stays k a turned.Gone s apart = fault_stays k a (fault_for a s) s
 
 -- no batch is taken by a system actor
-pub taken_by_connection : (a : ℕ) (w : WorldState) (b : Batch) → (turn a w).turned ≡ turned.Taken b → is_system a ≡ false
+pub taken_by_connection : (a : ℕ) (w : WorldState) (b : Batch) → (turn a w).turned ≡ turned.Taken b
+    → is_system a ≡ false
 taken_by_connection a w b = by (is_live a w.table) (first_batch a w.table)
   where
     none : TurnOf

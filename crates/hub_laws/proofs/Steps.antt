@@ -95,11 +95,12 @@ bound_sound b w none k = record {
         ap (λ (t : TableState). find_row h t.rows) (sym (k.fresh none).table) ∙ found in
         cc
 
-    met : (a : ℕ) → IsMet (behaviour_of w.bindings a) a (resident_of a w) w.table.rows
-        → IsMet (behaviour_of (with_binding b w.bindings) a) a (resident_of a w) w.table.rows
+    met : (a : ℕ) → IsMet (behaviour_of w.schema w.bindings a) a (resident_of a w) w.table.rows
+        → IsMet (behaviour_of w.schema (with_binding b w.bindings) a) a (resident_of a w) w.table.rows
     met zero m =
-        subst (λ (r : Resident). IsMet (gatekeeper (with_binding b w.bindings)) 0 r w.table.rows) (sym fresh_resident)
-        (no_wants_met (gatekeeper (with_binding b w.bindings)) refl 0 w.table.rows no_rows)
+        subst (λ (r : Resident). IsMet (gatekeeper w.schema (with_binding b w.bindings)) 0 r w.table.rows)
+        (sym fresh_resident)
+        (no_wants_met (gatekeeper w.schema (with_binding b w.bindings)) refl 0 w.table.rows no_rows)
     met (suc a) m = m
 
 bind_hub : (c : Bool) (b : Binding) (s : State) → is_barred b s ≡ c → IsHub [] s → IsHub [] (bind_unless c b s).state

@@ -18,6 +18,7 @@ use Rattle.ds_space.specs.Wants.{observer_of, captured, key_of, is_key, gives, w
 use Rattle.ds_space.specs.Lemmas.Keys.{same_is, same_self, or_false, any_same, any_flat, any_none}
 use Rattle.ds_space.specs.Lemmas.Lists.{wants_ascend, among_wants, in_order}
 use Rattle.gk_sturdy.specs.declared.bound.Binding.{Binding}
+use Rattle.ps_schema.specs.declared.Definition.{Definition}
 use Rattle.ac_world.specs.declared.aims.Aim.{Aim}
 use Rattle.ac_world.specs.Worlds.{actor_of}
 use Rattle.ac_world.specs.Behaviours.{Behaviour, answer_for, asks, dataspace, gatekeeper}
@@ -102,69 +103,70 @@ abbrev key_with : Plain → Plain → Plain
 key_with o c = sequence (plains (o ∷ c ∷ []))
 
 -- whether a list of captures gets through a reference to an object of actor a
-abbrev gets_to : ℕ → Plain → Plain → Bool
-gets_to a r c = is_at_actor a (aim_at c r)
+abbrev gets_to : List Definition → ℕ → Plain → Plain → Bool
+gets_to ds a r c = is_at_actor a (aim_at ds c r)
 
-abbrev keys_told : ℕ → List Plain → Plain → Option Plain → Option Pattern → List Plain
-keys_told a vs o (Some r) (Some p) = map (key_with o) (filter (gets_to a r) (distinct (captures_by p vs)))
-keys_told a vs o (Some r) None = []
-keys_told a vs o None p = []
+abbrev keys_told : List Definition → ℕ → List Plain → Plain → Option Plain → Option Pattern → List Plain
+keys_told ds a vs o (Some r) (Some p) = map (key_with o) (filter (gets_to ds a r) (distinct (captures_by p vs)))
+keys_told ds a vs o (Some r) None = []
+keys_told ds a vs o None p = []
 
-abbrev told_of : ℕ → List Plain → Plain → List Plain
-told_of a vs o = keys_told a vs o (observer_in o) (observer_of o)
+abbrev told_of : List Definition → ℕ → List Plain → Plain → List Plain
+told_of ds a vs o = keys_told ds a vs o (observer_in o) (observer_of o)
 
-abbrev all_told : ℕ → List Plain → List Plain
-all_told a vs = flat_map (told_of a vs) (distinct vs)
+abbrev all_told : List Definition → ℕ → List Plain → List Plain
+all_told ds a vs = flat_map (told_of ds a vs) (distinct vs)
 
 -- the keys of these lists of captures are told as the pairs of what gets through
-abbrev AreTold : List Plain → ℕ → Plain → Plain → List Plain → Type 0
-AreTold exports n o r cs = map (pair_by dataspace exports n) (map (key_with o) (filter (gets_to (actor_of n) r) cs))
-    ≡ flat_map (λ c. pair_aimed exports n (aim_at c r)) cs
+abbrev AreTold : List Definition → List Plain → ℕ → Plain → Plain → List Plain → Type 0
+AreTold ds exports n o r cs =
+    map (pair_by (dataspace ds) exports n) (map (key_with o) (filter (gets_to ds (actor_of n) r) cs))
+    ≡ flat_map (λ c. pair_aimed exports n (aim_at ds c r)) cs
 
 -- each is told as its pair
-pairs_told : (exports : List Plain) (n : ℕ) (vs : List Plain) (o : Plain)
-    → map (pair_by dataspace exports n) (told_of (actor_of n) vs o)
-    ≡ told_by exports n vs (observer_in o) (observer_of o)
-pairs_told exports n vs o = by (observer_in o) (observer_of o) refl
+pairs_told : (ds : List Definition) (exports : List Plain) (n : ℕ) (vs : List Plain) (o : Plain)
+    → map (pair_by (dataspace ds) exports n) (told_of ds (actor_of n) vs o)
+    ≡ told_by ds exports n vs (observer_in o) (observer_of o)
+pairs_told ds exports n vs o = by (observer_in o) (observer_of o) refl
   where
     -- the key of a list of captures, where it gets through
-    key_pair : (r c : Plain) (aim : Aim) → observer_in o ≡ Some r → aim_at c r ≡ Some aim
-        → pair_by dataspace exports n (key_with o c) ≡ pair_at exports n aim.at.entity aim.value
+    key_pair : (r c : Plain) (aim : Aim) → observer_in o ≡ Some r → aim_at ds c r ≡ Some aim
+        → pair_by (dataspace ds) exports n (key_with o c) ≡ pair_at exports n aim.at.entity aim.value
     key_pair r c aim is gets =
-        ap (pair_or exports n (key_with o c)) (ap (λ q. option_and_then (aim_at c) q) is ∙ gets)
+        ap (pair_or exports n (key_with o c)) (ap (λ q. option_and_then (aim_at ds c) q) is ∙ gets)
 
-    here : (r c : Plain) (cs : List Plain) (aim : Aim) (b : Bool) → observer_in o ≡ Some r → aim_at c r ≡ Some aim
-        → AreTold exports n o r cs
-        → map (pair_by dataspace exports n) (map (key_with o)
-        (cond b (c ∷ filter (gets_to (actor_of n) r) cs) (filter (gets_to (actor_of n) r) cs)))
+    here : (r c : Plain) (cs : List Plain) (aim : Aim) (b : Bool) → observer_in o ≡ Some r → aim_at ds c r ≡ Some aim
+        → AreTold ds exports n o r cs
+        → map (pair_by (dataspace ds) exports n) (map (key_with o)
+        (cond b (c ∷ filter (gets_to ds (actor_of n) r) cs) (filter (gets_to ds (actor_of n) r) cs)))
         ≡ cond b (pair_at exports n aim.at.entity aim.value ∷ []) []
-        ++ flat_map (λ c. pair_aimed exports n (aim_at c r)) cs
+        ++ flat_map (λ c. pair_aimed exports n (aim_at ds c r)) cs
     here r c cs aim true is gets rest = λ i. key_pair r c aim is gets i ∷ rest i
     here r c cs aim false is gets rest = rest
 
-    aimed : (r c : Plain) (cs : List Plain) (q : Option Aim) → observer_in o ≡ Some r → aim_at c r ≡ q
-        → AreTold exports n o r cs
-        → map (pair_by dataspace exports n) (map (key_with o)
-        (cond (is_at_actor (actor_of n) q) (c ∷ filter (gets_to (actor_of n) r) cs)
-        (filter (gets_to (actor_of n) r) cs)))
-        ≡ pair_aimed exports n q ++ flat_map (λ c. pair_aimed exports n (aim_at c r)) cs
+    aimed : (r c : Plain) (cs : List Plain) (q : Option Aim) → observer_in o ≡ Some r → aim_at ds c r ≡ q
+        → AreTold ds exports n o r cs
+        → map (pair_by (dataspace ds) exports n) (map (key_with o)
+        (cond (is_at_actor (actor_of n) q) (c ∷ filter (gets_to ds (actor_of n) r) cs)
+        (filter (gets_to ds (actor_of n) r) cs)))
+        ≡ pair_aimed exports n q ++ flat_map (λ c. pair_aimed exports n (aim_at ds c r)) cs
     aimed r c cs None is gets rest = rest
     aimed r c cs (Some aim) is gets rest = here r c cs aim (aim.at.actor == actor_of n) is gets rest
 
-    each : (r : Plain) (cs : List Plain) → observer_in o ≡ Some r → AreTold exports n o r cs
+    each : (r : Plain) (cs : List Plain) → observer_in o ≡ Some r → AreTold ds exports n o r cs
     each r [] is = refl
-    each r (c ∷ cs) is = aimed r c cs (aim_at c r) is refl (each r cs is)
+    each r (c ∷ cs) is = aimed r c cs (aim_at ds c r) is refl (each r cs is)
 
     by : (r : Option Plain) (p : Option Pattern) → observer_in o ≡ r
-        → map (pair_by dataspace exports n) (keys_told (actor_of n) vs o r p) ≡ told_by exports n vs r p
+        → map (pair_by (dataspace ds) exports n) (keys_told ds (actor_of n) vs o r p) ≡ told_by ds exports n vs r p
     by None p is = refl
     by (Some r) None is = refl
     by (Some r) (Some p) is = each r (distinct (captures_by p vs)) is
 
 -- none is told twice
-told_apart : (a : ℕ) (vs : List Plain) → IsDistinct same (all_told a vs)
-told_apart a vs =
-    distinct_flat same same (eq_by_cmp_equiv order_total) (told_of a vs)
+told_apart : (ds : List Definition) (a : ℕ) (vs : List Plain) → IsDistinct same (all_told ds a vs)
+told_apart ds a vs =
+    distinct_flat same same (eq_by_cmp_equiv order_total) (told_of ds a vs)
     (λ o. parts o (observer_in o) (observer_of o))
     (λ o q k in_o in_q. one_observation o q k (names o k (observer_in o) (observer_of o) in_o)
     (names q k (observer_in q) (observer_of q) in_q))
@@ -178,13 +180,13 @@ told_apart a vs =
         let yes : same c d ≡ true = subst (λ z. same c z ≡ true) one (same_self c) in
         absurd cc
 
-    parts : (o : Plain) (r : Option Plain) (p : Option Pattern) → IsDistinct same (keys_told a vs o r p)
+    parts : (o : Plain) (r : Option Plain) (p : Option Pattern) → IsDistinct same (keys_told ds a vs o r p)
     parts o None p = distinct_none same
     parts o (Some r) None = distinct_none same
     parts o (Some r) (Some p) =
         distinct_map same same (key_with o) (λ c d other. other_key o c d other _ refl)
-        (filter (gets_to a r) (distinct (captures_by p vs)))
-        (distinct_filter same (gets_to a r) (distinct (captures_by p vs)) (distinct_apart (captures_by p vs)))
+        (filter (gets_to ds a r) (distinct (captures_by p vs)))
+        (distinct_filter same (gets_to ds a r) (distinct (captures_by p vs)) (distinct_apart (captures_by p vs)))
 
     some_key : (o k : Plain) (cs : List Plain) → among k (map (key_with o) cs) ≡ true
         → (c : Plain) × (k ≡ key_with o c)
@@ -197,11 +199,11 @@ told_apart a vs =
         by true here is later = (c, same_is k (key_with o c) here)
         by false here is later = later is
 
-    names : (o k : Plain) (r : Option Plain) (p : Option Pattern) → among k (keys_told a vs o r p) ≡ true
+    names : (o k : Plain) (r : Option Plain) (p : Option Pattern) → among k (keys_told ds a vs o r p) ≡ true
         → (c : Plain) × (k ≡ key_with o c)
     names o k None p is = absurd cc
     names o k (Some r) None is = absurd cc
-    names o k (Some r) (Some p) is = some_key o k (filter (gets_to a r) (distinct (captures_by p vs))) is
+    names o k (Some r) (Some p) is = some_key o k (filter (gets_to ds a r) (distinct (captures_by p vs))) is
 
     one_observation : (o q k : Plain) → (c : Plain) × (k ≡ key_with o c) → (c : Plain) × (k ≡ key_with q c)
         → same o q ≡ true
@@ -217,30 +219,30 @@ and_false true = refl
 and_false false = refl
 
 -- a key that is given by what observes nothing goes nowhere
-goes_nowhere : (a : ℕ) (k o : Plain) (found : Option (List Plain)) → observer_in o ≡ None
-    → (goes_to dataspace a k && is_key k o found) ≡ false
-goes_nowhere a k o None none = and_false (goes_to dataspace a k)
-goes_nowhere a k o (Some cs) none = by (same k (key_of o cs)) refl
+goes_nowhere : (ds : List Definition) (a : ℕ) (k o : Plain) (found : Option (List Plain)) → observer_in o ≡ None
+    → (goes_to (dataspace ds) a k && is_key k o found) ≡ false
+goes_nowhere ds a k o None none = and_false (goes_to (dataspace ds) a k)
+goes_nowhere ds a k o (Some cs) none = by (same k (key_of o cs)) refl
   where
-    by : (b : Bool) → same k (key_of o cs) ≡ b → (goes_to dataspace a k && b) ≡ false
+    by : (b : Bool) → same k (key_of o cs) ≡ b → (goes_to (dataspace ds) a k && b) ≡ false
     by true is =
-        ap (λ z. goes_to dataspace a z && true) (same_is k (key_of o cs) is)
-        ∙ ap (λ q. is_at_actor a (option_and_then (aim_at (sequence (plains cs))) q) && true) none
-    by false is = and_false (goes_to dataspace a k)
+        ap (λ z. goes_to (dataspace ds) a z && true) (same_is k (key_of o cs) is)
+        ∙ ap (λ q. is_at_actor a (option_and_then (aim_at ds (sequence (plains cs))) q) && true) none
+    by false is = and_false (goes_to (dataspace ds) a k)
 
 -- of an observation's keys those are told that go to the actor
-told_keys : (a : ℕ) (o r : Plain) (cs : List Plain) → observer_in o ≡ Some r
-    → map (key_with o) (filter (gets_to a r) cs) ≡ filter (goes_to dataspace a) (map (key_with o) cs)
-told_keys a o r [] is = refl
-told_keys a o r (c ∷ cs) is = by (gets_to a r c) goes (told_keys a o r cs is)
+told_keys : (ds : List Definition) (a : ℕ) (o r : Plain) (cs : List Plain) → observer_in o ≡ Some r
+    → map (key_with o) (filter (gets_to ds a r) cs) ≡ filter (goes_to (dataspace ds) a) (map (key_with o) cs)
+told_keys ds a o r [] is = refl
+told_keys ds a o r (c ∷ cs) is = by (gets_to ds a r c) goes (told_keys ds a o r cs is)
   where
-    goes : goes_to dataspace a (key_with o c) ≡ gets_to a r c
-    goes = ap (λ q. is_at_actor a (option_and_then (aim_at c) q)) is
+    goes : goes_to (dataspace ds) a (key_with o c) ≡ gets_to ds a r c
+    goes = ap (λ q. is_at_actor a (option_and_then (aim_at ds c) q)) is
 
-    by : (b : Bool) → goes_to dataspace a (key_with o c) ≡ b
-        → map (key_with o) (filter (gets_to a r) cs) ≡ filter (goes_to dataspace a) (map (key_with o) cs)
-        → map (key_with o) (cond b (c ∷ filter (gets_to a r) cs) (filter (gets_to a r) cs))
-        ≡ filter (goes_to dataspace a) (key_with o c ∷ map (key_with o) cs)
+    by : (b : Bool) → goes_to (dataspace ds) a (key_with o c) ≡ b
+        → map (key_with o) (filter (gets_to ds a r) cs) ≡ filter (goes_to (dataspace ds) a) (map (key_with o) cs)
+        → map (key_with o) (cond b (c ∷ filter (gets_to ds a r) cs) (filter (gets_to ds a r) cs))
+        ≡ filter (goes_to (dataspace ds) a) (key_with o c ∷ map (key_with o) cs)
     by true here rest = rw here (ap (λ l. key_with o c ∷ l) rest)
     by false here rest = rw here rest
 
@@ -268,9 +270,9 @@ captures_give vs o k p is =
     one None = refl
     one (Some cs) = or_false (same k (key_of o cs))
 
-told_where : (a : ℕ) (vs : List Plain) (o k : Plain)
-    → among k (told_of a vs o) ≡ (goes_to dataspace a k && list_any (gives k o) vs)
-told_where a vs o k = by (observer_in o) (observer_of o) refl refl
+told_where : (ds : List Definition) (a : ℕ) (vs : List Plain) (o k : Plain)
+    → among k (told_of ds a vs o) ≡ (goes_to (dataspace ds) a k && list_any (gives k o) vs)
+told_where ds a vs o k = by (observer_in o) (observer_of o) refl refl
   where
     none : observer_of o ≡ None → list_any (gives k o) vs ≡ false
     none is =
@@ -278,95 +280,97 @@ told_where a vs o k = by (observer_in o) (observer_of o) refl refl
         (λ v. ap (λ (q : Option Pattern). is_key k o (option_and_then (λ p. matched p v) q)) is)
 
     by : (r : Option Plain) (p : Option Pattern) → observer_in o ≡ r → observer_of o ≡ p
-        → among k (keys_told a vs o r p) ≡ (goes_to dataspace a k && list_any (gives k o) vs)
+        → among k (keys_told ds a vs o r p) ≡ (goes_to (dataspace ds) a k && list_any (gives k o) vs)
     by None p nobody is =
-        sym (sym (any_and (goes_to dataspace a k) (gives k o) vs)
-        ∙ any_none _ vs (λ v. goes_nowhere a k o (captured o v) nobody))
-    by (Some r) None there is = sym (ap (λ b. goes_to dataspace a k && b) (none is) ∙ and_false (goes_to dataspace a k))
+        sym (sym (any_and (goes_to (dataspace ds) a k) (gives k o) vs)
+        ∙ any_none _ vs (λ v. goes_nowhere ds a k o (captured o v) nobody))
+    by (Some r) None there is =
+        sym (ap (λ b. goes_to (dataspace ds) a k && b) (none is) ∙ and_false (goes_to (dataspace ds) a k))
     by (Some r) (Some p) there is =
-        ap (among k) (told_keys a o r (distinct (captures_by p vs)) there)
-        ∙ any-filter_same (same k) (goes_to dataspace a) (goes_to dataspace a k)
-        (λ q e. ap (goes_to dataspace a) (sym (same_is k q e)))
+        ap (among k) (told_keys ds a o r (distinct (captures_by p vs)) there)
+        ∙ any-filter_same (same k) (goes_to (dataspace ds) a) (goes_to (dataspace ds) a k)
+        (λ q e. ap (goes_to (dataspace ds) a) (sym (same_is k q e)))
         (map (key_with o) (distinct (captures_by p vs)))
-        ∙ ap (λ b. goes_to dataspace a k && b) (captures_give vs o k p is)
+        ∙ ap (λ b. goes_to (dataspace ds) a k && b) (captures_give vs o k p is)
 
 -- the keys that are wanted at the actor are those that are told
-told_wanted : (a : ℕ) (vs : List Plain) (k : Plain)
-    → among k (filter (goes_to dataspace a) (wants vs)) ≡ among k (all_told a vs)
-told_wanted a vs k =
-    any-filter_same (same k) (goes_to dataspace a) (goes_to dataspace a k)
-    (λ q e. ap (goes_to dataspace a) (sym (same_is k q e))) (wants vs)
-    ∙ ap (λ b. goes_to dataspace a k && b) (among_wants k vs)
-    ∙ sym (any_flat (same k) (told_of a vs) (distinct vs)
-    ∙ distinct_any (λ o. among k (told_of a vs o)) vs
-    ∙ any_same _ _ vs (λ o. told_where a vs o k)
-    ∙ any_and (goes_to dataspace a k) (λ o. list_any (gives k o) vs) vs)
+told_wanted : (ds : List Definition) (a : ℕ) (vs : List Plain) (k : Plain)
+    → among k (filter (goes_to (dataspace ds) a) (wants vs)) ≡ among k (all_told ds a vs)
+told_wanted ds a vs k =
+    any-filter_same (same k) (goes_to (dataspace ds) a) (goes_to (dataspace ds) a k)
+    (λ q e. ap (goes_to (dataspace ds) a) (sym (same_is k q e))) (wants vs)
+    ∙ ap (λ b. goes_to (dataspace ds) a k && b) (among_wants k vs)
+    ∙ sym (any_flat (same k) (told_of ds a vs) (distinct vs)
+    ∙ distinct_any (λ o. among k (told_of ds a vs o)) vs
+    ∙ any_same _ _ vs (λ o. told_where ds a vs o k)
+    ∙ any_and (goes_to (dataspace ds) a k) (λ o. list_any (gives k o) vs) vs)
 
-pub wants_are_told : (exports : List Plain) (n : ℕ) (vs : List Plain)
-    → IsPermutation (map (pair_by dataspace exports n) (filter (goes_to dataspace (actor_of n)) (wants vs)))
-    (told_over exports n vs)
-wants_are_told exports n vs =
-    subst (IsPermutation (map (pair_by dataspace exports n) (filter (goes_to dataspace (actor_of n)) (wants vs))))
-    (map_flat (pair_by dataspace exports n) (told_of (actor_of n) vs) (distinct vs)
+pub wants_are_told : (ds : List Definition) (exports : List Plain) (n : ℕ) (vs : List Plain)
+    → IsPermutation (map (pair_by (dataspace ds) exports n) (filter (goes_to (dataspace ds) (actor_of n)) (wants vs)))
+    (told_over ds exports n vs)
+wants_are_told ds exports n vs =
+    subst (IsPermutation (map (pair_by (dataspace ds) exports n) (filter (goes_to (dataspace ds) (actor_of n))
+    (wants vs))))
+    (map_flat (pair_by (dataspace ds) exports n) (told_of ds (actor_of n) vs) (distinct vs)
     ∙ flat_alike _ _ (distinct vs) (each (distinct vs)))
-    (IsPermutation-map (pair_by dataspace exports n) (filter (goes_to dataspace (actor_of n)) (wants vs))
-    (all_told (actor_of n) vs)
-    (same_members same (eq_by_cmp_equiv order_total) same_is (filter (goes_to dataspace (actor_of n)) (wants vs))
-    (all_told (actor_of n) vs)
-    (distinct_filter same (goes_to dataspace (actor_of n)) (wants vs)
+    (IsPermutation-map (pair_by (dataspace ds) exports n) (filter (goes_to (dataspace ds) (actor_of n)) (wants vs))
+    (all_told ds (actor_of n) vs)
+    (same_members same (eq_by_cmp_equiv order_total) same_is (filter (goes_to (dataspace ds) (actor_of n)) (wants vs))
+    (all_told ds (actor_of n) vs)
+    (distinct_filter same (goes_to (dataspace ds) (actor_of n)) (wants vs)
     (IsDistinct-from_sorted order (wants vs) (wants_ascend vs)))
-    (told_apart (actor_of n) vs) (told_wanted (actor_of n) vs)))
+    (told_apart ds (actor_of n) vs) (told_wanted ds (actor_of n) vs)))
   where
     each : (os : List Plain)
         → AllByRecursion
-        (λ o. map (pair_by dataspace exports n) (told_of (actor_of n) vs o)
-        ≡ told_by exports n vs (observer_in o) (observer_of o)) os
+        (λ o. map (pair_by (dataspace ds) exports n) (told_of ds (actor_of n) vs o)
+        ≡ told_by ds exports n vs (observer_in o) (observer_of o)) os
     each [] = tt
-    each (o ∷ os) = (pairs_told exports n vs o, each os)
+    each (o ∷ os) = (pairs_told ds exports n vs o, each os)
 
 -- ---- what the gatekeeper replies
 
-module _ (exports : List Plain) (n : ℕ) (bs : List Binding) where
+module _ (ds : List Definition) (exports : List Plain) (n : ℕ) (bs : List Binding) where
   abbrev to_here : Plain → Bool
-  to_here k = goes_to (gatekeeper bs) (actor_of n) k
+  to_here k = goes_to (gatekeeper ds bs) (actor_of n) k
 
   -- of the distinct values those that ask and whose reply goes to the connection
   abbrev replied : List Plain → List Plain
   replied vs = filter to_here (filter asks vs)
 
   reply_pairs : (vs : List Plain)
-      → map (pair_by (gatekeeper bs) exports n) (replied vs) ≡ flat_map (told_reply exports n bs) vs
+      → map (pair_by (gatekeeper ds bs) exports n) (replied vs) ≡ flat_map (told_reply ds exports n bs) vs
   reply_pairs [] = refl
-  reply_pairs (v ∷ vs) = by (asks v) (answer_for bs v) refl (reply_pairs vs)
+  reply_pairs (v ∷ vs) = by (asks v) (answer_for ds bs v) refl (reply_pairs vs)
     where
-      here : (aim : Aim) (c : Bool) → answer_for bs v ≡ Some aim
-          → map (pair_by (gatekeeper bs) exports n) (replied vs) ≡ flat_map (told_reply exports n bs) vs
-          → map (pair_by (gatekeeper bs) exports n) (cond c (v ∷ replied vs) (replied vs))
-          ≡ cond c (pair_at exports n aim.at.entity aim.value ∷ []) [] ++ flat_map (told_reply exports n bs) vs
+      here : (aim : Aim) (c : Bool) → answer_for ds bs v ≡ Some aim
+          → map (pair_by (gatekeeper ds bs) exports n) (replied vs) ≡ flat_map (told_reply ds exports n bs) vs
+          → map (pair_by (gatekeeper ds bs) exports n) (cond c (v ∷ replied vs) (replied vs))
+          ≡ cond c (pair_at exports n aim.at.entity aim.value ∷ []) [] ++ flat_map (told_reply ds exports n bs) vs
       here aim true is rest = λ i. pair_or exports n v (is i) ∷ rest i
       here aim false is rest = rest
 
-      by : (b : Bool) (o : Option Aim) → answer_for bs v ≡ o
-          → map (pair_by (gatekeeper bs) exports n) (replied vs) ≡ flat_map (told_reply exports n bs) vs
-          → map (pair_by (gatekeeper bs) exports n) (filter to_here (cond b (v ∷ filter asks vs) (filter asks vs)))
-          ≡ cond b (pair_aimed exports n (answer_for bs v)) [] ++ flat_map (told_reply exports n bs) vs
+      by : (b : Bool) (o : Option Aim) → answer_for ds bs v ≡ o
+          → map (pair_by (gatekeeper ds bs) exports n) (replied vs) ≡ flat_map (told_reply ds exports n bs) vs
+          → map (pair_by (gatekeeper ds bs) exports n) (filter to_here (cond b (v ∷ filter asks vs) (filter asks vs)))
+          ≡ cond b (pair_aimed exports n (answer_for ds bs v)) [] ++ flat_map (told_reply ds exports n bs) vs
       by false o is rest = rest
       by true None is rest = rw is rest
       by true (Some aim) is rest = rw is (here aim (aim.at.actor == actor_of n) is rest)
 
   pub keys_are_replied : (vs : List Plain)
       → IsPermutation
-      (map (pair_by (gatekeeper bs) exports n) (filter to_here ((gatekeeper bs).keys vs)))
-      (told_replies exports n bs vs)
+      (map (pair_by (gatekeeper ds bs) exports n) (filter to_here ((gatekeeper ds bs).keys vs)))
+      (told_replies ds exports n bs vs)
   keys_are_replied vs =
-      subst (IsPermutation (map (pair_by (gatekeeper bs) exports n) (filter to_here ((gatekeeper bs).keys vs))))
+      subst (IsPermutation (map (pair_by (gatekeeper ds bs) exports n) (filter to_here ((gatekeeper ds bs).keys vs))))
       (reply_pairs (distinct vs))
-      (IsPermutation-map (pair_by (gatekeeper bs) exports n) (filter to_here ((gatekeeper bs).keys vs))
+      (IsPermutation-map (pair_by (gatekeeper ds bs) exports n) (filter to_here ((gatekeeper ds bs).keys vs))
       (replied (distinct vs))
-      (same_members same (eq_by_cmp_equiv order_total) same_is (filter to_here ((gatekeeper bs).keys vs))
+      (same_members same (eq_by_cmp_equiv order_total) same_is (filter to_here ((gatekeeper ds bs).keys vs))
       (replied (distinct vs))
-      (distinct_filter same to_here ((gatekeeper bs).keys vs)
-      (IsDistinct-from_sorted order ((gatekeeper bs).keys vs) (in_order (filter asks vs))))
+      (distinct_filter same to_here ((gatekeeper ds bs).keys vs)
+      (IsDistinct-from_sorted order ((gatekeeper ds bs).keys vs) (in_order (filter asks vs))))
       (distinct_filter same to_here (filter asks (distinct vs))
       (distinct_filter same asks (distinct vs) (distinct_apart vs)))
       members))
@@ -375,9 +379,9 @@ module _ (exports : List Plain) (n : ℕ) (bs : List Binding) where
       picks p k ks = any-filter_same (same k) p (p k) (λ q e. ap p (sym (same_is k q e))) ks
 
       members : (k : Plain)
-          → among k (filter to_here ((gatekeeper bs).keys vs)) ≡ among k (replied (distinct vs))
+          → among k (filter to_here ((gatekeeper ds bs).keys vs)) ≡ among k (replied (distinct vs))
       members k =
-          picks to_here k ((gatekeeper bs).keys vs) ∙ ap (λ b. to_here k && b) (among_asked k vs)
+          picks to_here k ((gatekeeper ds bs).keys vs) ∙ ap (λ b. to_here k && b) (among_asked k vs)
           ∙ sym (picks to_here k (filter asks (distinct vs))
           ∙ ap (λ b. to_here k && b) (picks asks k (distinct vs)
           ∙ ap (λ b. asks k && b) (distinct_any (same k) vs)))

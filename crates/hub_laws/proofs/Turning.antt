@@ -316,9 +316,9 @@ turned_by_runs y n a from t full u (Retract h entity) rest set fits s r =
 turned_by_runs y n a from t full u (Message entity v) rest set fits s r =
     either_runs y n a t full _ _ _ (message_passed y n a from _ t full u r)
     (says_runs y n a t full u _
-    (say_all_only n a t u.plan (y.fan (values_of u.resident.got) v) r.moves r.good) r)
+    (say_all_only y.schema n a t u.plan (y.fan (values_of u.resident.got) v) r.moves r.good) r)
 turned_by_runs y n a from t full u (Sync entity peer) rest set fits s r =
-    says_runs y n a t full u _ (answer_only n a t u.plan peer r.moves r.good) r
+    says_runs y n a t full u _ (answer_only y.schema n a t u.plan peer r.moves r.good) r
 
 all_turned_runs : (y : Behaviour) (n a from : ℕ) (t : TableState) (full : Rows) (u : Turning)
     (es : List Event) → IsSet y n a from t → AllByRecursion (FitsEvent n t.rows a from) es

@@ -142,14 +142,14 @@ waits_after a w b k is none =
     cc
 
 abbrev pub turning_of : ℕ → Batch → WorldState → Turning
-turning_of a b w = all_turned (behaviour_of w.bindings a) a b.from b.events (begin_turn a (without_first a w))
+turning_of a b w = all_turned (behaviour_of w.schema w.bindings a) a b.from b.events (begin_turn a (without_first a w))
 
 abbrev pub system_after : ℕ → Batch → WorldState → WorldState
 system_after a b w = record (without_first a w) { residents = with_entry a (turning_of a b w).resident w.residents }
 
 pub system_runs : (a : ℕ) (b : Batch) (w : WorldState) → IsSound [] w → is_system a ≡ true
     → a < 9 → first_batch a w.table ≡ Some b
-    → Runs (behaviour_of w.bindings a) (16 + w.opened) a (popped a w.table)
+    → Runs (behaviour_of w.schema w.bindings a) (16 + w.opened) a (popped a w.table)
     (took_all value_alone b.events (resident_of a w).got) (turning_of a b w)
 system_runs a b w k system low is =
     let x = has_first a w.table b is in
@@ -160,7 +160,8 @@ system_runs a b w k system low is =
     (subst (IsStrictlySortedBy nat_cmp)
     (ap (λ hs. keys_of (resident_of a w).got ++ hs) (made_in-append b.events (events_of x.rest))
     ∙ sym (append_assoc (keys_of (resident_of a w).got) (made_in b.events) (made_in (events_of x.rest)))) log.0) in
-    turn_runs (behaviour_of w.bindings a) (lawful w.bindings a) (16 + w.opened) a b.from (popped a w.table)
+    turn_runs (behaviour_of w.schema w.bindings a) (lawful w.schema w.bindings a) (16 + w.opened) a b.from
+    (popped a w.table)
     (resident_of a w).got (begin_turn a (without_first a w)) b.events
     low (omega arith) (table-popped a w.table k.table)
     (live-popped a a w.table ∙ k.always a low)
@@ -258,7 +259,7 @@ system_planned a b w k system low is =
       numbers = λ c live. k.numbers c (sym (live-popped a c w.table) ∙ live);
       served = system_served (actors_in u.spreads) a b w u.resident k system low is r.near
           (λ rest log.
-          system_log (behaviour_of w.bindings a) a w.table.next b rest (begin_turn a (without_first a w)) log);
+          system_log (behaviour_of w.schema w.bindings a) a w.table.next b rest (begin_turn a (without_first a w)) log);
       known = λ c s. elim (one_or_not c a) [
         | inl same ↦ subst (λ i. AllByRecursion (IsKnown (16 + w.opened))
             (values_of (resident_of i (system_after a b w)).got))
@@ -273,12 +274,14 @@ system_planned a b w k system low is =
       good = r.good;
       met = λ c s. elim (one_or_not c a) [
         | inl same ↦ subst
-            (λ i. IsMet (behaviour_of w.bindings i) i (resident_of i (system_after a b w)) u.plan.table.rows) (sym same)
-            (subst (λ (z : Resident). IsMet (behaviour_of w.bindings a) a z u.plan.table.rows)
+            (λ i. IsMet (behaviour_of w.schema w.bindings i) i (resident_of i
+            (system_after a b w)) u.plan.table.rows) (sym same)
+            (subst (λ (z : Resident). IsMet (behaviour_of w.schema w.bindings a) a z u.plan.table.rows)
             (sym (resident_self a u.resident w)) r.met)
-        | inr ne ↦ subst (λ (z : Resident). IsMet (behaviour_of w.bindings c) c z u.plan.table.rows)
+        | inr ne ↦ subst (λ (z : Resident). IsMet (behaviour_of w.schema w.bindings c) c z u.plan.table.rows)
             (sym (resident_other a c u.resident w ne))
-            (met_others still_met (behaviour_of w.bindings c) a c (resident_of c w) (popped a w.table) u.plan ne
+            (met_others still_met (behaviour_of w.schema w.bindings c) a c (resident_of c w)
+            (popped a w.table) u.plan ne
             r.moves (k.met c s))
       ];
       some = waits_after a w b k is;

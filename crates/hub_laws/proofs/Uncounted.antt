@@ -47,7 +47,8 @@ retractions_outbox (r ∷ rs) out is =
 
 -- ---- an inbox with a batch of these
 
-waiting_more : (bs : List Batch) (b : Batch) → load_in b.events ≡ nothing → load_waiting (bs ++ b ∷ []) ≡ load_waiting bs
+waiting_more : (bs : List Batch) (b : Batch) → load_in b.events ≡ nothing
+    → load_waiting (bs ++ b ∷ []) ≡ load_waiting bs
 waiting_more [] b is = ap (λ l. both l nothing) is
 waiting_more (c ∷ cs) b is = ap (both (load_in c.events)) (waiting_more cs b is)
 

@@ -20,7 +20,7 @@ use Rattle.ds_space.specs.declared.references.Reference.{Reference}
 use Rattle.ds_space.specs.References.{reference_of, is_observers}
 use Rattle.sr_caveat.specs.declared.caps.Cap.{Cap}
 use Rattle.sr_caveat.specs.Caps.{cap_of}
-use Rattle.sr_pass.specs.Passing.{passed, no_names}
+use Rattle.sr_pass.specs.Passing.{passed}
 use Rattle.sr_caveat.specs.Lemmas.Capped.{cap_is, cap_sound}
 use Rattle.ds_space.specs.Wants.{is_observer, observer_of, key_of, wants}
 use Rattle.ds_space.specs.Changes.{among, without}
@@ -28,6 +28,7 @@ use Rattle.ds_space.specs.Lemmas.Keys.{same_is}
 use Rattle.ds_space.specs.Lemmas.Lists.{of_the_rule, in_order, wants_ascend}
 use Rattle.gk_sturdy.specs.declared.bound.Binding.{Binding}
 use Rattle.gk_sturdy.specs.Answers.{reply_to}
+use Rattle.ps_schema.specs.declared.Definition.{Definition}
 use Rattle.ac_world.specs.declared.aims.Aim.{Aim}
 use Rattle.ac_world.specs.Behaviours.{Behaviour, asks, behaviour_of, dataspace, gatekeeper}
 use Rattle.ac_world.specs.Aims.{aim_at, aim_by, aim_for, aim_of, observer_in}
@@ -48,9 +49,9 @@ reference_is x c is =
     within a e low small = grind (arith, nat_tests, low, small)
 
 -- what gets through a reference goes to its actor
-aim_from : (v r : Plain) (aim : Aim) → aim_at v r ≡ Some aim
+aim_from : (ds : List Definition) (v r : Plain) (aim : Aim) → aim_at ds v r ≡ Some aim
     → (c : Cap) × (cap_of r ≡ Some c) × (aim.at.actor ≡ c.actor)
-aim_from v r aim is = by (cap_of r) refl is
+aim_from ds v r aim is = by (cap_of r) refl is
   where
     at : (c : Cap) (o : Option Plain) → cap_of r ≡ Some c
         → option_map (λ w. record { at = record { actor = c.actor; entity = c.entity }; value = w }) o ≡ Some aim
@@ -60,10 +61,10 @@ aim_from v r aim is = by (cap_of r) refl is
         let one : record { at = record { actor = c.actor; entity = c.entity }; value = w } ≡ aim = cc in
         (c, there, ap (λ (a : Aim). a.at.actor) (sym one))
 
-    by : (o : Option Cap) → cap_of r ≡ o → option_and_then (aim_by v) o ≡ Some aim
+    by : (o : Option Cap) → cap_of r ≡ o → option_and_then (aim_by ds v) o ≡ Some aim
         → (c : Cap) × (cap_of r ≡ Some c) × (aim.at.actor ≡ c.actor)
     by None there is = absurd cc
-    by (Some c) there is = at c (passed no_names c.caveats v) there is
+    by (Some c) there is = at c (passed ds c.caveats v) there is
 
 -- the observer of an observation, numbered 9 or more
 record Observes (o : Plain) : Type 0 where
@@ -98,11 +99,12 @@ pub observer_there : (o : Plain) (p : Pattern) → observer_in o ≡ None → ob
 observer_there o p none is = let by = observes o p is in let clash : None ≡ Some by.observer = sym none ∙ by.names in cc
 
 -- what is sent to the observer of a value that is known goes to an actor that was live
-sent_far : (n : ℕ) (v o : Plain) (aim : Aim) → Observes o → IsKnown n o → aim_for v o ≡ Some aim
+sent_far : (ds : List Definition) (n : ℕ) (v o : Plain) (aim : Aim) → Observes o → IsKnown n o
+    → aim_for ds v o ≡ Some aim
     → (9 ≤ aim.at.actor) × (aim.at.actor ≤ n)
-sent_far n v o aim by known aims =
-    let here : aim_at v by.observer ≡ Some aim = ap (option_and_then (aim_at v)) (sym by.names) ∙ aims in
-    let c = aim_from v by.observer aim here in
+sent_far ds n v o aim by known aims =
+    let here : aim_at ds v by.observer ≡ Some aim = ap (option_and_then (aim_at ds v)) (sym by.names) ∙ aims in
+    let c = aim_from ds v by.observer aim here in
     let low : IfSome (cap_of by.observer) (λ (d : Cap). d.actor ≤ n) =
     subst (λ q. IfSome q (λ r. IfSome (cap_of r) (λ (d : Cap). d.actor ≤ n))) by.names known in
     let under : c.0.actor ≤ n = subst (λ q. IfSome q (λ (d : Cap). d.actor ≤ n)) c.1 low in
@@ -110,21 +112,22 @@ sent_far n v o aim by known aims =
 
 -- ---- a dataspace
 
-aimed_key : (n : ℕ) (k o : Plain) (cs : List Plain) → Observes o → IsKnown n o → k ≡ key_of o cs
-    → IsAimed dataspace n k
-aimed_key n k o cs by known is aim aims =
-    sent_far n (sequence (plains cs)) o aim by known (sym (ap aim_of is) ∙ aims)
+aimed_key : (ds : List Definition) (n : ℕ) (k o : Plain) (cs : List Plain) → Observes o → IsKnown n o → k ≡ key_of o cs
+    → IsAimed (dataspace ds) n k
+aimed_key ds n k o cs by known is aim aims =
+    sent_far ds n (sequence (plains cs)) o aim by known (sym (ap (aim_of ds) is) ∙ aims)
 
 -- over values whose observers were live
-wanted_aimed : (n : ℕ) (vs : List Plain) (k : Plain) → AllByRecursion (IsKnown n) vs → among k (wants vs) ≡ true
-    → IsAimed dataspace n k
-wanted_aimed n vs k known is =
+wanted_aimed : (ds : List Definition) (n : ℕ) (vs : List Plain) (k : Plain) → AllByRecursion (IsKnown n) vs
+    → among k (wants vs) ≡ true
+    → IsAimed (dataspace ds) n k
+wanted_aimed ds n vs k known is =
     let rule = of_the_rule vs k (Contains-from_any same_is k (wants vs) is) in
-    aimed_key n k rule.observation rule.captures (observes rule.observation rule.pattern rule.is_pattern)
+    aimed_key ds n k rule.observation rule.captures (observes rule.observation rule.pattern rule.is_pattern)
     (All-contains (IsKnown n) vs rule.observation (All-from_recursion (IsKnown n) vs known) rule.observes) rule.key
 
-dataspace_lawful : IsLawful dataspace
-dataspace_lawful = record { ascend = wants_ascend; nothing = refl; aimed = wanted_aimed }
+dataspace_lawful : (ds : List Definition) → IsLawful (dataspace ds)
+dataspace_lawful ds = record { ascend = wants_ascend; nothing = refl; aimed = wanted_aimed ds }
 
 -- ---- the gatekeeper
 
@@ -138,32 +141,33 @@ asks_observer (record_of (symbol l) (then_more s (then_more r no_more))) e =
     named (symbol l) s r (both_true (is_word l (codes "resolve")) (is_observer r) e)
 asks_observer v e = absurd cc
 
-asked_aimed : (bs : List Binding) (n : ℕ) (vs : List Plain) (k : Plain) → AllByRecursion (IsKnown n) vs
-    → among k (ascending_by order (filter asks vs)) ≡ true → IsAimed (gatekeeper bs) n k
-asked_aimed bs n vs k known is = aimed (asks k) refl (among k vs) refl (sym (among_asked k vs) ∙ is)
+asked_aimed : (ds : List Definition) (bs : List Binding) (n : ℕ) (vs : List Plain) (k : Plain)
+    → AllByRecursion (IsKnown n) vs
+    → among k (ascending_by order (filter asks vs)) ≡ true → IsAimed (gatekeeper ds bs) n k
+asked_aimed ds bs n vs k known is = aimed (asks k) refl (among k vs) refl (sym (among_asked k vs) ∙ is)
   where
     known_one : among k vs ≡ true → IsKnown n k
     known_one there =
         All-contains (IsKnown n) vs k (All-from_recursion (IsKnown n) vs known) (Contains-from_any same_is k vs there)
 
-    at : (v : Plain) → asks v ≡ true → IsKnown n v → IsAimed (gatekeeper bs) n v
+    at : (v : Plain) → asks v ≡ true → IsKnown n v → IsAimed (gatekeeper ds bs) n v
     at (record_of l (then_more s rest)) e here aim aims =
-        sent_far n (reply_to bs s) (record_of l (then_more s rest)) aim (asks_observer _ e) here aims
+        sent_far ds n (reply_to bs s) (record_of l (then_more s rest)) aim (asks_observer _ e) here aims
     at v e here aim aims = absurd cc
 
     aimed : (a : Bool) → asks k ≡ a → (b : Bool) → among k vs ≡ b → (a && b) ≡ true
-        → IsAimed (gatekeeper bs) n k
+        → IsAimed (gatekeeper ds bs) n k
     aimed true e true there is = at k e (known_one there)
     aimed true e false there is = absurd cc
     aimed false e b there is = absurd cc
 
-gatekeeper_lawful : (bs : List Binding) → IsLawful (gatekeeper bs)
-gatekeeper_lawful bs =
-    record { ascend = λ vs. in_order (filter asks vs); nothing = refl; aimed = asked_aimed bs }
+gatekeeper_lawful : (ds : List Definition) (bs : List Binding) → IsLawful (gatekeeper ds bs)
+gatekeeper_lawful ds bs =
+    record { ascend = λ vs. in_order (filter asks vs); nothing = refl; aimed = asked_aimed ds bs }
 
-pub lawful : (bs : List Binding) (a : ℕ) → IsLawful (behaviour_of bs a)
-lawful bs zero = gatekeeper_lawful bs
-lawful bs (suc a) = dataspace_lawful
+pub lawful : (ds : List Definition) (bs : List Binding) (a : ℕ) → IsLawful (behaviour_of ds bs a)
+lawful ds bs zero = gatekeeper_lawful ds bs
+lawful ds bs (suc a) = dataspace_lawful ds
 
 -- ---- the keys of one list that aren't in another
 

@@ -1,5 +1,6 @@
 -- What holds after every list of steps whose callers saw to their conditions.
 use Rattle.std.specs.Prelude.{Some, ◌≡◌, ◌≢◌, ℕ, ◌≤◌, ◌⊎◌, List, [], ◌∷◌, true, false}
+use Rattle.ps_schema.specs.declared.Definition.{Definition}
 use Rattle.ac_table.specs.Tables.{is_live}
 use Rattle.ac_world.specs.declared.spreads.Spread.{Spread}
 use Rattle.ac_world.specs.Sums.{deliveries}
@@ -24,8 +25,9 @@ abbrev pub AreAllowed : State → List Step → Type 0
 AreAllowed s [] = Unit {0}
 AreAllowed s (e ∷ es) = IsAllowed s e × AreAllowed (step s e).state es
 
+-- whatever the schema is by which guards judge
 abbrev pub AfterAll : (State → Type 0) → Type 0
-AfterAll P = (steps : List Step) → AreAllowed opening steps → P (replay steps)
+AfterAll P = (ds : List Definition) (steps : List Step) → AreAllowed (opening ds) steps → P (replay ds steps)
 
 abbrev pub Delivery : Type 0
 Delivery = AfterAll (λ s. IsDelivered s.world)
@@ -42,11 +44,13 @@ Endings = AfterAll HaveEnded
 
 -- what each live connection holds is what it has got
 abbrev pub Holdings : Type 0
-Holdings = (k : ℕ) (steps : List Step) → AreAllowed opening steps → HoldsWhatItGot k steps
+Holdings =
+    (ds : List Definition) (k : ℕ) (steps : List Step) → AreAllowed (opening ds) steps → HoldsWhatItGot ds k steps
 
 -- where nothing is pending, it holds exactly what is captured from scratch
 abbrev pub SettledHoldings : Type 0
-SettledHoldings = (k : ℕ) (steps : List Step) → AreAllowed opening steps → HoldsFromScratch k steps
+SettledHoldings =
+    (ds : List Definition) (k : ℕ) (steps : List Step) → AreAllowed (opening ds) steps → HoldsFromScratch ds k steps
 
 abbrev pub Presence : Type 0
 Presence = AfterAll ArePresent

@@ -5,6 +5,7 @@ use Rattle.std.specs.Map.{values_of}
 use Rattle.pv_value.specs.Plain.{Plain, boolean}
 use Rattle.pv_value.specs.Order.{order}
 use Rattle.pv_value.specs.Sets.{ascending_by}
+use Rattle.ps_schema.specs.declared.Definition.{Definition}
 use Rattle.dp_pattern.specs.Patterns.{Pattern}
 use Rattle.dp_pattern.specs.Matching.{matched}
 use Rattle.ds_space.specs.Wants.{observer_of}
@@ -28,14 +29,14 @@ message_aimed b None = []
 message_aimed b (Some aim) = if aim.at.actor == b then Message aim.at.entity aim.value ∷ [] else []
 
 -- an observer is told what its pattern captures of the message, as its reference's caveats let it pass
-abbrev pub message_by : ℕ → Plain → Option Plain → Option Pattern → List Event
-message_by b m (Some r) (Some p) = flat_map (λ c. message_aimed b (aim_at c r)) (as_sequence (matched p m))
-message_by b m (Some r) None = []
-message_by b m None o = []
+abbrev pub message_by : List Definition → ℕ → Plain → Option Plain → Option Pattern → List Event
+message_by ds b m (Some r) (Some p) = flat_map (λ c. message_aimed b (aim_at ds c r)) (as_sequence (matched p m))
+message_by ds b m (Some r) None = []
+message_by ds b m None o = []
 
 -- for each distinct observation among the values at a dataspace, ascending
-abbrev pub messages_over : ℕ → List Plain → Plain → List Event
-messages_over b vs m = flat_map (λ o. message_by b m (observer_in o) (observer_of o)) (ascending_by order vs)
+abbrev pub messages_over : List Definition → ℕ → List Plain → Plain → List Event
+messages_over ds b vs m = flat_map (λ o. message_by ds b m (observer_in o) (observer_of o)) (ascending_by order vs)
 
 -- from t to u nothing is done but that each actor b is told these events, too
 pub record OnlySays (said : ℕ → List Event) (t u : Plan) : Type 0 where
@@ -45,17 +46,19 @@ pub record OnlySays (said : ℕ → List Event) (t u : Plan) : Type 0 where
 -- a message that comes to a dataspace in its turn, where the captures don't weigh too much; the gatekeeper drops it
 abbrev pub SaysMessages : Type 0
 SaysMessages =
-    ((a from entity : ℕ) (m : Plain) (t : Turning) → fan_weight (values_of t.resident.got) m ≤ 33554432
-    → OnlySays (λ b. messages_over b (values_of t.resident.got) m) t.plan
-    (turned_by dataspace a from (Message entity m) t).plan)
-    × ((bs : List Binding) (a from entity : ℕ) (m : Plain) (t : Turning)
-    → turned_by (gatekeeper bs) a from (Message entity m) t ≡ t)
+    ((ds : List Definition) (a from entity : ℕ) (m : Plain) (t : Turning)
+    → fan_weight (values_of t.resident.got) m ≤ 33554432
+    → OnlySays (λ b. messages_over ds b (values_of t.resident.got) m) t.plan
+    (turned_by (dataspace ds) a from (Message entity m) t).plan)
+    × ((ds : List Definition) (bs : List Binding) (a from entity : ℕ) (m : Plain) (t : Turning)
+    → turned_by (gatekeeper ds bs) a from (Message entity m) t ≡ t)
 
 -- a sync that comes to a system actor is answered by the message `#t` through its peer
 abbrev pub AnswersSyncs : Type 0
 AnswersSyncs =
     (y : Behaviour) (a from entity : ℕ) (peer : Plain) (t : Turning)
-    → OnlySays (λ b. message_aimed b (aim_at (boolean true) peer)) t.plan (turned_by y a from (Sync entity peer) t).plan
+    → OnlySays (λ b. message_aimed b (aim_at y.schema (boolean true) peer)) t.plan
+    (turned_by y a from (Sync entity peer) t).plan
 
 -- so after a dataspace's turn over a message each inbox has grown by one batch of just these; after the gatekeeper's
 -- none has grown
@@ -65,7 +68,8 @@ MessagesArrive =
     → first_batch a w.table ≡ Some (record { from = from; events = Message entity m ∷ [] })
     → fan_weight (values_of (resident_of a w).got) m ≤ 33554432 → (b : ℕ)
     → find_actor b (turn a w).world.table.actors
-    ≡ grown a (messages_over b (values_of (resident_of a w).got) m) (find_actor b (popped a w.table).actors))
+    ≡ grown a (messages_over w.schema b (values_of (resident_of a w).got) m)
+    (find_actor b (popped a w.table).actors))
     × ((from entity : ℕ) (m : Plain) (w : WorldState) → is_live 0 w.table ≡ true
     → first_batch 0 w.table ≡ Some (record { from = from; events = Message entity m ∷ [] }) → (b : ℕ)
     → find_actor b (turn 0 w).world.table.actors ≡ find_actor b (popped 0 w.table).actors)

@@ -1,12 +1,14 @@
--- What a live connection holds once nothing is pending, from the rows, what is bound and its exports alone. Syndicate
--- Protocol, "dataspaces" and "gatekeeper": each observer is told of each distinct list of captures of its observation,
--- once, and who asks for a signed reference is told the reply, unless the caveats of its own reference refuse it.
+-- What a live connection holds once nothing is pending, from the rows, what is bound, the schema by which guards judge
+-- and its exports alone. Syndicate Protocol, "dataspaces" and "gatekeeper": each observer is told of each distinct list
+-- of captures of its observation, once, and who asks for a signed reference is told the reply, unless the caveats of
+-- its own reference refuse it.
 use Rattle.std.specs.Prelude.{ℕ, List, [], ◌∷◌, ◌++◌, map, not, ◌==◌, ◌&&◌, nat_le, Option, Some, None, filter}
 use Rattle.std.specs.Prelude.{if◌then◌else◌}
 use Rattle.std.specs.List.{flat_map}
 use Rattle.pv_value.specs.Plain.{Plain, sequence, plains}
 use Rattle.dp_pattern.specs.Patterns.{Pattern}
 use Rattle.pv_words.specs.Parts.{same}
+use Rattle.ps_schema.specs.declared.Definition.{Definition}
 use Rattle.dp_pattern.specs.Matching.{matched}
 use Rattle.ds_space.specs.Wants.{observer_of}
 use Rattle.ac_table.specs.declared.batches.Row.{Row}
@@ -52,23 +54,23 @@ pair_aimed exports k (Some aim) =
     if aim.at.actor == actor_of k then pair_at exports k aim.at.entity aim.value ∷ [] else []
 
 -- an observer holds each distinct list of captures, as its reference's caveats let it pass
-abbrev pub told_by : List Plain → ℕ → List Plain → Option Plain → Option Pattern → List Pair
-told_by exports k vs (Some r) (Some p) =
-    flat_map (λ c. pair_aimed exports k (aim_at c r)) (distinct (captures_by p vs))
-told_by exports k vs (Some r) None = []
-told_by exports k vs None o = []
+abbrev pub told_by : List Definition → List Plain → ℕ → List Plain → Option Plain → Option Pattern → List Pair
+told_by ds exports k vs (Some r) (Some p) =
+    flat_map (λ c. pair_aimed exports k (aim_at ds c r)) (distinct (captures_by p vs))
+told_by ds exports k vs (Some r) None = []
+told_by ds exports k vs None o = []
 
 -- for each distinct observation among the values at a dataspace
-abbrev pub told_over : List Plain → ℕ → List Plain → List Pair
-told_over exports k vs = flat_map (λ o. told_by exports k vs (observer_in o) (observer_of o)) (distinct vs)
+abbrev pub told_over : List Definition → List Plain → ℕ → List Plain → List Pair
+told_over ds exports k vs = flat_map (λ o. told_by ds exports k vs (observer_in o) (observer_of o)) (distinct vs)
 
 -- the reply of the gatekeeper to one that asks
-abbrev pub told_reply : List Plain → ℕ → List Binding → Plain → List Pair
-told_reply exports k bs v = if asks v then pair_aimed exports k (answer_for bs v) else []
+abbrev pub told_reply : List Definition → List Plain → ℕ → List Binding → Plain → List Pair
+told_reply ds exports k bs v = if asks v then pair_aimed exports k (answer_for ds bs v) else []
 
 -- to each distinct value that asks
-abbrev pub told_replies : List Plain → ℕ → List Binding → List Plain → List Pair
-told_replies exports k bs vs = flat_map (told_reply exports k bs) (distinct vs)
+abbrev pub told_replies : List Definition → List Plain → ℕ → List Binding → List Plain → List Pair
+told_replies ds exports k bs vs = flat_map (told_reply ds exports k bs) (distinct vs)
 
 -- and what connections assert at it directly
 abbrev pub told_directly : List Plain → ℕ → List Row → List Pair
@@ -79,10 +81,10 @@ told_directly exports k rows =
 abbrev pub dataspaces : List ℕ
 dataspaces = 1 ∷ 2 ∷ 3 ∷ 4 ∷ 5 ∷ 6 ∷ 7 ∷ 8 ∷ []
 
-abbrev pub scratch_at : List Plain → ℕ → List Binding → List Row → List Pair
-scratch_at exports k bs rows =
-    told_replies exports k bs (asserted_at 0 rows)
-    ++ flat_map (λ d. told_over exports k (asserted_at d rows)) dataspaces ++ told_directly exports k rows
+abbrev pub scratch_at : List Definition → List Plain → ℕ → List Binding → List Row → List Pair
+scratch_at ds exports k bs rows =
+    told_replies ds exports k bs (asserted_at 0 rows)
+    ++ flat_map (λ d. told_over ds exports k (asserted_at d rows)) dataspaces ++ told_directly exports k rows
 
 abbrev pub exports_in : Option PortsState → List Plain
 exports_in None = []
@@ -92,6 +94,6 @@ exports_in (Some ports) = ports.exports
 abbrev pub exports_of : ℕ → State → List Plain
 exports_of k s = exports_in (ports_of k s)
 
--- connection k, from scratch: from the rows, what is bound and its exports alone
+-- connection k, from scratch: from the rows, what is bound, the schema and its exports alone
 abbrev pub scratch : ℕ → State → List Pair
-scratch k s = scratch_at (exports_of k s) k s.world.bindings s.world.table.rows
+scratch k s = scratch_at s.world.schema (exports_of k s) k s.world.bindings s.world.table.rows

@@ -8,6 +8,7 @@ use Rattle.ac_table.specs.Tables.{is_live}
 use Rattle.ac_world.specs.Worlds.{Deliveries, held_by, actor_of}
 use Rattle.ac_world.specs.declared.held.Held.{Held}
 use Rattle.pv_value.specs.Plain.{Plain}
+use Rattle.ps_schema.specs.declared.Definition.{Definition}
 use Rattle.rl_ports.specs.Ports.{place_of}
 use Rattle.rl_wire.specs.Crossing.{crossed_out, foreign_in}
 use Rattle.hub_machine.specs.Replays.{replay, sent_to, IsSettled}
@@ -28,17 +29,17 @@ AreWhatItGot exports k got holdings =
     (holdings ≡ holdings_in_order (map (holding_of exports k) got)) × AllByRecursion (HasNumbers exports k) got
 
 -- a live connection holds exactly what it has got, by its exports of now
-abbrev pub HoldsWhatItGot : ℕ → List Step → Type 0
-HoldsWhatItGot k steps =
-    is_live (actor_of k) (replay steps).world.table ≡ true
-    → AreWhatItGot (exports_of k (replay steps)) k (held_by (actor_of k) (replay steps).world)
-    (held (sent_to k steps))
+abbrev pub HoldsWhatItGot : List Definition → ℕ → List Step → Type 0
+HoldsWhatItGot ds k steps =
+    is_live (actor_of k) (replay ds steps).world.table ≡ true
+    → AreWhatItGot (exports_of k (replay ds steps)) k (held_by (actor_of k) (replay ds steps).world)
+    (held (sent_to ds k steps))
 
 abbrev pub pair_of : Holding → Pair
 pair_of h = record { oid = h.oid; value = h.value }
 
 -- where nothing is pending, what it holds is what it holds from scratch, each pair as often
-abbrev pub HoldsFromScratch : ℕ → List Step → Type 0
-HoldsFromScratch k steps =
-    IsSettled (replay steps) → is_live (actor_of k) (replay steps).world.table ≡ true
-    → IsPermutation (map pair_of (held (sent_to k steps))) (scratch k (replay steps))
+abbrev pub HoldsFromScratch : List Definition → ℕ → List Step → Type 0
+HoldsFromScratch ds k steps =
+    IsSettled (replay ds steps) → is_live (actor_of k) (replay ds steps).world.table ≡ true
+    → IsPermutation (map pair_of (held (sent_to ds k steps))) (scratch k (replay ds steps))

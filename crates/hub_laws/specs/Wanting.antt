@@ -41,4 +41,4 @@ pub record IsMet (y : Behaviour) (a : ℕ) (resident : Resident) (rows : List Ro
 
 -- the gatekeeper and the dataspaces, whatever is bound
 abbrev pub AreMet : WorldState → Type 0
-AreMet w = (a : ℕ) → a < 9 → IsMet (behaviour_of w.bindings a) a (resident_of a w) w.table.rows
+AreMet w = (a : ℕ) → a < 9 → IsMet (behaviour_of w.schema w.bindings a) a (resident_of a w) w.table.rows

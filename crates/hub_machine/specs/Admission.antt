@@ -18,7 +18,7 @@ use Rattle.rl_packet.specs.declared.packets.Event.TheVariants.{Assert, Retract, 
 use Rattle.rl_packet.specs.declared.packets.TurnEvent.{TurnEvent}
 use Rattle.sr_caveat.specs.declared.caps.Cap.{Cap}
 use Rattle.sr_caveat.specs.Caps.{cap_of}
-use Rattle.sr_pass.specs.Passing.{passed, no_names}
+use Rattle.sr_pass.specs.Passing.{passed}
 use Rattle.rl_wire.specs.Crossing.{crossed_in, fault_in}
 use Rattle.rl_wire.specs.declared.faults.WireFault.{WireFault}
 use Rattle.rl_wire.specs.declared.faults.WireFault.TheVariants as wire
@@ -90,9 +90,9 @@ value_cause k v x = option_and_then fault_of (fault_in x.ports.exports k v)
 abbrev pub kept : ℕ → Plain → Admitting → Plain
 kept k v x = crossed_in x.ports.exports k v
 
--- what an export's caveats let pass of a value that is sent through it
-abbrev pub let_through : Cap → Plain → Option Plain
-let_through to v = passed no_names to.caveats v
+-- what an export's caveats let pass of a value that is sent through it; guards judge by the world's schema
+abbrev pub let_through : WorldState → Cap → Plain → Option Plain
+let_through w to v = passed w.schema to.caveats v
 
 abbrev pub load_cause : Load → Option Fault
 load_cause l = over 65536 10 l.count <|> over 16777216 11 l.weight
@@ -111,7 +111,7 @@ assertion_cause k w to v h x =
     value_cause k v x
     <|> handle_cause h x
     <|> over 4096 4 (top (length x.ports.handles + 1))
-    <|> row_cause w to (let_through to (kept k v x)) x
+    <|> row_cause w to (let_through w to (kept k v x)) x
 
 abbrev pub retraction_cause : ℕ → Admitting → Option Fault
 retraction_cause h x = where_it_is (not (is_in_use h x.ports)) (UnknownHandle h)
@@ -122,7 +122,7 @@ said_cause w to None x = None
 said_cause w to (Some v) x = load_cause (load_with w to (weighed v) x)
 
 abbrev pub message_cause : ℕ → WorldState → Cap → Plain → Admitting → Option Fault
-message_cause k w to v x = value_cause k v x <|> said_cause w to (let_through to (kept k v x)) x
+message_cause k w to v x = value_cause k v x <|> said_cause w to (let_through w to (kept k v x)) x
 
 -- a sync has no value that caveats could look at; it weighs what its peer weighs, without a node for the embedding
 abbrev pub sync_cause : ℕ → WorldState → Cap → Plain → Admitting → Option Fault
@@ -188,9 +188,9 @@ after_sync w to peer x =
     record x { acts = x.acts ++ act.Sync to.actor to.entity peer ∷ []; load = load_with w to (weighed peer) x }
 
 abbrev pub after_event : ℕ → WorldState → Cap → Event → Admitting → Admitting
-after_event k w to (Assert v h) x = after_assertion w to (let_through to (kept k v x)) h x
+after_event k w to (Assert v h) x = after_assertion w to (let_through w to (kept k v x)) h x
 after_event k w to (Retract h) x = after_retraction h (inbound_of h x.ports) w x
-after_event k w to (Message v) x = after_message w to (let_through to (kept k v x)) x
+after_event k w to (Message v) x = after_message w to (let_through w to (kept k v x)) x
 after_event k w to (Sync peer) x = after_sync w to (inside (kept k peer x)) x
 
 abbrev pub after_at : ℕ → WorldState → Option Cap → Event → Admitting → Admitting

@@ -43,7 +43,7 @@ IsFineRow w to (Some v) x = (rows_with (weighed v) x ≤ 4194304) × MayWait (lo
 abbrev pub IsFineAssertion : ℕ → WorldState → Cap → Plain → ℕ → Admitting → Type 0
 IsFineAssertion k w to v h x =
     IsFineValue k v x × (is_in_use h x.ports ≡ false) × (length x.ports.handles + 1 ≤ 4096)
-    × IsFineRow w to (let_through to (kept k v x)) x
+    × IsFineRow w to (let_through w to (kept k v x)) x
 
 abbrev pub IsFineMessage : WorldState → Cap → Option Plain → Admitting → Type 0
 IsFineMessage w to None x = Unit {0}
@@ -53,7 +53,7 @@ IsFineMessage w to (Some v) x = MayWait (load_with w to (weighed v) x)
 abbrev pub IsFineEvent : ℕ → WorldState → Cap → Event → Admitting → Type 0
 IsFineEvent k w to (Assert v h) x = IsFineAssertion k w to v h x
 IsFineEvent k w to (Retract h) x = is_in_use h x.ports ≡ true
-IsFineEvent k w to (Message v) x = IsFineValue k v x × IsFineMessage w to (let_through to (kept k v x)) x
+IsFineEvent k w to (Message v) x = IsFineValue k v x × IsFineMessage w to (let_through w to (kept k v x)) x
 IsFineEvent k w to (Sync peer) x =
     IsFineValue k peer x × MayWait (load_with w to (weighed (inside (kept k peer x))) x)
 

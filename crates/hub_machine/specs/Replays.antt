@@ -1,6 +1,7 @@
 -- Whole runs of the machine: the state after some steps, what was sent in them, and what is pending.
 use Rattle.std.specs.Prelude.{◌≡◌, ℕ, ◌+◌, min, List, [], ◌∷◌, ◌++◌, length, cond, ◌==◌, Option, Some, None, option_map}
 use Rattle.std.specs.Prelude.{slice_get}
+use Rattle.ps_schema.specs.declared.Definition.{Definition}
 use Rattle.ac_table.specs.Tables.{waiting, lowest as lowest_waiting}
 use Rattle.ac_world.specs.Worlds.{actor_of}
 use Rattle.rl_packet.specs.declared.packets.Packet.{Packet}
@@ -16,8 +17,9 @@ abbrev pub run_from : State → List Step → State
 run_from s [] = s
 run_from s (e ∷ es) = run_from (step s e).state es
 
-abbrev pub replay : List Step → State
-replay es = run_from opening es
+-- the state after some steps from the beginning, where guards judge by this schema
+abbrev pub replay : List Definition → List Step → State
+replay ds es = run_from (opening ds) es
 
 -- the packet that a turn of connection k sent
 abbrev pub packet_in : Reply → List Packet
@@ -32,9 +34,9 @@ abbrev pub sent_from : State → ℕ → List Step → List Packet
 sent_from s k [] = []
 sent_from s k (e ∷ es) = sent_by k e (step s e).reply ++ sent_from (step s e).state k es
 
--- the packets sent to connection k, in order
-abbrev pub sent_to : ℕ → List Step → List Packet
-sent_to k es = sent_from opening k es
+-- the packets sent to connection k from the beginning on, in order
+abbrev pub sent_to : List Definition → ℕ → List Step → List Packet
+sent_to ds k es = sent_from (opening ds) k es
 
 -- the number of batches that wait, and of faults that are to be told
 abbrev pub pending : State → ℕ

@@ -1,6 +1,7 @@
 -- What the server's state is: the world, what each live connection names by numbers of its own, the faults of which
 -- connections are still to be told, and whether the server is to stop.
 use Rattle.std.specs.Prelude.{ℕ, List, [], Bool, false, Option, None, is_some, if◌then◌else◌}
+use Rattle.ps_schema.specs.declared.Definition.{Definition}
 use Rattle.ac_table.specs.Tables.{is_live}
 use Rattle.ac_world.specs.Worlds.{WorldState, beginning, entry_of, actor_of}
 use Rattle.hub_machine.specs.Faults.{Fault}
@@ -13,8 +14,9 @@ pub record State : Type 0 where
   pub faults : List (ℕ × Fault)
   pub stopped : Bool
 
-abbrev pub opening : State
-opening = record { world = beginning; connections = []; faults = []; stopped = false }
+-- the server at its beginning, where guards judge by this schema
+abbrev pub opening : List Definition → State
+opening ds = record { world = beginning ds; connections = []; faults = []; stopped = false }
 
 -- what a live connection names
 abbrev pub ports_of : ℕ → State → Option PortsState

@@ -9,7 +9,8 @@ use rl_packet::{Packet, Turn};
 pub enum Step {
     /// An oid is bound to a key and to the reference that it gives. No connection has come yet.
     Bind(Binding),
-    /// A connection comes, whose object 0 is the gatekeeper, for 0, or the dataspace of this number.
+    /// A connection comes, whose object 0 is the gatekeeper, for 0, or the dataspace of this
+    /// number.
     Arrive(u8),
     /// A connection sends a turn.
     Packet(u32, Turn),

@@ -22,7 +22,7 @@ use rl_packet::{Event, Turn, TurnEvent};
 use rl_ports::{Inbound, Ports};
 use rl_wire::wire_in;
 use sr_caveat::Cap;
-use sr_pass::{NoNames, pass};
+use sr_pass::{Judge, pass};
 use std::alloc::Global;
 use std::collections::BTreeMap;
 use std::marker::Model;
@@ -81,26 +81,31 @@ fn inside(value: &Value) -> &Value
 }
 
 /// Whether events at an object wait for one of the system's actors.
-fn waits_at<S: Space + Drop>(to: &Cap, world: &World<S>) -> bool
+fn waits_at<S: Space + Drop, J: Judge + Drop>(to: &Cap, world: &World<S, J>) -> bool
     ensures { result ≡ waits_at to.now world.now }
 {
     to.actor < FIRST_CONNECTION && world.live(to.actor)
 }
 
 /// What the caveats of a reference let pass of a value that is sent through it.
-fn let_through(alloc: Global, to: &Cap, value: &Value) -> Result<Option<Value>, NoMemory>
-    ensures { IfOk result (λ w. w ≡ let_through to.now value.now) }
+fn let_through<S: Space + Drop, J: Judge + Drop>(
+    alloc: Global,
+    to: &Cap,
+    value: &Value,
+    world: &World<S, J>,
+) -> Result<Option<Value>, NoMemory>
+    ensures { IfOk result (λ w. w ≡ let_through world.now to.now value.now) }
 {
-    pass(alloc, to.caveats.as_slice(), value, &NoNames)
+    pass(alloc, to.caveats.as_slice(), value, world.judge())
 }
 
 impl Admitting {
     /// Before the first event of a connection.
-    fn new<S: Space + Drop>(
+    fn new<S: Space + Drop, J: Judge + Drop>(
         alloc: Global,
         connection: u32,
         ports: Ports,
-        world: &World<S>,
+        world: &World<S, J>,
     ) -> Admitting
         requires { connection ≤ 2 ^ 31 }
         ensures { result ≡ before_all connection ports world.now }
@@ -133,7 +138,12 @@ impl Admitting {
     }
 
     /// What waits, with one event more at an object.
-    fn load_with<S: Space + Drop>(&self, to: &Cap, weight: u64, world: &World<S>) -> Load
+    fn load_with<S: Space + Drop, J: Judge + Drop>(
+        &self,
+        to: &Cap,
+        weight: u64,
+        world: &World<S, J>,
+    ) -> Load
         ensures { result ≡ load_with world.now to.now weight self.now }
     {
         if waits_at(to, world) {
@@ -194,12 +204,12 @@ impl Admitting {
     }
 
     /// An assertion is done: its row gets the next handle.
-    fn assert_value<S: Space + Drop>(
+    fn assert_value<S: Space + Drop, J: Judge + Drop>(
         &mut self,
         to: &Cap,
         value: Value,
         handle: u64,
-        world: &World<S>,
+        world: &World<S, J>,
     ) -> Result<(), NoMemory>
         requires next { self.old.next < 2 ^ 63 }
         requires unused { inbound_of handle self.old.ports ≡ None }
@@ -217,12 +227,12 @@ impl Admitting {
     }
 
     /// A value that got through is asserted, where nothing refuses it.
-    fn admit_row<S: Space + Drop>(
+    fn admit_row<S: Space + Drop, J: Judge + Drop>(
         &mut self,
         to: &Cap,
         value: Value,
         handle: u64,
-        world: &World<S>,
+        world: &World<S, J>,
     ) -> Result<(), Refusal>
         requires next { self.old.next < 2 ^ 63 }
         requires unused { inbound_of handle self.old.ports ≡ None }
@@ -239,12 +249,12 @@ impl Admitting {
     }
 
     /// What got through is asserted; of a value that was refused the handle is noted.
-    fn admit_passed<S: Space + Drop>(
+    fn admit_passed<S: Space + Drop, J: Judge + Drop>(
         &mut self,
         to: &Cap,
         passed: Option<Value>,
         handle: u64,
-        world: &World<S>,
+        world: &World<S, J>,
     ) -> Result<(), Refusal>
         requires next { self.old.next < 2 ^ 63 }
         requires unused { inbound_of handle self.old.ports ≡ None }
@@ -261,29 +271,30 @@ impl Admitting {
     }
 
     /// A value is asserted, where nothing refuses it.
-    fn admit_assertion<S: Space + Drop>(
+    fn admit_assertion<S: Space + Drop, J: Judge + Drop>(
         &mut self,
         alloc: Global,
         to: &Cap,
         value: &Value,
         handle: u64,
-        world: &World<S>,
+        world: &World<S, J>,
     ) -> Result<(), Refusal>
         requires { self.old.next < 2 ^ 63 }
         ensures free { OnOk result ((taking_cause handle self.old
-            <|> row_cause world.now to.now (let_through to.now value.now) self.old) ≡ None) }
+            <|> row_cause world.now to.now (let_through world.now to.now value.now) self.old)
+            ≡ None) }
         ensures cause { IfErr result (IsWhyRefused (taking_cause handle self.old
-            <|> row_cause world.now to.now (let_through to.now value.now) self.old)) }
-        ensures after { OnOk result (self.new
-            ≡ after_assertion world.now to.now (let_through to.now value.now) handle self.old) }
+            <|> row_cause world.now to.now (let_through world.now to.now value.now) self.old)) }
+        ensures after { OnOk result (self.new ≡ after_assertion world.now to.now
+            (let_through world.now to.now value.now) handle self.old) }
     {
         self.check_handle(handle)?;
-        let passed = let_through(alloc, to, value)?;
+        let passed = let_through(alloc, to, value, world)?;
         self.admit_passed(to, passed, handle, world)
     }
 
     /// How much the row of a handle weighs.
-    fn row_weighs<S: Space + Drop>(&self, handle: u64, world: &World<S>) -> u64
+    fn row_weighs<S: Space + Drop, J: Judge + Drop>(&self, handle: u64, world: &World<S, J>) -> u64
         ensures { result ≡ row_weighs handle world.now self.now }
     {
         match self.made.get(&handle) {
@@ -296,11 +307,11 @@ impl Admitting {
     }
 
     /// A handle is given back, and its row goes, where it has one.
-    fn retract<S: Space + Drop>(
+    fn retract<S: Space + Drop, J: Judge + Drop>(
         &mut self,
         handle: u64,
         what: Inbound,
-        world: &World<S>,
+        world: &World<S, J>,
     ) -> Result<(), NoMemory>
         ensures { OnOk result
             (self.new ≡ after_retraction handle (Some what) world.now self.old) }
@@ -314,10 +325,10 @@ impl Admitting {
     }
 
     /// What a handle stands for is taken back, where it is in use.
-    fn admit_retraction<S: Space + Drop>(
+    fn admit_retraction<S: Space + Drop, J: Judge + Drop>(
         &mut self,
         handle: u64,
-        world: &World<S>,
+        world: &World<S, J>,
     ) -> Result<(), Refusal>
         ensures free { OnOk result (retraction_cause handle self.old ≡ None) }
         ensures cause { IfErr result (IsWhyRefused (retraction_cause handle self.old)) }
@@ -331,11 +342,11 @@ impl Admitting {
     }
 
     /// A value that got through is said, where nothing refuses it.
-    fn say<S: Space + Drop>(
+    fn say<S: Space + Drop, J: Judge + Drop>(
         &mut self,
         to: &Cap,
         value: Value,
-        world: &World<S>,
+        world: &World<S, J>,
     ) -> Result<(), Refusal>
         ensures free { OnOk result (said_cause world.now to.now (Some value) self.old ≡ None) }
         ensures cause { IfErr result
@@ -351,32 +362,33 @@ impl Admitting {
     }
 
     /// A value is said, where nothing refuses it; one that doesn't get through is dropped.
-    fn admit_message<S: Space + Drop>(
+    fn admit_message<S: Space + Drop, J: Judge + Drop>(
         &mut self,
         alloc: Global,
         to: &Cap,
         value: &Value,
-        world: &World<S>,
+        world: &World<S, J>,
     ) -> Result<(), Refusal>
         ensures free { OnOk result
-            (said_cause world.now to.now (let_through to.now value.now) self.old ≡ None) }
+            (said_cause world.now to.now (let_through world.now to.now value.now) self.old ≡ None) }
         ensures cause { IfErr result (IsWhyRefused
-            (said_cause world.now to.now (let_through to.now value.now) self.old)) }
+            (said_cause world.now to.now (let_through world.now to.now value.now) self.old)) }
         ensures after { OnOk result
-            (self.new ≡ after_message world.now to.now (let_through to.now value.now) self.old) }
+            (self.new
+            ≡ after_message world.now to.now (let_through world.now to.now value.now) self.old) }
     {
-        match let_through(alloc, to, value)? {
+        match let_through(alloc, to, value, world)? {
             Some(value) => self.say(to, value, world),
             None => Ok(()),
         }
     }
 
     /// A peer asks for an answer, where nothing refuses it.
-    fn admit_sync<S: Space + Drop>(
+    fn admit_sync<S: Space + Drop, J: Judge + Drop>(
         &mut self,
         to: &Cap,
         peer: &Value,
-        world: &World<S>,
+        world: &World<S, J>,
     ) -> Result<(), Refusal>
         ensures free { OnOk result
             (load_cause (load_with world.now to.now (weighed peer.now) self.old) ≡ None) }
@@ -393,13 +405,13 @@ impl Admitting {
     }
 
     /// What an object is told, where nothing refuses it.
-    fn admit_event<S: Space + Drop>(
+    fn admit_event<S: Space + Drop, J: Judge + Drop>(
         &mut self,
         alloc: Global,
         connection: u32,
         to: &Cap,
         event: &Event,
-        world: &World<S>,
+        world: &World<S, J>,
     ) -> Result<(), Refusal>
         requires small { connection ≤ 2 ^ 31 }
         requires next { self.old.next < 2 ^ 63 }
@@ -428,12 +440,12 @@ impl Admitting {
     }
 
     /// One event more, or the cause against it.
-    fn admit<S: Space + Drop>(
+    fn admit<S: Space + Drop, J: Judge + Drop>(
         &mut self,
         alloc: Global,
         connection: u32,
         event: &TurnEvent,
-        world: &World<S>,
+        world: &World<S, J>,
     ) -> Result<(), Refusal>
         requires small { connection ≤ 2 ^ 31 }
         requires next { self.old.next < 2 ^ 63 }
@@ -449,12 +461,12 @@ impl Admitting {
     }
 
     /// All events in order, or the cause against the first that is refused.
-    fn admit_all<S: Space + Drop>(
+    fn admit_all<S: Space + Drop, J: Judge + Drop>(
         &mut self,
         alloc: Global,
         connection: u32,
         events: &[TurnEvent],
-        world: &World<S>,
+        world: &World<S, J>,
     ) -> Result<(), Refusal>
         requires small { connection ≤ 2 ^ 31 }
         requires next { self.old.next < 2 ^ 62 }
@@ -472,12 +484,12 @@ impl Admitting {
 }
 
 /// What the events of a packet do, or why one of them is refused.
-pub fn admission<S: Space + Drop>(
+pub fn admission<S: Space + Drop, J: Judge + Drop>(
     alloc: Global,
     connection: u32,
     ports: Ports,
     turn: &Turn,
-    world: &World<S>,
+    world: &World<S, J>,
 ) -> Result<Admitting, Refusal>
     requires small { connection ≤ 2 ^ 31 }
     requires next { world.now.table.next < 2 ^ 62 }

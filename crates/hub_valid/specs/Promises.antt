@@ -2,6 +2,7 @@
 use Rattle.std.specs.Prelude.{◌≡◌, ℕ, ◌+◌, ◌^◌, ◌<◌, ◌≤◌, List, false, Some, length, map}
 use Rattle.std.specs.List.{AllByRecursion}
 use Rattle.pv_value.specs.Plain.{Plain}
+use Rattle.ps_schema.specs.declared.Definition.{Definition}
 use Rattle.ac_table.specs.declared.batches.Batch.{Batch}
 use Rattle.gk_sturdy.specs.declared.bound.Binding.{Binding}
 use Rattle.ac_world.specs.Worlds.{binding}
@@ -12,7 +13,7 @@ use Rattle.rl_packet.specs.Wired.{IsTurnEvent}
 use Rattle.rl_ports.specs.Ports.{PortsState}
 use Rattle.sr_caveat.specs.declared.caps.Cap.{Cap}
 use Rattle.sr_caveat.specs.Caps.{cap_of, IsSound}
-use Rattle.sr_pass.specs.Passing.{passed, no_names}
+use Rattle.sr_pass.specs.Passing.{passed}
 use Rattle.hub_machine.specs.State.{State}
 use Rattle.hub_machine.specs.Admission.{Admitting, admission, admitted}
 use Rattle.hub_machine.specs.Endings.{nameless, departed}
@@ -22,8 +23,8 @@ use Rattle.hub_valid.specs.Validity.{IsValid, IsValidEntry, IsValidAct, IsValidB
 -- what a reference's caveats let pass holds references to no other actors' objects than those that were live
 abbrev pub PassedIsValid : Type 0
 PassedIsValid =
-    (n : ℕ) (x v w : Plain) (c : Cap) → cap_of x ≡ Some c → HoldsObjects n v → passed no_names c.caveats v ≡ Some w
-    → HoldsObjects n w
+    (ds : List Definition) (n : ℕ) (x v w : Plain) (c : Cap) → cap_of x ≡ Some c → HoldsObjects n v
+    → passed ds c.caveats v ≡ Some w → HoldsObjects n w
 
 -- a reference is bound, which the machine takes
 abbrev pub BindingIsValid : Type 0

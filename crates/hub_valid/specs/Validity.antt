@@ -6,6 +6,7 @@ use Rattle.pv_value.specs.Plain.{Plain}
 use Rattle.sr_caveat.specs.declared.caps.Cap.{Cap}
 use Rattle.sr_caveat.specs.Caps.{cap_of, IsSound}
 use Rattle.gk_sturdy.specs.declared.bound.Binding.{Binding}
+use Rattle.ps_schema.specs.declared.Definition.{Definition}
 use Rattle.ac_table.specs.declared.batches.Row.{Row}
 use Rattle.ac_table.specs.declared.batches.Event.{Event}
 use Rattle.ac_table.specs.declared.batches.Event.TheVariants.{Assert, Retract, Message, Sync}
@@ -109,4 +110,6 @@ IsValid s = AreValid s.world s.connections
 
 -- the state is valid at the beginning, and after each step whose caller saw to its condition
 abbrev pub StaysValid : Type 0
-StaysValid = IsValid opening × ((s : State) (e : Step) → IsValid s → IsAllowed s e → IsValid (step s e).state)
+StaysValid =
+    ((ds : List Definition) → IsValid (opening ds))
+    × ((s : State) (e : Step) → IsValid s → IsAllowed s e → IsValid (step s e).state)

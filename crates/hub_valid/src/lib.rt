@@ -6,8 +6,8 @@
 ghost use Rattle.hub_valid.specs.Promises.{BindingIsValid};
 ghost use Rattle.hub_valid.specs.Validity.{StaysValid};
 
-/// The state is valid at the beginning, and after each step whose caller saw to its condition; so it
-/// is once a reference is bound that isn't barred.
+/// The state is valid at the beginning, and after each step whose caller saw to its condition; so
+/// it is once a reference is bound that isn't barred.
 pub fn states_stay_valid()
     ensures stays { StaysValid }
     ensures binding { BindingIsValid }

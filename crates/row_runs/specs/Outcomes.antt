@@ -61,9 +61,10 @@ pub record IsRun (words : List (List ℕ)) (before now : Streams) (status : ℕ)
   pub shown_front : status ≡ 4 → IfSome (notice_of words) (λ n. IsFrontOfText n now.out.held)
   pub unwritten : status ≢ 0 → status ≢ 4 → now.out.held ≡ []
   -- the input ended, or wasn't read
-  pub ended : status ≢ 3 → status ≢ 5 → status ≢ 7 → IfSome (command_of words) (λ c. now.input.ended ≡ true)
+  pub ended : status ≢ 3 → status ≢ 5 → (status ≡ 7 → file_of (command_of words) ≡ None)
+      → IfSome (command_of words) (λ c. now.input.ended ≡ true)
   pub unread : command_of words ≡ None → now.input ≡ before.input
-  pub unread_yet : status ≡ 7 → now.input ≡ before.input
+  pub unread_yet : status ≡ 7 → file_of (command_of words) ≢ None → now.input ≡ before.input
   -- a take, or the reading of a file before it, or a put, has failed
   pub read_failed : status ≡ 3 → Rose before.input.calls.faults now.input.calls.faults
       ⊎ ((file_of (command_of words) ≢ None) × (now.input ≡ before.input)

@@ -12,9 +12,9 @@ pub record Hand : Type 0 where
   pub state : State
   pub outs : OutsState
 
--- nothing was done yet
+-- nothing was done yet; no name has a definition
 abbrev pub first_hand : Hand
-first_hand = record { state = opening; outs = [] }
+first_hand = record { state = opening []; outs = [] }
 
 -- one step more
 abbrev pub hand_after : Step → Hand → Hand

@@ -13,12 +13,13 @@ use pv_value::{NoMemory, Value};
 use pv_words::number;
 use rl_packet::held;
 use row_asking::{Asked, actor_value, holdings_value, reply_value};
+use sr_pass::NoNames;
 use std::alloc::Global;
 
 /// A hub, and what it sent to each connection.
 #[derive(Drop)]
 pub struct Machine {
-    hub: Hub<PlainSpace>,
+    hub: Hub<PlainSpace, NoNames>,
     outs: Outs,
 }
 
@@ -28,7 +29,7 @@ impl Machine {
         ensures { IfOk result (λ machine. hand_of machine ≡ first_hand) }
     {
         Ok(Machine {
-            hub: Hub::begin(alloc)?,
+            hub: Hub::begin(alloc, NoNames)?,
             outs: Outs::new(alloc),
         })
     }

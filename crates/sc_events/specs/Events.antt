@@ -6,11 +6,8 @@ use Rattle.pv_value.specs.Plain.{Plain, integer, string, byte_string, symbol, re
 use Rattle.pv_value.specs.Plain.{then_more}
 use Rattle.pv_words.specs.Words.{is_word}
 use Rattle.dp_pattern.specs.Written.{pattern_of}
-use Rattle.pv_words.specs.Parts.{same}
 use Rattle.sr_caveat.specs.Caps.{Cap, IsSound, caveats_from}
 use Rattle.sr_caveat.specs.Embedded.{has_embedded, any_embedded}
-use Rattle.sr_caveat.specs.Spelled.{caveat_value}
-use Rattle.sr_caveat.specs.Written.{caveat_of}
 use Rattle.gk_sturdy.specs.declared.bound.Binding.{Binding}
 pub use Rattle.sc_events.specs.declared.events.ScriptEvent.{ScriptEvent}
 pub use Rattle.sc_events.specs.declared.events.ScriptEvent.TheVariants.{Bind, Open, Bytes, Close, Turn, Drain, LongDrain}
@@ -53,8 +50,9 @@ abbrev pub drain_event : Plain → Option ScriptEvent
 drain_event (integer (pos n)) = if nat_le n 1000000 then Some (Drain n) else Some LongDrain
 drain_event v = None
 
+-- `<schema text>`
 abbrev pub schema_event : Plain → Option ScriptEvent
-schema_event (string s) = Some Schema
+schema_event (string s) = Some (Schema s)
 schema_event v = None
 
 abbrev pub event_of_one : List ℕ → Plain → Option ScriptEvent
@@ -76,22 +74,12 @@ event_of_two word f g = if is_word word (codes "bytes") then bytes_event f g els
 
 -- ---- events with four
 
--- a caveat has a guard: it is read otherwise where guards are unknown
-abbrev pub is_guarded : Plain → Bool
-is_guarded c = not (same (caveat_value (caveat_of true c)) (caveat_value (caveat_of false c)))
-
-abbrev pub any_guarded : Plains → Bool
-any_guarded no_more = false
-any_guarded (then_more c cs) = is_guarded c || any_guarded cs
-
 -- the reference to an actor itself, with these caveats
 abbrev pub reference_to : ℕ → Plains → Cap
 reference_to actor cs = record { actor = actor; entity = 0; caveats = caveats_from cs }
 
--- one with a guard isn't built
 abbrev pub bound_to : Plain → List ℕ → Plains → ℕ → ScriptEvent
-bound_to oid key cs space =
-    if any_guarded cs then Unbuilt else Bind (record { oid = oid; key = key; cap = reference_to space cs })
+bound_to oid key cs space = Bind (record { oid = oid; key = key; cap = reference_to space cs })
 
 -- `<bind oid key space caveats>`
 abbrev pub binding_event : Plain → Plain → Plain → Plain → Option ScriptEvent

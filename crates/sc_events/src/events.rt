@@ -3,8 +3,8 @@ ghost use Rattle.std.specs.Prelude.{◌≡◌, codes, IfOk, IfSome, option_map, 
 ghost use Rattle.pv_value.specs.Plain.{plains};
 ghost use Rattle.sc_events.specs.Events.{number_below, name_in, arrival_in, space_in, open_event};
 ghost use Rattle.sc_events.specs.Events.{close_event, turn_event, drain_event, schema_event};
-ghost use Rattle.sc_events.specs.Events.{event_of_one, bytes_event, event_of_two, is_guarded};
-ghost use Rattle.sc_events.specs.Events.{any_guarded, reference_to, bound_to, binding_event};
+ghost use Rattle.sc_events.specs.Events.{event_of_one, bytes_event, event_of_two};
+ghost use Rattle.sc_events.specs.Events.{reference_to, bound_to, binding_event};
 ghost use Rattle.sc_events.specs.Events.{is_symbol, is_watch, unbuilt_where, event_of_four};
 ghost use Rattle.sc_events.specs.Events.{event_of_record, event_of};
 
@@ -38,9 +38,9 @@ pub enum ScriptEvent {
     Drain(u64),
     /// More turns than a drain may have.
     LongDrain,
-    /// The schema of all guards, which isn't built; it may stand first alone.
-    Schema,
-    /// A binding with a guard, or a watcher, which aren't built.
+    /// The text of the schema by which guards judge; it may stand first alone.
+    Schema(Text),
+    /// A watcher, which isn't built.
     Unbuilt,
 }
 
@@ -103,26 +103,26 @@ fn drain_event(value: &Value) -> Option<ScriptEvent>
     }
 }
 
-fn schema_event(value: &Value) -> Option<ScriptEvent>
-    ensures { result ≡ schema_event value.now }
+fn schema_event(value: &Value) -> Result<Option<ScriptEvent>, NoMemory>
+    ensures { IfOk result (λ e. e ≡ schema_event value.now) }
 {
     match &value.node {
-        Node::Str(_) => Some(ScriptEvent::Schema),
-        _ => None,
+        Node::Str(text) => Ok(Some(ScriptEvent::Schema(text.copy()?))),
+        _ => Ok(None),
     }
 }
 
 /// The event of this word with one field.
-fn event_of_one(word: &Text, field: &Value) -> Option<ScriptEvent>
-    ensures { result ≡ event_of_one word.now field.now }
+fn event_of_one(word: &Text, field: &Value) -> Result<Option<ScriptEvent>, NoMemory>
+    ensures { IfOk result (λ e. e ≡ event_of_one word.now field.now) }
 {
     match word.as_str() {
-        "open" => open_event(field),
-        "close" => close_event(field),
-        "step" => turn_event(field),
-        "drain" => drain_event(field),
+        "open" => Ok(open_event(field)),
+        "close" => Ok(close_event(field)),
+        "step" => Ok(turn_event(field)),
+        "drain" => Ok(drain_event(field)),
         "schema" => schema_event(field),
-        _ => None,
+        _ => Ok(None),
     }
 }
 
@@ -146,27 +146,6 @@ fn event_of_two(word: &Text, first: &Value, second: &Value) -> Result<Option<Scr
         "bytes" => bytes_event(first, second),
         _ => Ok(None),
     }
-}
-
-/// Whether one of the caveats has a guard.
-fn any_guarded(alloc: Global, caveats: &[Value]) -> Result<bool, NoMemory>
-    ensures { IfOk result (λ b. b ≡ any_guarded (plains caveats.now)) }
-{
-    for caveat in caveats {
-        if is_guarded(alloc, caveat)? {
-            return Ok(true);
-        }
-    }
-    Ok(false)
-}
-
-/// Whether a caveat has a guard: then it is read otherwise where guards are unknown.
-fn is_guarded(alloc: Global, caveat: &Value) -> Result<bool, NoMemory>
-    ensures { IfOk result (λ b. b ≡ is_guarded caveat.now) }
-{
-    let own = parse_caveat(alloc, caveat, true)?.to_value(alloc)?;
-    let other = parse_caveat(alloc, caveat, false)?.to_value(alloc)?;
-    Ok(own != other)
 }
 
 /// The reference to an actor itself, with these caveats, each read as one of the server's own.
@@ -194,9 +173,6 @@ fn bound_to(
 ) -> Result<ScriptEvent, NoMemory>
     ensures { IfOk result (λ e. e ≡ bound_to oid.now key.now (plains caveats.now) space) }
 {
-    if any_guarded(alloc, caveats)? {
-        return Ok(ScriptEvent::Unbuilt);
-    }
     Ok(ScriptEvent::Bind(Binding {
         oid: oid.copy()?,
         key: key.copy()?,
@@ -286,7 +262,7 @@ fn event_of_record(
     ensures { IfOk result (λ e. e ≡ event_of_record word.now (plains fields.now)) }
 {
     match fields {
-        [field] => Ok(event_of_one(word, field)),
+        [field] => event_of_one(word, field),
         [first, second] => event_of_two(word, first, second),
         [first, second, third, fourth] => {
             event_of_four(alloc, word, first, second, third, fourth)

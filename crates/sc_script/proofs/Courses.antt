@@ -19,6 +19,7 @@ stops_from : (whole : Course) (later : Running → Course) (c : Course) (f : Scr
     → IsStopped c f → IsStopped whole f
 stops_from whole later c (fault.Bad n) is h = is ∙ ap (goes_on later) h
 stops_from whole later c (fault.Limit w) is h = is ∙ ap (goes_on later) h
+stops_from whole later c (fault.Schema n) is h = is ∙ ap (goes_on later) h
 stops_from whole later c (fault.NotBuilt n) is h = is ∙ ap (goes_on later) h
 stops_from whole later c fault.NoMemory is h = tt
 

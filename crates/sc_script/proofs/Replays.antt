@@ -32,12 +32,12 @@ all_sent_from-more s (f ∷ es) e =
 abbrev pub bytes_of : List Packet → ℕ
 bytes_of ps = length (spelled ps)
 
-pub sent_size-more : (es : List Step) (e : Step) → sent_size (es ++ e ∷ [])
-    ≡ sent_size es + bytes_of (packet_in (step (replay es) e).reply)
-sent_size-more es e =
-    let ps = all_sent_from opening es in
-    let more = packet_in (step (replay es) e).reply in
-    ap bytes_of (all_sent_from-more opening es e)
+pub sent_size-more : (r : Running) (e : Step)
+    → sent_size (with_step e r) ≡ sent_size r + bytes_of (packet_in (step (replay r.schema r.steps) e).reply)
+sent_size-more r e =
+    let ps = all_sent_from (opening r.schema) r.steps in
+    let more = packet_in (step (replay r.schema r.steps) e).reply in
+    ap bytes_of (all_sent_from-more (opening r.schema) r.steps e)
     ∙ ap length (flat_map-append (λ p. written (packet_value p)) ps more)
     ∙ length-append (spelled ps) (spelled more)
 
@@ -48,11 +48,11 @@ pub at_more : (r : Running) (e : Step) (s now : RunState) → IsAt r s → IsAll
     → now.size ≡ s.size + bytes_of (packet_in (step s.state e).reply) → now.streams ≡ s.streams
     → IsAt (with_step e r) now
 at_more r e s now at may is_state is_sent is_size is_streams = record {
-  allowed = allowed_more opening r.steps e at.allowed (subst (λ t. IsAllowed t e) at.state may);
-  state = is_state ∙ ap (λ t. (step t e).state) at.state ∙ sym (replay-more r.steps e);
+  allowed = allowed_more (opening r.schema) r.steps e at.allowed (subst (λ t. IsAllowed t e) at.state may);
+  state = is_state ∙ ap (λ t. (step t e).state) at.state ∙ sym (replay-more r.schema r.steps e);
   sent = λ k. is_sent k ∙ (λ i. at.sent k i ++ sent_by k e (step (at.state i) e).reply)
-      ∙ sym (sent_to-more k r.steps e);
+      ∙ sym (sent_to-more r.schema k r.steps e);
   size = is_size ∙ (λ i. at.size i + bytes_of (packet_in (step (at.state i) e).reply))
-      ∙ sym (sent_size-more r.steps e);
+      ∙ sym (sent_size-more r e);
   streams = is_streams ∙ at.streams;
 }

@@ -1,11 +1,13 @@
 -- A step of a run, by its reply: the run goes on from what is kept behind it, or sends too much, or binds what is barred.
-use Rattle.std.proofs.Common.{◌≡◌, ℕ, ◌+◌, ◌≤◌, ◌<◌, true, false, [], ◌∷◌, ◌++◌, refl, sym, ap, ◌∙◌, subst}
+use Rattle.std.proofs.Common.{◌≡◌, ℕ, ◌+◌, ◌≤◌, ◌<◌, true, false, [], ◌++◌, refl, sym, ap, ◌∙◌, subst}
 use Rattle.std.proofs.Common.{append-nil, arith, nat_lt, length, if◌then◌else◌, Bool, Option}
 use Rattle.std.proofs.lemmas.Bool.Decides.{nat_tests}
 use Rattle.pv_binary.specs.Written.{written}
 use Rattle.rl_packet.specs.Packets.{packet_value}
 use Rattle.rl_packet.specs.declared.packets.Packet.{Packet}
 use Rattle.gk_sturdy.specs.declared.bound.Binding.{Binding}
+use Rattle.sr_caveat.specs.Patterns.{caveats}
+use Rattle.lc_guard.specs.Knowing.{all_known}
 use Rattle.hub_machine.specs.State.{State}
 use Rattle.hub_machine.specs.Machine.{step, is_worn, is_barred, bind_unless, unchanged, IsAllowed}
 use Rattle.hub_machine.specs.Replays.{packet_in, sent_by}
@@ -19,7 +21,7 @@ use Rattle.sc_script.specs.declared.faults.ScriptFault.TheVariants as fault
 use Rattle.sc_script.specs.Runs.{Running, Course, goes, stops, limit, by_reply, stepped, with_step, bound_by, binds}
 use Rattle.sc_script.specs.Keeping.{RunState}
 use Rattle.hub_outs.specs.Outs.{sent_of, kept, turning}
-use Rattle.sc_script.specs.Runs.{unless_too_much, sent_size}
+use Rattle.sc_script.specs.Runs.{unless_too_much, sent_size, bound_where, config}
 use Rattle.sc_script.specs.Keeping.{size_of, noted, IsAt, HasRun, IsStopped}
 use Rattle.sc_script.proofs.Replays.{at_more, bytes_of, sent_size-more}
 use Rattle.hub_outs.specs.Lemmas.Sending.{kept_sent, none_sent}
@@ -45,14 +47,14 @@ quiet Taken worn full sent = (λ r. refl, refl)
 
 -- ---- a packet
 
-goes_where : (r : Running) (n : ℕ) → n ≡ sent_size r.steps → n ≤ 268435456 → unless_too_much r ≡ goes r
+goes_where : (r : Running) (n : ℕ) → n ≡ sent_size r → n ≤ 268435456 → unless_too_much r ≡ goes r
 goes_where r n is few =
-    let b : nat_lt 268435456 (sent_size r.steps) ≡ false = grind (arith, nat_tests) in
+    let b : nat_lt 268435456 (sent_size r) ≡ false = grind (arith, nat_tests) in
     ap (λ b. if b then stops (limit 4) else goes r) b
 
-stops_where : (r : Running) (n : ℕ) → sent_size r.steps ≡ n → 268435456 < n → unless_too_much r ≡ stops (limit 4)
+stops_where : (r : Running) (n : ℕ) → sent_size r ≡ n → 268435456 < n → unless_too_much r ≡ stops (limit 4)
 stops_where r n is many =
-    let b : nat_lt 268435456 (sent_size r.steps) ≡ true = grind (arith, nat_tests) in
+    let b : nat_lt 268435456 (sent_size r) ≡ true = grind (arith, nat_tests) in
     ap (λ b. if b then stops (limit 4) else goes r) b
 
 -- ---- steps
@@ -73,8 +75,8 @@ one_sent p reply is =
 pub stops_sending : (e : Step) (r : Running) (s : RunState) (p : Packet) → IsAt r s → (step s.state e).reply ≡ Sent p
     → 268435456 < s.size + size_of p → stepped e r ≡ stops (limit 4)
 stops_sending e r s p at is many =
-    let all : sent_size (r.steps ++ e ∷ []) ≡ s.size + size_of p =
-    sent_size-more r.steps e
+    let all : sent_size (with_step e r) ≡ s.size + size_of p =
+    sent_size-more r e
     ∙ (λ i. sym at.size i + bytes_of (packet_in (step (sym at.state i) e).reply))
     ∙ ap (λ n. s.size + n) (one_sent p (step s.state e).reply is) in
     by_the_reply e r s (Sent p) at (sym is) ∙ stops_where (with_step e r) (s.size + size_of p) all many
@@ -149,21 +151,36 @@ bound_quietly n Barred so worn barred = absurd (barred refl)
 bound_quietly n Taken so worn barred = (λ r. refl, refl)
 bound_quietly n reply so worn barred = absurd so
 
+-- whether the names of all its guards are known there
+abbrev pub knows_all : Binding → State → Bool
+knows_all b s = all_known s.world.schema (caveats b.cap.caveats)
+
+bound_so : (n : ℕ) (b : Binding) (r : Running) (s : RunState) (known : Bool) → IsAt r s → knows_all b s.state ≡ known
+    → binds n b r ≡ bound_where known n b r
+bound_so n b r s known at is = ap (λ c. bound_where c n b r) (ap (knows_all b) (sym at.state) ∙ is)
+
+-- a guard whose name isn't known
+pub stops_unknown : (n : ℕ) (b : Binding) (r : Running) (s : RunState) → IsAt r s → knows_all b s.state ≡ false
+    → binds n b r ≡ stops (config n)
+stops_unknown n b r s at is = bound_so n b r s false at is
+
 -- the reply is that of the run
 pub bound_by_the_reply : (n : ℕ) (b : Binding) (r : Running) (s : RunState) (reply : Reply) → IsAt r s
-    → reply ≡ (step s.state (Bind b)).reply → binds n b r ≡ bound_by n reply (with_step (Bind b) r)
-bound_by_the_reply n b r s reply at is =
-    ap (λ x. bound_by n x (with_step (Bind b) r)) (sym (is ∙ ap (λ t. (step t (Bind b)).reply) at.state))
+    → knows_all b s.state ≡ true → reply ≡ (step s.state (Bind b)).reply
+    → binds n b r ≡ bound_by n reply (with_step (Bind b) r)
+bound_by_the_reply n b r s reply at known is =
+    bound_so n b r s true at known
+    ∙ ap (λ x. bound_by n x (with_step (Bind b) r)) (sym (is ∙ ap (λ t. (step t (Bind b)).reply) at.state))
 
 pub goes_bound : (n : ℕ) (b : Binding) (r : Running) (s now : RunState) (reply : Reply) → IsAt r s
-    → IsAllowed s.state (Bind b) → now.state ≡ (step s.state (Bind b)).state
+    → knows_all b s.state ≡ true → IsAllowed s.state (Bind b) → now.state ≡ (step s.state (Bind b)).state
     → reply ≡ (step s.state (Bind b)).reply → (reply ≡ Worn → ⊥) → (reply ≡ Barred → ⊥) → now.outs ≡ s.outs
     → now.size ≡ s.size → now.streams ≡ s.streams → HasRun (binds n b r) now
-goes_bound n b r s now reply at may is_state is worn barred is_outs is_size is_streams =
+goes_bound n b r s now reply at known may is_state is worn barred is_outs is_size is_streams =
     let none = bound_quietly n reply (subst IsSaid (sym is) (said b s.state)) worn barred in
     goes_silently (Bind b) r s now at may is_state (binds n b r)
-    (bound_by_the_reply n b r s reply at is ∙ none.0 (with_step (Bind b) r)) (ap packet_in (sym is) ∙ none.1) is_outs
-    is_size is_streams
+    (bound_by_the_reply n b r s reply at known is ∙ none.0 (with_step (Bind b) r)) (ap packet_in (sym is) ∙ none.1)
+    is_outs is_size is_streams
 
 -- ---- what a fault tells
 
@@ -174,6 +191,9 @@ stops_for (fault.Bad k) n course told stop =
     let t = told (λ e. cc) in
     subst (IsStopped course) (sym t.0) (stop t.1)
 stops_for (fault.Limit w) n course told stop =
+    let t = told (λ e. cc) in
+    subst (IsStopped course) (sym t.0) (stop t.1)
+stops_for (fault.Schema k) n course told stop =
     let t = told (λ e. cc) in
     subst (IsStopped course) (sym t.0) (stop t.1)
 stops_for (fault.NotBuilt k) n course told stop =

@@ -30,10 +30,10 @@ noted a p s = record { state = s.state; outs = kept a p s.outs; size = s.size + 
 
 -- each step met its condition; the state, what each connection was sent, how many bytes, and the streams are the run's
 pub record IsAt (r : Running) (s : RunState) : Type 0 where
-  pub allowed : AreAllowed opening r.steps
+  pub allowed : AreAllowed (opening r.schema) r.steps
   pub state : s.state ≡ state_of r
-  pub sent : (k : ℕ) → sent_of k s.outs ≡ sent_to k r.steps
-  pub size : s.size ≡ sent_size r.steps
+  pub sent : (k : ℕ) → sent_of k s.outs ≡ sent_to r.schema k r.steps
+  pub size : s.size ≡ sent_size r
   pub streams : s.streams ≡ r.streams
 
 abbrev pub HasRun : Course → RunState → Type 0

@@ -1,9 +1,15 @@
 -- The run of a script: the steps that its values make, one event after another, or the first cause that stops it.
-use Rattle.std.specs.Prelude.{◌≡◌, ℕ, zero, suc, ◌+◌, ◌-◌, List, [], ◌∷◌, ◌++◌, length, Bool, ◌&&◌, ◌||◌, ◌==◌, nat_lt}
-use Rattle.std.specs.Prelude.{nat_le, Option, Some, None, unwrap_or, if◌then◌else◌}
+use Rattle.std.specs.Prelude.{◌≡◌, ◌≢◌, ℕ, zero, suc, ◌+◌, ◌-◌, List, [], ◌∷◌, ◌++◌, length, Bool, true, false, ◌&&◌}
+use Rattle.std.specs.Prelude.{◌||◌, ◌==◌, nat_lt, nat_le, Option, Some, None, unwrap_or, if◌then◌else◌}
 use Rattle.std.specs.List.{flat_map}
 use Rattle.pv_value.specs.Plain.{Plain}
 use Rattle.pv_binary.specs.Written.{written}
+use Rattle.ps_schema.specs.declared.Definition.{Definition}
+use Rattle.sr_caveat.specs.Patterns.{caveats}
+use Rattle.lc_guard.specs.Knowing.{all_known}
+use Rattle.ps_read.specs.Answers.{IsSchemaOf, IsSchemaFault}
+use Rattle.ps_read.specs.declared.faults.SchemaFault.{SchemaFault}
+use Rattle.ps_read.specs.declared.faults.SchemaFault.TheVariants as schema
 use Rattle.gk_sturdy.specs.declared.bound.Binding.{Binding}
 use Rattle.ac_world.specs.Worlds.{entry_of, with_entry, without_entry}
 use Rattle.rl_packet.specs.Packets.{packet_value}
@@ -30,16 +36,19 @@ use Rattle.sc_script.specs.declared.faults.ScriptFault.TheVariants as script
 
 -- ---- how far a run is, and what stops one
 
--- the steps that were made, and each connection's stream by its number
+-- the schema by which guards judge, the steps that were made, and each connection's stream by its number
 pub record Running : Type 0 where
+  pub schema : List Definition
   pub steps : List Step
   pub streams : List (ℕ × StreamState)
 
 -- value n is malformed, is no event, names a connection that was never opened, or binds what can't be bound; limit w is
--- passed; or in event n what isn't built yet would be done
+-- passed; event n gives what is no schema, or binds by a guard whose name the schema doesn't define; or in event n what
+-- isn't built yet would be done
 pub data Cause : Type 0 where
   bad : (n : ℕ) → Cause
   limit : (w : ℕ) → Cause
+  config : (n : ℕ) → Cause
   not_built : (n : ℕ) → Cause
 
 pub data Course : Type 0 where
@@ -51,11 +60,11 @@ abbrev pub goes_on : (Running → Course) → Course → Course
 goes_on more (goes r) = more r
 goes_on more (stops c) = stops c
 
-abbrev pub beginning : Running
-beginning = record { steps = []; streams = [] }
+abbrev pub beginning : List Definition → Running
+beginning ds = record { schema = ds; steps = []; streams = [] }
 
 abbrev pub state_of : Running → State
-state_of r = replay r.steps
+state_of r = replay r.schema r.steps
 
 -- ---- steps
 
@@ -68,15 +77,15 @@ abbrev pub spelled : List Packet → List ℕ
 spelled packets = flat_map (λ p. written (packet_value p)) packets
 
 -- how many bytes were sent
-abbrev pub sent_size : List Step → ℕ
-sent_size steps = length (spelled (all_sent_from (replay []) steps))
+abbrev pub sent_size : Running → ℕ
+sent_size r = length (spelled (all_sent_from (opening r.schema) r.steps))
 
 abbrev pub with_step : Step → Running → Running
-with_step e r = record { steps = r.steps ++ e ∷ []; streams = r.streams }
+with_step e r = record r { steps = r.steps ++ e ∷ [] }
 
 -- a run sends no more than 268,435,456 bytes
 abbrev pub unless_too_much : Running → Course
-unless_too_much r = if nat_lt 268435456 (sent_size r.steps) then stops (limit 4) else goes r
+unless_too_much r = if nat_lt 268435456 (sent_size r) then stops (limit 4) else goes r
 
 -- the numbers are used up, or more connections would be live than may be
 abbrev pub by_reply : Reply → Running → Course
@@ -107,7 +116,7 @@ abbrev pub stream_of : ℕ → Running → StreamState
 stream_of k r = unwrap_or (entry_of k r.streams) no_stream
 
 abbrev pub with_stream : ℕ → StreamState → Running → Running
-with_stream k s r = record { steps = r.steps; streams = with_entry k s r.streams }
+with_stream k s r = record r { streams = with_entry k s r.streams }
 
 -- more is read where the connection is still there; st is its stream
 abbrev pub read_where : ℕ → StreamState → (Running → Course) → Running → Course
@@ -143,7 +152,7 @@ packets_read N k st r = all_read N k (suc (length st.rest)) st r
 
 -- a stream is taken out, to be put back with more bytes, or fewer
 abbrev pub without_stream : ℕ → Running → Running
-without_stream k r = record { steps = r.steps; streams = without_entry k r.streams }
+without_stream k r = record r { streams = without_entry k r.streams }
 
 -- bytes come; those for an ended connection are dropped
 abbrev pub bytes_come : Decider → ℕ → List ℕ → Running → Course
@@ -158,8 +167,13 @@ abbrev pub bound_by : ℕ → Reply → Running → Course
 bound_by n reply.Barred r = stops (bad n)
 bound_by n answer r = by_reply answer r
 
+abbrev pub bound_where : Bool → ℕ → Binding → Running → Course
+bound_where true n b r = bound_by n (step_of (state_of r) (step.Bind b)).reply (with_step (step.Bind b) r)
+bound_where false n b r = stops (config n)
+
+-- the names of its guards are looked at first
 abbrev pub binds : ℕ → Binding → Running → Course
-binds n b r = bound_by n (step_of (state_of r) (step.Bind b)).reply (with_step (step.Bind b) r)
+binds n b r = bound_where (all_known (state_of r).world.schema (caveats b.cap.caveats)) n b r
 
 -- whether a connection was ever opened
 abbrev pub was_opened : ℕ → Running → Bool
@@ -177,7 +191,7 @@ after_event N n (Close k) r = if was_opened k r then stepped (step.Close k) r el
 after_event N n (Turn a) r = if may_turn a r then turned a r else stops (bad n)
 after_event N n (Drain m) r = drained m r
 after_event N n LongDrain r = stops (limit 3)
-after_event N n Schema r = if n == 0 then stops (not_built 0) else stops (bad n)
+after_event N n (Schema text) r = if n == 0 then goes r else stops (bad n)
 after_event N n Unbuilt r = stops (not_built n)
 
 abbrev pub after_value : Decider → ℕ → Option ScriptEvent → Running → Course
@@ -193,13 +207,38 @@ after_values N n (v ∷ vs) r = goes_on (after_values N (n + 1) vs) (after_value
 abbrev pub ended : Bool → ℕ → Running → Course
 ended whole n r = if whole then goes r else stops (bad n)
 
-abbrev pub course_of : Decider → List Plain → Bool → Course
-course_of N vs whole = goes_on (ended whole (length vs)) (after_values N 0 vs beginning)
+-- the course of all values, where the first one, if it gives a schema, gives this one
+abbrev pub course_of : Decider → Option (List Definition) → List Plain → Bool → Course
+course_of N None vs whole = stops (config 0)
+course_of N (Some ds) vs whole = goes_on (ended whole (length vs)) (after_values N 0 vs (beginning ds))
+
+-- ---- the schema
+
+-- the text of the schema that an event gives
+abbrev pub text_in : Option ScriptEvent → Option (List ℕ)
+text_in (Some (Schema text)) = Some text
+text_in o = None
+
+-- the first value may give one
+abbrev pub first_text : List Plain → Option (List ℕ)
+first_text [] = None
+first_text (v ∷ vs) = text_in (event_of v)
+
+-- the text is this schema, or none; where no text is given, the schema is that without definitions
+abbrev pub IsVerdict : Option (List ℕ) → Option (List Definition) → Type 0
+IsVerdict None o = o ≡ Some []
+IsVerdict (Some text) (Some ds) = IsSchemaOf text ds
+IsVerdict (Some text) None = (f : SchemaFault) × (f ≢ schema.NoMemory) × IsSchemaFault text f
+
+-- the text is a schema, or is refused
+abbrev pub HasVerdict : List ℕ → Type 0
+HasVerdict text = (o : Option (List Definition)) × IsVerdict (Some text) o
 
 -- ---- faults
 
 abbrev pub cause_in : ScriptFault → Option Cause
 cause_in (script.Bad n) = Some (bad n)
 cause_in (script.Limit w) = Some (limit w)
+cause_in (script.Schema n) = Some (config n)
 cause_in (script.NotBuilt n) = Some (not_built n)
 cause_in script.NoMemory = None

@@ -1,7 +1,9 @@
 -- What stands of an input as a script: a run of all its values, or the first cause that stops it. The length of the
 -- input is looked at first, and whether a text is UTF-8; then its values in order, each done before the next is judged.
+-- The first one may give the schema by which guards judge.
 use Rattle.std.specs.Prelude.{◌≡◌, ℕ, ◌<◌, ◌≤◌, ◌⊎◌, Bool, List, length, Option, Some, None}
 use Rattle.pv_value.specs.Plain.{Plain}
+use Rattle.ps_schema.specs.declared.Definition.{Definition}
 use Rattle.rl_stream.specs.Nexts.{Decider, Decides}
 use Rattle.hub_machine.specs.State.{opening}
 use Rattle.hub_laws.specs.Laws.{AreAllowed}
@@ -10,11 +12,13 @@ use Rattle.sc_events.specs.declared.inputs.Form.{Form}
 use Rattle.sc_events.specs.Readings.{AreReadAs}
 use Rattle.sc_script.specs.declared.faults.ScriptFault.{ScriptFault}
 use Rattle.sc_script.specs.Runs.{Cause, limit, Course, goes, stops, course_of, Running, cause_in}
+use Rattle.sc_script.specs.Runs.{first_text, IsVerdict}
 use Rattle.sc_script.specs.Leavings.{ran_of}
 
 abbrev pub IsCourseOfValues : Decider → Form → List ℕ → Course → Type 0
 IsCourseOfValues N form bytes c =
-    (vs : List Plain) × (whole : Bool) × AreReadAs form bytes vs whole × (c ≡ course_of N vs whole)
+    (vs : List Plain) × (whole : Bool) × AreReadAs form bytes vs whole
+    × (o : Option (List Definition)) × IsVerdict (first_text vs) o × (c ≡ course_of N o vs whole)
 
 -- no more than 67,108,864 bytes
 abbrev pub IsCourseOf : Decider → Form → List ℕ → Course → Type 0
@@ -33,5 +37,5 @@ StopsAt form bytes f = StopsWith form bytes (cause_in f)
 -- the input runs through steps, each of which met its condition, to what is left
 abbrev pub LeavesAs : Form → List ℕ → RanState → Type 0
 LeavesAs form bytes ran =
-    (N : Decider) → Decides N → (r : Running) × IsCourseOf N form bytes (goes r) × AreAllowed opening r.steps
-    × (ran ≡ ran_of r.steps)
+    (N : Decider) → Decides N → (r : Running) × IsCourseOf N form bytes (goes r)
+    × AreAllowed (opening r.schema) r.steps × (ran ≡ ran_of r.schema r.steps)

@@ -16,6 +16,9 @@ pub enum ScriptFault {
     /// 4, bytes that are sent; 5, the server's numbers.
     #[error("limit {0}")]
     Limit(u8),
+    /// Event n gives what is no schema, or binds by a guard whose name the schema doesn't define.
+    #[error("bad config at {0}")]
+    Schema(u64),
     /// In event n comes what isn't built yet.
     #[error("value {0} isn't built")]
     NotBuilt(u64),

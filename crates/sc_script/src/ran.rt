@@ -9,11 +9,13 @@ use crate::faults::ScriptFault;
 use crate::runs::Run;
 use crate::scripts::run_of;
 use ds_space::Space;
+use lc_guard::Predicate;
 use pv_binary::write_into;
 use pv_value::{Blob, NoMemory};
 use rl_packet::{Packet, held, packet_value};
 use sc_events::Form;
 use sc_report::{Connection, Ran};
+use sr_pass::Judge;
 use std::alloc::Global;
 
 /// The written spellings of packets, one behind another.
@@ -29,13 +31,13 @@ fn spelled(alloc: Global, packets: &[Packet]) -> Result<Blob, NoMemory>
 }
 
 /// What a run leaves of the connection of this number.
-fn left_of<S: Space + Drop>(
+fn left_of<S: Space + Drop, J: Judge + Drop>(
     alloc: Global,
-    run: &Run<S>,
+    run: &Run<S, J>,
     number: u32,
 ) -> Result<Connection, NoMemory>
     ensures { IfOk result (λ c. (r : Running) → IsAt r run.now
-        → c ≡ connection_after r.steps number) }
+        → c ≡ connection_after r.schema r.steps number) }
 {
     let packets = run.outs.of(number);
     Ok(Connection {
@@ -46,9 +48,12 @@ fn left_of<S: Space + Drop>(
 }
 
 /// The connections that have come, ascending.
-fn connections<S: Space + Drop>(alloc: Global, run: &Run<S>) -> Result<Vec<Connection>, NoMemory>
+fn connections<S: Space + Drop, J: Judge + Drop>(
+    alloc: Global,
+    run: &Run<S, J>,
+) -> Result<Vec<Connection>, NoMemory>
     ensures { IfOk result (λ cs. (r : Running) → IsAt r run.now
-        → cs.items ≡ connections_after r.steps run.now.state.world.opened) }
+        → cs.items ≡ connections_after r.schema r.steps run.now.state.world.opened) }
 {
     let mut connections = Vec::new(alloc);
     for earlier in 0..run.hub.opened() {
@@ -58,8 +63,11 @@ fn connections<S: Space + Drop>(alloc: Global, run: &Run<S>) -> Result<Vec<Conne
 }
 
 /// What a run leaves.
-fn left_by<S: Space + Drop>(alloc: Global, run: &Run<S>) -> Result<Ran, NoMemory>
-    ensures { IfOk result (λ ran. (r : Running) → IsAt r run.now → ran ≡ ran_of r.steps) }
+fn left_by<S: Space + Drop, J: Judge + Drop>(
+    alloc: Global,
+    run: &Run<S, J>,
+) -> Result<Ran, NoMemory>
+    ensures { IfOk result (λ ran. (r : Running) → IsAt r run.now → ran ≡ ran_of r.schema r.steps) }
 {
     Ok(Ran {
         pending: run.hub.pending(),
@@ -69,15 +77,17 @@ fn left_by<S: Space + Drop>(alloc: Global, run: &Run<S>) -> Result<Ran, NoMemory
 
 /// What the run of the script leaves that an input is, over any body of a dataspace, or the first
 /// cause that stops it. The input's length is looked at first, and whether a text is UTF-8; then
-/// its values in order, each done before the next is judged.
-pub fn run_script<S: Space + Drop>(
+/// its values in order, each done before the next is judged. Guards judge by the schema that the
+/// first value gives, through the function.
+pub fn run_script<S: Space + Drop, F: Predicate + Drop>(
     alloc: Global,
     bytes: &[u8],
     form: Form,
+    predicate: F,
 ) -> Result<Ran, ScriptFault>
     ensures run { IfOk result (LeavesAs form bytes.now) }
     ensures stop { IfErr result (StopsAt form bytes.now) }
 {
-    let run = run_of::<S>(alloc, bytes, form)?;
+    let run = run_of::<S, F>(alloc, bytes, form, predicate)?;
     Ok(left_by(alloc, &run)?)
 }

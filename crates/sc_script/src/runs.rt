@@ -10,7 +10,8 @@ ghost use Rattle.sc_events.specs.Events.{event_of, IsSoundEvent};
 ghost use Rattle.sc_script.specs.declared.faults.ScriptFault.TheVariants as fault;
 ghost use Rattle.sc_script.specs.Runs.{Running, Course, goes, beginning, stepped, turned, drained};
 ghost use Rattle.sc_script.specs.Runs.{with_stream, with_no_packet, packets_read, bytes_come};
-ghost use Rattle.sc_script.specs.Runs.{binds, was_opened, may_turn, after_event, after_value, with_packet};
+ghost use Rattle.sc_script.specs.Runs.{binds, was_opened, may_turn, with_packet};
+ghost use Rattle.sc_script.specs.Runs.{after_event, after_value};
 ghost use Rattle.sc_script.specs.Keeping.{size_of, noted, IsAt, RunsAs, StopsAs, ReadsOn};
 
 use crate::faults::ScriptFault;
@@ -19,12 +20,14 @@ use ds_space::Space;
 use gk_sturdy::Binding;
 use hub_core::{Fault, Hub, Reply, Step};
 use hub_outs::{Outs, turning};
+use lc_guard::all_known;
 use pv_canon::{canon_len, canonical_is_exact};
 use pv_value::{NoMemory, Value};
 use rl_packet::{Packet, Turn, packet_value};
 use rl_stream::{Next, Stream};
 use sc_events::{ScriptEvent, event_of};
 use sc_streams::Streams;
+use sr_pass::Judge;
 use std::alloc::Global;
 use std::marker::Model;
 
@@ -33,22 +36,23 @@ const SENT_BYTES: u64 = 268_435_456;
 
 /// A run so far: the server, what connections were sent and how many bytes, and what they sent.
 #[derive(Drop)]
-pub(crate) struct Run<S: Space + Drop> {
-    pub(crate) hub: Hub<S>,
+pub(crate) struct Run<S: Space + Drop, J: Judge + Drop> {
+    pub(crate) hub: Hub<S, J>,
     pub(crate) outs: Outs,
     size: u64,
     streams: Streams,
 }
 
-impl<S: Space + Drop> Model for Run<S> {
+impl<S: Space + Drop, J: Judge + Drop> Model for Run<S, J> {
     ghost use Rattle.std.specs.Coded.{codes};
     ghost use Rattle.pv_value.specs.Lemmas.Coded.{plain_code};
     ghost use Rattle.sr_caveat.specs.Lemmas.Coded.{caveat_code};
+    ghost use Rattle.ps_schema.specs.Lemmas.CodedDefinitions.{definition_code};
     ghost use Rattle.sc_script.specs.Keeping.{RunState};
 
     ghost Value = { RunState };
 
-    ghost coded = { Prim.hlevel (codes, plain_code, caveat_code) };
+    ghost coded = { Prim.hlevel (codes, plain_code, caveat_code, definition_code) };
 
     ghost view = { λ r. record {
       state = r.hub;
@@ -72,13 +76,13 @@ fn size_of(alloc: Global, packet: &Packet) -> Result<u64, NoMemory>
     Ok(canon_len(&value))
 }
 
-impl<S: Space + Drop> Run<S> {
-    /// Nothing is done yet.
-    pub(crate) fn begin(alloc: Global) -> Result<Run<S>, NoMemory>
-        ensures { IfOk result (IsAt beginning) }
+impl<S: Space + Drop, J: Judge + Drop> Run<S, J> {
+    /// Nothing is done yet. Guards judge by what is handed in.
+    pub(crate) fn begin(alloc: Global, judge: J) -> Result<Run<S, J>, NoMemory>
+        ensures { IfOk result (IsAt (beginning (J.schema judge))) }
     {
         Ok(Run {
-            hub: Hub::begin(alloc)?,
+            hub: Hub::begin(alloc, judge)?,
             outs: Outs::new(alloc),
             size: 0,
             streams: Streams::new(alloc),
@@ -87,7 +91,12 @@ impl<S: Space + Drop> Run<S> {
 
     /// A packet was sent by a step, which is an actor's turn: it is kept for its connection, and
     /// its bytes count.
-    fn note(self, alloc: Global, actor: Option<u32>, packet: Packet) -> Result<Run<S>, ScriptFault>
+    fn note(
+        self,
+        alloc: Global,
+        actor: Option<u32>,
+        packet: Packet,
+    ) -> Result<Run<S, J>, ScriptFault>
         ensures run { IfOk result (λ run. run ≡ noted actor packet self) }
         ensures stop { IfErr result (λ f. f ≢ fault.NoMemory
             → (f ≡ fault.Limit 4) × (268435456 < self.size + size_of packet)) }
@@ -111,12 +120,16 @@ impl<S: Space + Drop> Run<S> {
         })
     }
 
-    /// Event `place` binds a reference, and is bad where that is barred.
-    fn bind(self, alloc: Global, place: u64, binding: Binding) -> Result<Run<S>, ScriptFault>
+    /// Event `place` binds a reference. The names of its guards are looked at first; then it is bad
+    /// where that is barred.
+    fn bind(self, alloc: Global, place: u64, binding: Binding) -> Result<Run<S, J>, ScriptFault>
         requires { IsSound binding.cap }
         ensures run { IfOk result (RunsAs self (λ N. binds place binding)) }
         ensures stop { IfErr result (StopsAs self (λ N. binds place binding)) }
     {
+        if !all_known(self.hub.judge(), binding.cap.caveats.as_slice()) {
+            return Err(ScriptFault::Schema(place));
+        }
         let Run {
             hub,
             outs,
@@ -137,7 +150,7 @@ impl<S: Space + Drop> Run<S> {
     }
 
     /// A step, whose condition is seen to.
-    fn step(self, alloc: Global, event: Step) -> Result<Run<S>, ScriptFault>
+    fn step(self, alloc: Global, event: Step) -> Result<Run<S, J>, ScriptFault>
         requires { IsAllowed self.state event }
         ensures run { IfOk result (RunsAs self (λ N. stepped event)) }
         ensures stop { IfErr result (StopsAs self (λ N. stepped event)) }
@@ -170,7 +183,7 @@ impl<S: Space + Drop> Run<S> {
     }
 
     /// A turn of an actor.
-    fn turn(self, alloc: Global, actor: u32) -> Result<Run<S>, ScriptFault>
+    fn turn(self, alloc: Global, actor: u32) -> Result<Run<S, J>, ScriptFault>
         ensures run { IfOk result (RunsAs self (λ N. turned actor)) }
         ensures stop { IfErr result (StopsAs self (λ N. turned actor)) }
     {
@@ -178,7 +191,7 @@ impl<S: Space + Drop> Run<S> {
     }
 
     /// Up to so many turns of the lowest actor that has work.
-    fn drain(self, alloc: Global, turns: u64) -> Result<Run<S>, ScriptFault>
+    fn drain(self, alloc: Global, turns: u64) -> Result<Run<S, J>, ScriptFault>
         ensures run { IfOk result (RunsAs self (λ N. drained turns)) }
         ensures stop { IfErr result (StopsAs self (λ N. drained turns)) }
     {
@@ -193,7 +206,7 @@ impl<S: Space + Drop> Run<S> {
     }
 
     /// A connection's stream is put back.
-    fn with_stream(self, connection: u32, stream: Stream) -> Result<Run<S>, NoMemory>
+    fn with_stream(self, connection: u32, stream: Stream) -> Result<Run<S, J>, NoMemory>
         ensures { IfOk result (RunsAs self (λ N r. goes (with_stream connection stream r))) }
     {
         let Run {
@@ -212,7 +225,7 @@ impl<S: Space + Drop> Run<S> {
     }
 
     /// A turn of a connection.
-    fn send(self, alloc: Global, connection: u32, turn: Turn) -> Result<Run<S>, ScriptFault>
+    fn send(self, alloc: Global, connection: u32, turn: Turn) -> Result<Run<S, J>, ScriptFault>
         ensures run { IfOk result (RunsAs self (λ N. stepped (steps.Packet connection turn))) }
         ensures stop { IfErr result (StopsAs self (λ N. stepped (steps.Packet connection turn))) }
     {
@@ -228,7 +241,7 @@ impl<S: Space + Drop> Run<S> {
         connection: u32,
         next: Next,
         stream: Stream,
-    ) -> Result<Run<S>, ScriptFault>
+    ) -> Result<Run<S, J>, ScriptFault>
         ensures run { IfOk result (RunsAs self (λ N. with_no_packet connection next stream)) }
         ensures stop { IfErr result (StopsAs self (λ N. with_no_packet connection next stream)) }
     {
@@ -250,7 +263,7 @@ impl<S: Space + Drop> Run<S> {
         connection: u32,
         packet: Packet,
         stream: Stream,
-    ) -> Result<(Run<S>, Option<Stream>), ScriptFault>
+    ) -> Result<(Run<S, J>, Option<Stream>), ScriptFault>
         ensures run { IfOk result (λ done. (N : Decider) → Decides N → (r : Running) → IsAt r self
             → ReadsOn done.0 done.1 stream
             (λ more. with_packet connection packet stream more r)) }
@@ -281,7 +294,7 @@ impl<S: Space + Drop> Run<S> {
         alloc: Global,
         connection: u32,
         mut stream: Stream,
-    ) -> Result<Run<S>, ScriptFault>
+    ) -> Result<Run<S, J>, ScriptFault>
         ensures run { IfOk result
             (RunsAs self (λ N. packets_read N connection stream)) }
         ensures stop { IfErr result
@@ -304,7 +317,7 @@ impl<S: Space + Drop> Run<S> {
     }
 
     /// Bytes of a connection come.
-    fn bytes(self, alloc: Global, connection: u32, bytes: &[u8]) -> Result<Run<S>, ScriptFault>
+    fn bytes(self, alloc: Global, connection: u32, bytes: &[u8]) -> Result<Run<S, J>, ScriptFault>
         ensures run { IfOk result
             (RunsAs self (λ N. bytes_come N connection bytes.now)) }
         ensures stop { IfErr result
@@ -345,7 +358,7 @@ impl<S: Space + Drop> Run<S> {
     }
 
     /// Event `place` of a script.
-    fn event(self, alloc: Global, place: u64, event: ScriptEvent) -> Result<Run<S>, ScriptFault>
+    fn event(self, alloc: Global, place: u64, event: ScriptEvent) -> Result<Run<S, J>, ScriptFault>
         requires { IsSoundEvent event }
         ensures run { IfOk result (RunsAs self (λ N. after_event N place event)) }
         ensures stop { IfErr result (StopsAs self (λ N. after_event N place event)) }
@@ -362,7 +375,7 @@ impl<S: Space + Drop> Run<S> {
             ScriptEvent::Turn(actor) if self.may_turn(actor) => self.turn(alloc, actor),
             ScriptEvent::Drain(turns) => self.drain(alloc, turns),
             ScriptEvent::LongDrain => Err(ScriptFault::Limit(3)),
-            ScriptEvent::Schema if place == 0 => Err(ScriptFault::NotBuilt(0)),
+            ScriptEvent::Schema(_) if place == 0 => Ok(self),
             ScriptEvent::Unbuilt => Err(ScriptFault::NotBuilt(place)),
             _ => Err(ScriptFault::Bad(place)),
         }
@@ -374,7 +387,7 @@ impl<S: Space + Drop> Run<S> {
         alloc: Global,
         place: u64,
         value: &Value,
-    ) -> Result<Run<S>, ScriptFault>
+    ) -> Result<Run<S, J>, ScriptFault>
         ensures run { IfOk result
             (RunsAs self (λ N. after_value N place (event_of value.now))) }
         ensures stop { IfErr result

@@ -1,8 +1,9 @@
 -- Lists of caveats, one behind the other.
-use Rattle.std.proofs.Common.{◌≡◌, ℕ, zero, suc, ◌+◌, ◌-◌, Bool, List, [], ◌∷◌, ◌++◌, length, drop, get_or, Option}
+use Rattle.std.proofs.Common.{◌≡◌, ℕ, zero, suc, ◌+◌, ◌-◌, List, [], ◌∷◌, ◌++◌, length, drop, get_or, Option}
 use Rattle.std.proofs.Common.{Some, None}
 use Rattle.std.proofs.Common.{option_and_then, refl, sym, ap, ◌∙◌, arith}
 use Rattle.pv_value.specs.Plain.{Plain}
+use Rattle.ps_schema.specs.declared.Definition.{Definition}
 use Rattle.sr_caveat.specs.Patterns.{Caveat}
 use Rattle.sr_caveat.specs.Lemmas.Dropping.{drop_is}
 use Rattle.sr_pass.specs.Passing.{applied, passed}
@@ -18,40 +19,40 @@ in_turn f g None = refl
 in_turn f g (Some v) = refl
 
 -- the newer ones come first, and the older ones see what they give
-pub passed_append : (judged : List ℕ → Plain → Bool) (old new : List Caveat) (v : Plain)
-    → passed judged (old ++ new) v ≡ option_and_then (passed judged old) (passed judged new v)
-passed_append judged [] new v = and_then_some (passed judged new v)
-passed_append judged (c ∷ cs) new v =
-    ap (option_and_then (applied judged c)) (passed_append judged cs new v)
-    ∙ in_turn (applied judged c) (passed judged cs) (passed judged new v)
+pub passed_append : (ds : List Definition) (old new : List Caveat) (v : Plain)
+    → passed ds (old ++ new) v ≡ option_and_then (passed ds old) (passed ds new v)
+passed_append ds [] new v = and_then_some (passed ds new v)
+passed_append ds (c ∷ cs) new v =
+    ap (option_and_then (applied ds c)) (passed_append ds cs new v)
+    ∙ in_turn (applied ds c) (passed ds cs) (passed ds new v)
 
 pub newest_first : NewestComesFirst
-newest_first judged old new v = passed_append judged old (new ∷ []) v
+newest_first ds old new v = passed_append ds old (new ∷ []) v
 
 pub narrows : AttenuatingNarrows
-narrows judged old new v w e = by (passed judged new v) (sym (passed_append judged old new v) ∙ e)
+narrows ds old new v w e = by (passed ds new v) (sym (passed_append ds old new v) ∙ e)
   where
-    by : (o : Option Plain) → option_and_then (passed judged old) o ≡ Some w → (u : Plain) × (passed judged old u
+    by : (o : Option Plain) → option_and_then (passed ds old) o ≡ Some w → (u : Plain) × (passed ds old u
         ≡ Some w)
     by None h = absurd cc
     by (Some u) h = (u, h)
 
 -- one caveat more, from the end of the list on
-pub passed_more : (judged : List ℕ → Plain → Bool) (cs : List Caveat) (left j : ℕ) (c : Caveat) (v w : Plain)
+pub passed_more : (ds : List Definition) (cs : List Caveat) (left j : ℕ) (c : Caveat) (v w : Plain)
     → j + (left + 1) ≡ length cs → c ≡ get_or cs j c
-    → Some w ≡ passed judged (drop (length cs - left) cs) v
-    → passed judged (drop (length cs - (left + 1)) cs) v ≡ applied judged c w
-passed_more judged cs left j c v w h is so_far =
+    → Some w ≡ passed ds (drop (length cs - left) cs) v
+    → passed ds (drop (length cs - (left + 1)) cs) v ≡ applied ds c w
+passed_more ds cs left j c v w h is so_far =
     let here : length cs - (left + 1) ≡ j = omega arith in
     let next : j + 1 ≡ length cs - left = omega arith in
-    ap (λ k. passed judged (drop k cs) v) here
-    ∙ ap (λ ds. passed judged ds v) (drop_is cs j c (omega arith) is)
-    ∙ ap (λ k. option_and_then (applied judged c) (passed judged (drop k cs) v)) next
-    ∙ ap (option_and_then (applied judged c)) (sym so_far)
+    ap (λ k. passed ds (drop k cs) v) here
+    ∙ ap (λ rest. passed ds rest v) (drop_is cs j c (omega arith) is)
+    ∙ ap (λ k. option_and_then (applied ds c) (passed ds (drop k cs) v)) next
+    ∙ ap (option_and_then (applied ds c)) (sym so_far)
 
 -- what the newer ones refuse is refused
-pub passed_none : (judged : List ℕ → Plain → Bool) (cs : List Caveat) (i : ℕ) (v : Plain)
-    → passed judged (drop i cs) v ≡ None → passed judged cs v ≡ None
-passed_none judged cs zero v e = e
-passed_none judged [] (suc i) v e = e
-passed_none judged (c ∷ cs) (suc i) v e = ap (option_and_then (applied judged c)) (passed_none judged cs i v e)
+pub passed_none : (ds : List Definition) (cs : List Caveat) (i : ℕ) (v : Plain)
+    → passed ds (drop i cs) v ≡ None → passed ds cs v ≡ None
+passed_none ds cs zero v e = e
+passed_none ds [] (suc i) v e = e
+passed_none ds (c ∷ cs) (suc i) v e = ap (option_and_then (applied ds c)) (passed_none ds cs i v e)

@@ -1,9 +1,11 @@
 -- What passes caveats. Sturdyref document, "caveats".
-use Rattle.std.specs.Prelude.{ℕ, Bool, false, nat_le, List, [], ◌∷◌, Option, Some, None, is_some, option_and_then, ◌&&◌}
+use Rattle.std.specs.Prelude.{Bool, nat_le, List, [], ◌∷◌, Option, Some, None, is_some, option_and_then, ◌&&◌}
 use Rattle.std.specs.Prelude.{if◌then◌else◌}
 use Rattle.pv_value.specs.Plain.{Plain}
 use Rattle.pv_value.specs.Weight.{weight}
 use Rattle.pv_value.specs.Depth.{depth}
+use Rattle.ps_schema.specs.Conforms.{conforms}
+use Rattle.ps_schema.specs.declared.Definition.{Definition}
 use Rattle.sr_caveat.specs.Limits.{value_weight, value_depth}
 use Rattle.sr_caveat.specs.Patterns.{Template, Caveat, rewrite, one_of, reject, guard}
 use Rattle.sr_caveat.specs.Patterns.{Rewrites, no_rewrites, then_rewrite}
@@ -26,23 +28,19 @@ rewritten (then_rewrite p t rs) v = by_match t (bound p v) (rewritten rs v)
     by_match t (Some bs) rest = filled t bs
     by_match t None rest = rest
 
--- what a caveat alone makes of a value, by what guards judge
-abbrev pub ruled : (List ℕ → Plain → Bool) → Caveat → Plain → Option Plain
-ruled judged (rewrite p t) v = option_and_then (filled t) (bound p v)
-ruled judged (one_of rs) v = rewritten rs v
-ruled judged (reject p) v = if is_some (bound p v) then None else Some v
-ruled judged (guard name) v = if judged name v then Some v else None
+-- what a caveat alone makes of a value; guards judge by a schema, and refuse under a name that it doesn't define
+abbrev pub ruled : List Definition → Caveat → Plain → Option Plain
+ruled ds (rewrite p t) v = option_and_then (filled t) (bound p v)
+ruled ds (one_of rs) v = rewritten rs v
+ruled ds (reject p) v = if is_some (bound p v) then None else Some v
+ruled ds (guard name) v = if conforms ds name v then Some v else None
 
 -- the same, and refused where it is past the bounds, also where it was left unchanged
-abbrev pub applied : (List ℕ → Plain → Bool) → Caveat → Plain → Option Plain
-applied judged c v = option_and_then if_fits (ruled judged c v)
-
--- no name has a definition: each guard refuses
-abbrev pub no_names : List ℕ → Plain → Bool
-no_names name v = false
+abbrev pub applied : List Definition → Caveat → Plain → Option Plain
+applied ds c v = option_and_then if_fits (ruled ds c v)
 
 -- what passes a list of caveats: the last one, the newest, comes first, and what it gives goes to the one before it.
 -- Where there are none, the value passes as it is
-abbrev pub passed : (List ℕ → Plain → Bool) → List Caveat → Plain → Option Plain
-passed judged [] v = Some v
-passed judged (c ∷ cs) v = option_and_then (applied judged c) (passed judged cs v)
+abbrev pub passed : List Definition → List Caveat → Plain → Option Plain
+passed ds [] v = Some v
+passed ds (c ∷ cs) v = option_and_then (applied ds c) (passed ds cs v)

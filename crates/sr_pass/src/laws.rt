@@ -1,5 +1,6 @@
 //! Laws of the definitions: each is the contract of a function that does nothing.
 ghost use Rattle.sr_pass.specs.Laws.{NewestComesFirst, AttenuatingNarrows, BindingsAreBinds};
+ghost use Rattle.sr_pass.specs.Laws.{UnknownIsRefused};
 
 /// The newest caveat comes first, and the older ones see what it gives.
 pub fn newest_comes_first()
@@ -14,4 +15,9 @@ pub fn attenuating_narrows()
 /// Where a value matches, as many values are bound as the pattern binds.
 pub fn bindings_are_binds()
     ensures { BindingsAreBinds }
+{}
+
+/// Nothing conforms to a name that a schema doesn't define, so a guard of it refuses.
+pub fn unknown_is_refused()
+    ensures { UnknownIsRefused }
 {}

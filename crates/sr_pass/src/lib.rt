@@ -14,6 +14,6 @@ mod laws;
 mod matching;
 mod passing;
 
-pub use laws::{attenuating_narrows, bindings_are_binds, newest_comes_first};
+pub use laws::{attenuating_narrows, bindings_are_binds, newest_comes_first, unknown_is_refused};
 pub use matching::{bindings, matches};
 pub use passing::{Judge, NoNames, pass};

@@ -11,36 +11,33 @@ use pv_value::{NoMemory, Value};
 use sr_caveat::{CPat, Caveat, Rewrite, Rule, Tmpl};
 use std::alloc::Global;
 
-/// What guards judge by: names, and which values conform to the definition of each.
+/// What guards judge by: a schema.
 pub trait Judge {
-    ghost use Rattle.std.specs.Prelude.{◌≡◌, ℕ, List, Bool, false};
-    ghost use Rattle.pv_value.specs.Plain.{Plain};
+    ghost use Rattle.std.specs.Prelude.{◌≡◌, List};
+    ghost use Rattle.ps_schema.specs.Names.{knows};
+    ghost use Rattle.ps_schema.specs.Conforms.{conforms};
+    ghost use Rattle.ps_schema.specs.declared.Definition.{Definition};
+
+    /// The schema's definitions.
+    ghost schema: { Self → List Definition };
 
     /// Whether a name has a definition.
-    ghost known: { Self → List ℕ → Bool };
-
-    /// Whether a value conforms to a name's definition; false where it has none.
-    ghost judged: { Self → List ℕ → Plain → Bool };
-
     fn knows(&self, name: &[u8]) -> bool
-        ensures { result ≡ known self.now name.now };
+        ensures { result ≡ knows (schema self.now) name.now };
 
+    /// Whether a value conforms to a name's definition. To a name that has none nothing conforms.
     fn judge(&self, name: &[u8], value: &Value) -> bool
-        ensures judged { result ≡ judged self.now name.now value.now }
-        ensures unknown { known self.now name.now ≡ false → result ≡ false };
+        ensures { result ≡ conforms (schema self.now) name.now value.now };
 }
 
-/// Knows no name, so that each guard refuses.
+/// The schema that defines no name, so that each guard refuses.
 #[derive(Clone, Copy, Debug, Drop)]
 pub struct NoNames;
 
 impl Judge for NoNames {
-    ghost use Rattle.std.specs.Prelude.{false};
-    ghost use Rattle.sr_pass.specs.Passing.{no_names};
+    ghost use Rattle.std.specs.Prelude.{[]};
 
-    ghost known = { λ j name. false };
-
-    ghost judged = { λ j. no_names };
+    ghost schema = { λ j. [] };
 
     fn knows(&self, _: &[u8]) -> bool {
         false
@@ -60,7 +57,7 @@ pub fn pass<J: Judge>(
     value: &Value,
     judge: &J,
 ) -> Result<Option<Value>, NoMemory>
-    ensures { IfOk result (λ w. w ≡ passed (J.judged judge.now) caveats.now value.now) }
+    ensures { IfOk result (λ w. w ≡ passed (J.schema judge.now) caveats.now value.now) }
 {
     let mut passing = value.copy()?;
     for left in 0..caveats.len() {
@@ -80,7 +77,7 @@ fn apply<J: Judge>(
     value: &Value,
     judge: &J,
 ) -> Result<Option<Value>, NoMemory>
-    ensures { IfOk result (λ w. w ≡ applied (J.judged judge.now) caveat.now value.now) }
+    ensures { IfOk result (λ w. w ≡ applied (J.schema judge.now) caveat.now value.now) }
 {
     match &*caveat.rule {
         Rule::Rewrite(rewrite) => rewritten(alloc, &rewrite.pattern, &rewrite.template, value),

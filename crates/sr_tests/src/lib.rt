@@ -4,3 +4,5 @@
 
 #[cfg(test)]
 mod caveats;
+#[cfg(test)]
+mod guards;

@@ -25,7 +25,7 @@ anywhere s t (Turn a) may = may
 anywhere s t Work may = may
 anywhere s t Stop may = may
 
-pub runs : {X : Type 0} (h : Served X) (s : State) (es : List (Entry ServedStep Reply)) → h.hub ≡ s
+pub runs : {X Y : Type 0} (h : Served X Y) (s : State) (es : List (Entry ServedStep Reply)) → h.hub ≡ s
     → IsLegal served_next h es
     → ((after served_next h es).hub ≡ run_from s (machine_steps es))
     × AreAllowed s (machine_steps es)
@@ -35,6 +35,6 @@ runs h s (e ∷ es) is legal =
     let rest : _ = runs (served_next h e.step).0 (step s e.step.step).state es
     (ap (λ t. (step t e.step.step).state) is) legal.1 in (
       rest.0,
-      (anywhere opening s e.step.step e.step.allowed, rest.1),
+      (anywhere (opening []) s e.step.step e.step.allowed, rest.1),
       (λ i. (legal.0 ∙ ap (λ t. (step t e.step.step).reply) is) i ∷ rest.2 i),
     )

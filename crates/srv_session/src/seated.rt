@@ -5,6 +5,7 @@ ghost use Rattle.turn_gate.specs.Gates.{IsPassOf};
 use crate::served::{Served, ServedStep};
 use ds_space::Space;
 use hub_core::{Reply, Step};
+use sr_pass::Judge;
 use srv_turns::Turns;
 use std::sync::Wait;
 use turn_gate::{Gate, GateFault, Pass, Replayed};
@@ -28,7 +29,7 @@ impl<'g, T: Replayed> Seated<'g, T> {
     }
 }
 
-impl<'g, S: Space + Drop> Turns for Seated<'g, Served<S>> {
+impl<'g, S: Space + Drop, J: Judge + Drop> Turns for Seated<'g, Served<S, J>> {
     ghost use Rattle.std.specs.Prelude.{◌==◌, ◌^◌};
     ghost use Rattle.turn_gate.specs.Gates.{view};
     ghost use Rattle.turn_gate.specs.Passes.{own_pairs};

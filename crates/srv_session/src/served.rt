@@ -1,11 +1,12 @@
 //! The hub as a value that a gate holds.
-ghost use Rattle.std.specs.Prelude.{◌≡◌, IfOk};
+ghost use Rattle.std.specs.Prelude.{◌≡◌, [], IfOk};
 ghost use Rattle.hub_machine.specs.State.{opening};
 ghost use Rattle.hub_machine.specs.Machine.{IsAllowed};
 ghost use Rattle.srv_session.specs.Allowed.{allowed_once};
 
 use ds_space::Space;
 use hub_core::{Hub, Reply, Step};
+use sr_pass::Judge;
 use std::alloc::Global;
 use turn_gate::{NoMemory, Replayed};
 
@@ -14,7 +15,7 @@ use turn_gate::{NoMemory, Replayed};
 #[derive(Drop)]
 pub struct ServedStep {
     pub step: Step,
-    pub ghost allowed: { IsAllowed opening step } by { allowed_once opening step },
+    pub ghost allowed: { IsAllowed (opening []) step } by { allowed_once (opening []) step },
 }
 
 impl ServedStep {
@@ -36,22 +37,22 @@ impl ServedStep {
 
 /// The hub, with the memory that its steps take.
 #[derive(Drop)]
-pub struct Served<S: Space + Drop> {
-    pub hub: Hub<S>,
+pub struct Served<S: Space + Drop, J: Judge + Drop> {
+    pub hub: Hub<S, J>,
     pub alloc: Global,
 }
 
-impl<S: Space + Drop> Served<S> {
-    /// The hub at its beginning.
-    pub fn begin(alloc: Global) -> Result<Served<S>, pv_value::NoMemory>
-        ensures { IfOk result (λ s. s.hub ≡ opening) }
+impl<S: Space + Drop, J: Judge + Drop> Served<S, J> {
+    /// The hub at its beginning. Guards judge by what is handed in.
+    pub fn begin(alloc: Global, judge: J) -> Result<Served<S, J>, pv_value::NoMemory>
+        ensures { IfOk result (λ s. s.hub ≡ opening (J.schema judge)) }
     {
-        let hub = Hub::begin(alloc)?;
+        let hub = Hub::begin(alloc, judge)?;
         Ok(Served { hub, alloc })
     }
 }
 
-impl<S: Space + Drop> Replayed for Served<S> {
+impl<S: Space + Drop, J: Judge + Drop> Replayed for Served<S, J> {
     ghost use Rattle.srv_session.specs.Served.{served_next};
 
     type Step = ServedStep;
@@ -60,7 +61,7 @@ impl<S: Space + Drop> Replayed for Served<S> {
 
     ghost next = { served_next };
 
-    fn step(self, s: ServedStep) -> Result<(Served<S>, Reply), NoMemory> {
+    fn step(self, s: ServedStep) -> Result<(Served<S, J>, Reply), NoMemory> {
         let Served { hub, alloc } = self;
         match hub.step(alloc, s.step) {
             Ok((hub, reply)) => Ok((Served { hub, alloc }, reply)),

@@ -63,7 +63,7 @@ fine_assertion k w to v h x fine =
       fine_value k v x fine.0,
       ap (λ b. where_it_is b (HandleInUse h)) fine.1,
       within 4096 4 (top (length x.ports.handles + 1)) (few (length x.ports.handles + 1) fine.2),
-      fine_row w to (let_through to (kept k v x)) x fine.3,
+      fine_row w to (let_through w to (kept k v x)) x fine.3,
     )
 
 fine_message : (w : WorldState) (to : Cap) (o : Option Plain) (x : Admitting) → IsFineMessage w to o x
@@ -76,7 +76,7 @@ fine_event : (k : ℕ) (w : WorldState) (to : Cap) (e : Event) (x : Admitting) �
 fine_event k w to (Assert v h) x fine = fine_assertion k w to v h x fine
 fine_event k w to (Retract h) x fine = rw fine
 fine_event k w to (Message v) x fine =
-    rw (fine_value k v x fine.0, fine_message w to (let_through to (kept k v x)) x fine.1)
+    rw (fine_value k v x fine.0, fine_message w to (let_through w to (kept k v x)) x fine.1)
 fine_event k w to (Sync peer) x fine = rw (fine_value k peer x fine.0, may_wait _ fine.1)
 
 fine_at : (k : ℕ) (w : WorldState) (o : Option Cap) (e : TurnEvent) (x : Admitting) → IsFineAt k w o e.event x

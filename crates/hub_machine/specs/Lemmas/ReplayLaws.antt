@@ -1,6 +1,7 @@
 -- A run with one more step: the state after it, and what was sent in it.
 use Rattle.std.specs.Prelude.{◌≡◌, ℕ, List, [], ◌∷◌, ◌++◌, refl}
 use Rattle.std.proofs.Common.{◌∙◌, sym, ap, append-nil, append_assoc}
+use Rattle.ps_schema.specs.declared.Definition.{Definition}
 use Rattle.hub_machine.specs.State.{State, opening}
 use Rattle.hub_machine.specs.Machine.{step}
 use Rattle.hub_machine.specs.Replays.{run_from, replay, sent_by, sent_from, sent_to}
@@ -19,9 +20,10 @@ sent_from-more s k (f ∷ es) e =
     ∙ sym (append_assoc (sent_by k f (step s f).reply) (sent_from (step s f).state k es)
     (sent_by k e (step (run_from (step s f).state es) e).reply))
 
-pub replay-more : (es : List Step) (e : Step) → replay (es ++ e ∷ []) ≡ (step (replay es) e).state
-replay-more es e = run_from-more opening es e
+pub replay-more : (ds : List Definition) (es : List Step) (e : Step)
+    → replay ds (es ++ e ∷ []) ≡ (step (replay ds es) e).state
+replay-more ds es e = run_from-more (opening ds) es e
 
-pub sent_to-more : (k : ℕ) (es : List Step) (e : Step) → sent_to k (es ++ e ∷ []) ≡ sent_to k es
-    ++ sent_by k e (step (replay es) e).reply
-sent_to-more k es e = sent_from-more opening k es e
+pub sent_to-more : (ds : List Definition) (k : ℕ) (es : List Step) (e : Step)
+    → sent_to ds k (es ++ e ∷ []) ≡ sent_to ds k es ++ sent_by k e (step (replay ds es) e).reply
+sent_to-more ds k es e = sent_from-more (opening ds) k es e

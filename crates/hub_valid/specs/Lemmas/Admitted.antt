@@ -189,12 +189,12 @@ module _ (n : ℕ) (few : n < 2 ^ 32) where
         let b = parts_none _ _ a.0 in
         let c = parts_none _ _ b.0 in
         let value = value_comes_in k own far x.ports.exports s.0 v wired.0 (none_unknown k v x c.0) in
-        asserted to (let_through to (kept k v x)) h x o (through_holds n r (kept k v x) to cap value) s
+        asserted to (let_through w to (kept k v x)) h x o (through_holds w.schema n r (kept k v x) to cap value) s
     event_sound r to (Retract h) x cap o s wired is = retracted h (inbound_of h x.ports) x s
     event_sound r to (Message v) x cap o s wired is =
         let a = parts_none _ _ is in
         let value = value_comes_in k own far x.ports.exports s.0 v wired (none_unknown k v x a.0) in
-        messaged to (let_through to (kept k v x)) x o (through_holds n r (kept k v x) to cap value) s
+        messaged to (let_through w to (kept k v x)) x o (through_holds w.schema n r (kept k v x) to cap value) s
     event_sound r to (Sync peer) x cap o s wired is =
         let a = parts_none _ _ is in
         let value = peer_comes_in k own far x.ports.exports s.0 peer wired (none_unknown k peer x a.0) in
@@ -268,9 +268,9 @@ exports_messaged to (Some v) w x = refl
 pub exports_after : (k : ℕ) (w : WorldState) (o : Option Cap) (e : Event) (x : Admitting)
     → (after_at k w o e x).ports.exports ≡ x.ports.exports
 exports_after k w None e x = refl
-exports_after k w (Some to) (Assert v h) x = exports_asserted to (let_through to (kept k v x)) h w x
+exports_after k w (Some to) (Assert v h) x = exports_asserted to (let_through w to (kept k v x)) h w x
 exports_after k w (Some to) (Retract h) x = exports_retracted h (inbound_of h x.ports) w x
-exports_after k w (Some to) (Message v) x = exports_messaged to (let_through to (kept k v x)) w x
+exports_after k w (Some to) (Message v) x = exports_messaged to (let_through w to (kept k v x)) w x
 exports_after k w (Some to) (Sync peer) x = refl
 
 exports_after_all : (k : ℕ) (w : WorldState) (es : List TurnEvent) (x y : Admitting)

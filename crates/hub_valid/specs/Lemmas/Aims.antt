@@ -8,7 +8,7 @@ use Rattle.pv_value.specs.Weight.{weight}
 use Rattle.pv_words.specs.Parts.{same}
 use Rattle.sr_caveat.specs.declared.caps.Cap.{Cap}
 use Rattle.sr_caveat.specs.Caps.{cap_of, cap_value}
-use Rattle.sr_pass.specs.Passing.{passed, no_names}
+use Rattle.sr_pass.specs.Passing.{passed}
 use Rattle.gk_sturdy.specs.declared.refs.SturdyRef.{SturdyRef}
 use Rattle.gk_sturdy.specs.Refs.{ref_of}
 use Rattle.gk_sturdy.specs.Chain.{due, is_valid}
@@ -19,6 +19,7 @@ use Rattle.gk_sturdy.specs.declared.answering.Why.TheVariants.{BadSig, Caveats, 
 use Rattle.gk_sturdy.specs.Answers.{told, given_by, if_within, answer_by, answer_to, answer_value, reply_to}
 use Rattle.gk_sturdy.specs.Lemmas.Sound.{given_sound}
 use Rattle.pv_words.specs.Lemmas.Found.{If}
+use Rattle.ps_schema.specs.declared.Definition.{Definition}
 use Rattle.ac_world.specs.declared.aims.Aim.{Aim}
 use Rattle.ac_world.specs.Aims.{aim_by, aim_at, observer_in, aim_for, aim_of}
 use Rattle.ac_world.specs.Behaviours.{answer_for}
@@ -32,33 +33,35 @@ pub record IsAimed (n : ℕ) (aim : Aim) : Type 0 where
   pub at : IsObjectAt n aim.at.actor aim.at.entity
   pub value : HoldsObjects n aim.value
 
-pub sent_aims : (n : ℕ) (v x : Plain) → HoldsObjects n v → IsObjectValue n x → If (aim_at v x) (IsAimed n)
-sent_aims n v x holds object = by (cap_of x) refl object
+pub sent_aims : (ds : List Definition) (n : ℕ) (v x : Plain) → HoldsObjects n v → IsObjectValue n x
+    → If (aim_at ds v x) (IsAimed n)
+sent_aims ds n v x holds object = by (cap_of x) refl object
   where
     passing : (c : Cap) (o : Option Plain) → IsObject n c → If o (HoldsObjects n)
         → If (option_map (λ w. record { at = record { actor = c.actor; entity = c.entity }; value = w }) o) (IsAimed n)
     passing c None object value = tt
     passing c (Some w) object value = record { at = object; value = value }
 
-    by : (o : Option Cap) → cap_of x ≡ o → IsSomeAnd o (IsObject n) → If (option_and_then (aim_by v) o) (IsAimed n)
+    by : (o : Option Cap) → cap_of x ≡ o → IsSomeAnd o (IsObject n) → If (option_and_then (aim_by ds v) o) (IsAimed n)
     by None is object = absurd object
-    by (Some c) is object = passing c (passed no_names c.caveats v) object (through_holds n x v c is holds)
+    by (Some c) is object = passing c (passed ds c.caveats v) object (through_holds ds n x v c is holds)
 
 -- what is told to the one that observes
-pub told_aims : (n : ℕ) (v o : Plain) → HoldsObjects n v → HoldsObjects n o → If (aim_for v o) (IsAimed n)
-told_aims n v o holds there = by (observer_in o) (observer_is_object n o there)
+pub told_aims : (ds : List Definition) (n : ℕ) (v o : Plain) → HoldsObjects n v → HoldsObjects n o
+    → If (aim_for ds v o) (IsAimed n)
+told_aims ds n v o holds there = by (observer_in o) (observer_is_object n o there)
   where
-    by : (q : Option Plain) → If q (IsObjectValue n) → If (option_and_then (aim_at v) q) (IsAimed n)
+    by : (q : Option Plain) → If q (IsObjectValue n) → If (option_and_then (aim_at ds v) q) (IsAimed n)
     by None object = tt
-    by (Some r) object = sent_aims n v r holds object
+    by (Some r) object = sent_aims ds n v r holds object
 
 -- what a key wants
-pub key_aims : (n : ℕ) (key : Plain) → HoldsObjects n key → If (aim_of key) (IsAimed n)
-key_aims n (sequence (then_more o (then_more c no_more))) h =
-    told_aims n c o
+pub key_aims : (ds : List Definition) (n : ℕ) (key : Plain) → HoldsObjects n key → If (aim_of ds key) (IsAimed n)
+key_aims ds n (sequence (then_more o (then_more c no_more))) h =
+    told_aims ds n c o
     (all_of_front (IsObjectValue n) (held_in c) [] (all_of_rest (IsObjectValue n) (held_in o) (held_in c ++ []) h))
     (all_of_front (IsObjectValue n) (held_in o) (held_in c ++ []) h)
-key_aims n key h = tt
+key_aims ds n key h = tt
 
 -- ---- what the gatekeeper replies
 
@@ -95,8 +98,9 @@ answer_holds n bs v all = by (ref_of v)
     by (Some r) = found r bs all
 
 -- what is replied to one that asks
-pub answer_aims : (n : ℕ) (bs : List Binding) → AllByRecursion (IsValidBinding n) bs → (v : Plain) → HoldsObjects n v
-    → If (answer_for bs v) (IsAimed n)
-answer_aims n bs all (record_of l (then_more s rest)) h =
-    told_aims n (reply_to bs s) (record_of l (then_more s rest)) (answer_holds n bs s all) h
-answer_aims n bs all v h = tt
+pub answer_aims : (ds : List Definition) (n : ℕ) (bs : List Binding) → AllByRecursion (IsValidBinding n) bs
+    → (v : Plain) → HoldsObjects n v
+    → If (answer_for ds bs v) (IsAimed n)
+answer_aims ds n bs all (record_of l (then_more s rest)) h =
+    told_aims ds n (reply_to bs s) (record_of l (then_more s rest)) (answer_holds n bs s all) h
+answer_aims ds n bs all v h = tt

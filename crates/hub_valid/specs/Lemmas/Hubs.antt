@@ -329,4 +329,4 @@ step_is_valid s e v may = by (is_worn s e) refl
     by false fresh = done_valid s e fresh v may
 
 pub stays_valid : StaysValid
-stays_valid = (record { few = omega arith; world = beginning_valid; named = tt }, step_is_valid)
+stays_valid = (λ ds. record { few = omega arith; world = beginning_valid ds; named = tt }, step_is_valid)

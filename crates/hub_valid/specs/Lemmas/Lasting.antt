@@ -48,9 +48,9 @@ less a w = record w { table = popped a w.table }
 
 system_lasts : (a : ℕ) (b : Batch) (w : WorldState) → Lasts w (system_turn a b (less a w)).world
 system_lasts a b w =
-    let p : Plan = (all_turned (behaviour_of w.bindings a) a b.from b.events (begin_turn a (less a w))).plan in
+    let p : Plan = (all_turned (behaviour_of w.schema w.bindings a) a b.from b.events (begin_turn a (less a w))).plan in
     let on : GoesOn (popped a w.table) p.table =
-    goes_on_all_turned (behaviour_of w.bindings a) a b.from b.events (begin_turn a (less a w)) in
+    goes_on_all_turned (behaviour_of w.schema w.bindings a) a b.from b.events (begin_turn a (less a w)) in
     record {
       opened = refl;
       live = λ c. committed_live a c (popped a w.table) p on ∙ live_popped c a w.table;

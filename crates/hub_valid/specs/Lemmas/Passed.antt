@@ -28,7 +28,9 @@ use Rattle.sr_caveat.specs.Written.{with_template, guard_named, short_caveat, re
 use Rattle.sr_caveat.specs.Written.{standing, names_of, pattern_of, template_of, templates_of, templates_in}
 use Rattle.sr_caveat.specs.Written.{templates_under_keys, templates_in_pairs, caveats_of, caveats_in, caveat_in}
 use Rattle.sr_caveat.specs.Written.{rewrites_of, rewrites_in}
-use Rattle.sr_pass.specs.Passing.{if_fits, fits, rewritten, ruled, applied, passed, no_names}
+use Rattle.ps_schema.specs.declared.Definition.{Definition}
+use Rattle.ps_schema.specs.Conforms.{conforms}
+use Rattle.sr_pass.specs.Passing.{if_fits, fits, rewritten, ruled, applied, passed}
 use Rattle.pv_words.specs.Lemmas.Found.{If, if_cond, if_map}
 use Rattle.sr_caveat.specs.Lemmas.CaveatsBack.{read_back, nothing_embedded}
 use Rattle.sr_caveat.specs.Lemmas.Capped.{cap_sound}
@@ -438,7 +440,7 @@ is_read c back =
 
 -- ---- what passes
 
-module _ (n : ℕ) (judged : List ℕ → Plain → Bool) where
+module _ (n : ℕ) (ds : List Definition) where
   of_bound : (t : Template) (o : Option (List Plain)) → IsRead t → FoundHold n o
       → If (option_and_then (filled t) o) (HoldsObjects n)
   of_bound t None read h = tt
@@ -455,31 +457,31 @@ module _ (n : ℕ) (judged : List ℕ → Plain → Bool) where
       by None is b later = rw is later
       by (Some bs) is b later = rw is (filled_holds n t bs read.0 b)
 
-  ruled_holds : (c : Caveat) (v : Plain) → CaveatIsRead c → HoldsObjects n v → If (ruled judged c v) (HoldsObjects n)
+  ruled_holds : (c : Caveat) (v : Plain) → CaveatIsRead c → HoldsObjects n v → If (ruled ds c v) (HoldsObjects n)
   ruled_holds (rewrite p t) v read h = of_bound t (bound p v) read (bound_holds n p v h)
   ruled_holds (one_of rs) v read h = rewritten_holds rs v read h
   ruled_holds (reject p) v read h = if_cond (HoldsObjects n) (is_some (bound p v)) None (Some v) tt h
-  ruled_holds (guard name) v read h = if_cond (HoldsObjects n) (judged name v) (Some v) None h tt
+  ruled_holds (guard name) v read h = if_cond (HoldsObjects n) (conforms ds name v) (Some v) None h tt
 
   of_ruled : (o : Option Plain) → If o (HoldsObjects n) → If (option_and_then if_fits o) (HoldsObjects n)
   of_ruled None h = tt
   of_ruled (Some v) h = if_cond (HoldsObjects n) (fits v) (Some v) None h tt
 
   of_passed : (c : Caveat) (o : Option Plain) → CaveatIsRead c → If o (HoldsObjects n)
-      → If (option_and_then (applied judged c) o) (HoldsObjects n)
+      → If (option_and_then (applied ds c) o) (HoldsObjects n)
   of_passed c None read h = tt
-  of_passed c (Some v) read h = of_ruled (ruled judged c v) (ruled_holds c v read h)
+  of_passed c (Some v) read h = of_ruled (ruled ds c v) (ruled_holds c v read h)
 
   passed_holds : (cs : List Caveat) (v : Plain) → AllByRecursion IsReadBack cs → HoldsObjects n v
-      → If (passed judged cs v) (HoldsObjects n)
+      → If (passed ds cs v) (HoldsObjects n)
   passed_holds [] v back h = h
   passed_holds (c ∷ cs) v back h =
-      of_passed c (passed judged cs v) (is_read c back.0) (passed_holds cs v back.1 h)
+      of_passed c (passed ds cs v) (is_read c back.0) (passed_holds cs v back.1 h)
 
 -- through the reference that a value is
-pub through_holds : (n : ℕ) (x v : Plain) (c : Cap) → cap_of x ≡ Some c → HoldsObjects n v
-    → If (passed no_names c.caveats v) (HoldsObjects n)
-through_holds n x v c is h = passed_holds n no_names c.caveats v (cap_sound x c is).2 h
+pub through_holds : (ds : List Definition) (n : ℕ) (x v : Plain) (c : Cap) → cap_of x ≡ Some c → HoldsObjects n v
+    → If (passed ds c.caveats v) (HoldsObjects n)
+through_holds ds n x v c is h = passed_holds n ds c.caveats v (cap_sound x c is).2 h
 
 pub passed_is_valid : PassedIsValid
-passed_is_valid n x v w c is h through = subst (λ o. If o (HoldsObjects n)) through (through_holds n x v c is h)
+passed_is_valid ds n x v w c is h through = subst (λ o. If o (HoldsObjects n)) through (through_holds ds n x v c is h)

@@ -15,6 +15,7 @@ use Rattle.ac_table.specs.declared.batches.Row.{Row}
 use Rattle.ac_table.specs.declared.batches.Event.{Event}
 use Rattle.ac_table.specs.declared.batches.Event.TheVariants as event
 use Rattle.ac_table.specs.Tables.{TableState, find_row}
+use Rattle.ps_schema.specs.declared.Definition.{Definition}
 use Rattle.ac_world.specs.declared.acts.Act.{Act}
 use Rattle.ac_world.specs.declared.acts.Act.TheVariants as act
 use Rattle.ac_world.specs.Outboxes.{Plan, drop_row, drop_own, acted, all_acted}
@@ -110,29 +111,31 @@ goes_on_say_at : (o : Option Aim) (p : Plan) → GoesOn p.table (say_at o p).tab
 goes_on_say_at None p = goes_nowhere p.table
 goes_on_say_at (Some aim) p = goes_nowhere p.table
 
-goes_on_say_all : (fs : List Fanned) (p : Plan) → GoesOn p.table (say_all fs p).table
-goes_on_say_all [] p = goes_nowhere p.table
-goes_on_say_all (f ∷ fs) p =
-    let aim : Option Aim = aim_for (sequence (plains f.captures)) f.observe in
-    goes_then p.table (say_at aim p).table (say_all fs (say_at aim p)).table (goes_on_say_at aim p)
-    (goes_on_say_all fs (say_at aim p))
+goes_on_say_all : (ds : List Definition) (fs : List Fanned) (p : Plan) → GoesOn p.table (say_all ds fs p).table
+goes_on_say_all ds [] p = goes_nowhere p.table
+goes_on_say_all ds (f ∷ fs) p =
+    let aim : Option Aim = aim_for ds (sequence (plains f.captures)) f.observe in
+    goes_then p.table (say_at aim p).table (say_all ds fs (say_at aim p)).table (goes_on_say_at aim p)
+    (goes_on_say_all ds fs (say_at aim p))
 
-goes_on_passed_on : (from : ℕ) (fs : List Fanned) (t : Turning) → TurnsOn t (passed_on from fs t)
-goes_on_passed_on from fs t = by (nat_lt 33554432 (fanned_weight fs))
+goes_on_passed_on : (ds : List Definition) (from : ℕ) (fs : List Fanned) (t : Turning)
+    → TurnsOn t (passed_on ds from fs t)
+goes_on_passed_on ds from fs t = by (nat_lt 33554432 (fanned_weight fs))
   where
     by : (b : Bool) → TurnsOn t (cond b
-        (spreading (by_message t.plan.table from (fanned_weight fs)) t) (record t { plan = say_all fs t.plan }))
+        (spreading (by_message t.plan.table from (fanned_weight fs)) t) (record t { plan = say_all ds fs t.plan }))
     by true = goes_nowhere t.plan.table
-    by false = goes_on_say_all fs t.plan
+    by false = goes_on_say_all ds fs t.plan
 
-goes_on_answer_to : (peer : Plain) (p : Plan) → GoesOn p.table (answer_to peer p).table
-goes_on_answer_to peer p = goes_on_say_at (aim_at (boolean true) peer) p
+goes_on_answer_to : (ds : List Definition) (peer : Plain) (p : Plan) → GoesOn p.table (answer_to ds peer p).table
+goes_on_answer_to ds peer p = goes_on_say_at (aim_at ds (boolean true) peer) p
 
 goes_on_turned_by : (y : Behaviour) (a from : ℕ) (e : Event) (t : Turning) → TurnsOn t (turned_by y a from e t)
 goes_on_turned_by y a from (event.Assert h entity v) t = goes_on_taken_in y a from h v t
 goes_on_turned_by y a from (event.Retract h entity) t = goes_on_applied y a from (Gone h) t
-goes_on_turned_by y a from (event.Message entity v) t = goes_on_passed_on from (y.fan (values_of t.resident.got) v) t
-goes_on_turned_by y a from (event.Sync entity peer) t = goes_on_answer_to peer t.plan
+goes_on_turned_by y a from (event.Message entity v) t =
+    goes_on_passed_on y.schema from (y.fan (values_of t.resident.got) v) t
+goes_on_turned_by y a from (event.Sync entity peer) t = goes_on_answer_to y.schema peer t.plan
 
 pub goes_on_all_turned : (y : Behaviour) (a from : ℕ) (es : List Event) (t : Turning)
     → TurnsOn t (all_turned y a from es t)

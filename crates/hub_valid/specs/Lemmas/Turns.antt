@@ -19,6 +19,7 @@ use Rattle.ac_table.specs.declared.batches.Event.{Event}
 use Rattle.ac_table.specs.declared.batches.Event.TheVariants.{Assert, Retract, Message, Sync}
 use Rattle.ac_table.specs.declared.batches.Batch.{Batch}
 use Rattle.ac_table.specs.Tables.{is_live, first_batch, popped}
+use Rattle.ps_schema.specs.declared.Definition.{Definition}
 use Rattle.ac_world.specs.declared.spreads.Spread.{Spread}
 use Rattle.ac_world.specs.declared.turns.Turned.TheVariants as turned
 use Rattle.ac_world.specs.Outboxes.{Plan}
@@ -58,26 +59,27 @@ record IsSafe (n : ℕ) (y : Behaviour) : Type 0 where
   fans : (vs : List Plain) (m : Plain) → AllByRecursion (HoldsObjects n) vs → HoldsObjects n m
       → AllByRecursion (IsValidFanned n) (y.fan vs m)
 
-dataspace_safe : (n : ℕ) → IsSafe n dataspace
-dataspace_safe n = record {
+dataspace_safe : (ds : List Definition) (n : ℕ) → IsSafe n (dataspace ds)
+dataspace_safe ds n = record {
   aims = λ vs all.
-      all_weaker (HoldsObjects n) (λ k. If (aim_of k) (IsAimed n)) (key_aims n) (wants vs) (wants_hold n vs all);
+      all_weaker (HoldsObjects n) (λ k. If (aim_of ds k) (IsAimed n)) (key_aims ds n) (wants vs) (wants_hold n vs all);
   fans = fan_holds n;
 }
 
-gatekeeper_safe : (n : ℕ) (bs : List Binding) → AllByRecursion (IsValidBinding n) bs → IsSafe n (gatekeeper bs)
-gatekeeper_safe n bs bound = record {
+gatekeeper_safe : (ds : List Definition) (n : ℕ) (bs : List Binding) → AllByRecursion (IsValidBinding n) bs
+    → IsSafe n (gatekeeper ds bs)
+gatekeeper_safe ds n bs bound = record {
   aims = λ vs all.
-      all_weaker (HoldsObjects n) (λ k. If (answer_for bs k) (IsAimed n)) (answer_aims n bs bound)
+      all_weaker (HoldsObjects n) (λ k. If (answer_for ds bs k) (IsAimed n)) (answer_aims ds n bs bound)
       (ascending_by order (filter asks vs)) (all_ascending (HoldsObjects n) order (filter asks vs)
       (all_kept (HoldsObjects n) asks vs all));
   fans = λ vs m all holds. tt;
 }
 
-behaviour_safe : (n : ℕ) (bs : List Binding) (a : ℕ) → AllByRecursion (IsValidBinding n) bs
-    → IsSafe n (behaviour_of bs a)
-behaviour_safe n bs zero bound = gatekeeper_safe n bs bound
-behaviour_safe n bs (suc a) bound = dataspace_safe n
+behaviour_safe : (ds : List Definition) (n : ℕ) (bs : List Binding) (a : ℕ) → AllByRecursion (IsValidBinding n) bs
+    → IsSafe n (behaviour_of ds bs a)
+behaviour_safe ds n bs zero bound = gatekeeper_safe ds n bs bound
+behaviour_safe ds n bs (suc a) bound = dataspace_safe ds n
 
 -- ---- a system actor's turn in the making
 
@@ -193,27 +195,29 @@ say_at_valid n None p is v = v
 say_at_valid n (Some aim) p is v =
     said_valid n aim.at.actor (Message aim.at.entity aim.value) p (is.at.1, is.value) v
 
-say_all_valid : (n : ℕ) (fs : List Fanned) (p : Plan) → AllByRecursion (IsValidFanned n) fs → IsValidPlan n p
-    → IsValidPlan n (say_all fs p)
-say_all_valid n [] p all v = v
-say_all_valid n (f ∷ fs) p all v =
-    say_all_valid n fs (say_at (aim_for (sequence (plains f.captures)) f.observe) p) all.1
-    (say_at_valid n (aim_for (sequence (plains f.captures)) f.observe) p
-    (told_aims n (sequence (plains f.captures)) f.observe (sequence_holds n f.captures all.0.1) all.0.0) v)
+say_all_valid : (ds : List Definition) (n : ℕ) (fs : List Fanned) (p : Plan) → AllByRecursion (IsValidFanned n) fs
+    → IsValidPlan n p
+    → IsValidPlan n (say_all ds fs p)
+say_all_valid ds n [] p all v = v
+say_all_valid ds n (f ∷ fs) p all v =
+    say_all_valid ds n fs (say_at (aim_for ds (sequence (plains f.captures)) f.observe) p) all.1
+    (say_at_valid n (aim_for ds (sequence (plains f.captures)) f.observe) p
+    (told_aims ds n (sequence (plains f.captures)) f.observe (sequence_holds n f.captures all.0.1) all.0.0) v)
 
-passed_on_valid : (n from : ℕ) (fs : List Fanned) (t : Turning) → AllByRecursion (IsValidFanned n) fs
-    → IsValidTurning n t → IsValidTurning n (passed_on from fs t)
-passed_on_valid n from fs t all v = by (nat_lt 33554432 (fanned_weight fs))
+passed_on_valid : (ds : List Definition) (n from : ℕ) (fs : List Fanned) (t : Turning)
+    → AllByRecursion (IsValidFanned n) fs
+    → IsValidTurning n t → IsValidTurning n (passed_on ds from fs t)
+passed_on_valid ds n from fs t all v = by (nat_lt 33554432 (fanned_weight fs))
   where
     by : (b : Bool) → IsValidTurning n (cond b
-        (spreading (by_message t.plan.table from (fanned_weight fs)) t) (record t { plan = say_all fs t.plan }))
+        (spreading (by_message t.plan.table from (fanned_weight fs)) t) (record t { plan = say_all ds fs t.plan }))
     by true = spreading_valid n (by_message t.plan.table from (fanned_weight fs)) t v
-    by false = record { got = v.got; plan = say_all_valid n fs t.plan all v.plan }
+    by false = record { got = v.got; plan = say_all_valid ds n fs t.plan all v.plan }
 
-answer_valid : (n : ℕ) (peer : Plain) (p : Plan) → IsObjectValue n peer → IsValidPlan n p
-    → IsValidPlan n (answer_to peer p)
-answer_valid n peer p object v =
-    say_at_valid n (aim_at (boolean true) peer) p (sent_aims n (boolean true) peer tt object) v
+answer_valid : (ds : List Definition) (n : ℕ) (peer : Plain) (p : Plan) → IsObjectValue n peer → IsValidPlan n p
+    → IsValidPlan n (answer_to ds peer p)
+answer_valid ds n peer p object v =
+    say_at_valid n (aim_at ds (boolean true) peer) p (sent_aims ds n (boolean true) peer tt object) v
 
 -- ---- all events
 
@@ -223,10 +227,10 @@ turned_by_valid y n next a from safe (Assert h entity x) t fits v = taken_in_val
 turned_by_valid y n next a from safe (Retract h entity) t fits v =
     regot_valid y n a safe (changed t.resident.got (Gone h)) t (gone_holds n h t.resident.got v.got) v
 turned_by_valid y n next a from safe (Message entity x) t fits v =
-    passed_on_valid n from (y.fan (values_of t.resident.got) x) t
+    passed_on_valid y.schema n from (y.fan (values_of t.resident.got) x) t
     (safe.fans (values_of t.resident.got) x v.got fits.1) v
 turned_by_valid y n next a from safe (Sync entity peer) t fits v =
-    record { got = v.got; plan = answer_valid n peer t.plan fits.1 v.plan }
+    record { got = v.got; plan = answer_valid y.schema n peer t.plan fits.1 v.plan }
 
 all_turned_valid : (y : Behaviour) (n next a from : ℕ) → IsSafe n y → (es : List Event) (t : Turning)
     → AllByRecursion (IsValidEvent n next) es → IsValidTurning n t
@@ -283,9 +287,9 @@ resident_valid n a w all = by (entry_of a w.residents) refl
 system_turn_valid : (a : ℕ) (b : Batch) (w : WorldState) → IsValidBatch (16 + w.opened) w.table.next b
     → IsValidWorld w → IsValidWorld (system_turn a b w).world
 system_turn_valid a b w fits v =
-    let y : Behaviour = behaviour_of w.bindings a in
+    let y : Behaviour = behaviour_of w.schema w.bindings a in
     let t = all_turned_valid y (16 + w.opened) w.table.next a b.from
-    (behaviour_safe (16 + w.opened) w.bindings a v.bound) b.events (begin_turn a w) fits
+    (behaviour_safe w.schema (16 + w.opened) w.bindings a v.bound) b.events (begin_turn a w) fits
     (record {
       got = resident_valid (16 + w.opened) a w v.got;
       plan = begin_valid (16 + w.opened) w.table (table_of w v);

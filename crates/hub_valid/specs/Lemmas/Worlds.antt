@@ -3,6 +3,7 @@ use Rattle.std.proofs.Common.{ℕ, zero, suc, ◌+◌, ◌≤◌, List, [], ◌�
 use Rattle.std.specs.List.{AllByRecursion}
 use Rattle.gk_sturdy.specs.declared.bound.Binding.{Binding}
 use Rattle.gk_sturdy.specs.Bindings.{bound}
+use Rattle.ps_schema.specs.declared.Definition.{Definition}
 use Rattle.ac_table.specs.Tables.{TableState, rows_of, ended}
 use Rattle.ac_world.specs.declared.acts.Act.{Act}
 use Rattle.ac_world.specs.Outboxes.{plan_over, all_acted, retractions}
@@ -37,8 +38,8 @@ first_actors_valid : (n k : ℕ) → IsValidTable n (first_actors k)
 first_actors_valid n zero = record { rows = tt; inboxes = tt }
 first_actors_valid n (suc k) = joined_valid n k (first_actors k) (first_actors_valid n k)
 
-pub beginning_valid : IsValidWorld beginning
-beginning_valid = world_with beginning (first_actors_valid 16 9) (tt, tt) tt tt
+pub beginning_valid : (ds : List Definition) → IsValidWorld (beginning ds)
+beginning_valid ds = world_with (beginning ds) (first_actors_valid 16 9) (tt, tt) tt tt
 
 -- ---- its changes
 

@@ -13,7 +13,7 @@ use Rattle.sr_caveat.specs.Lemmas.CaveatsBack.{read_back}
 use Rattle.gk_sturdy.specs.declared.bound.Binding.{Binding}
 use Rattle.sc_events.specs.Events.{ScriptEvent, Bind, Open, Bytes, Close, Turn, Drain, LongDrain, name_in, arrival_in}
 use Rattle.sc_events.specs.Events.{space_in, drain_event, schema_event, event_of_one, event_of_two}
-use Rattle.sc_events.specs.Events.{any_guarded, reference_to, bound_to, binding_event, is_watch, unbuilt_where}
+use Rattle.sc_events.specs.Events.{reference_to, bound_to, binding_event, is_watch, unbuilt_where}
 use Rattle.sc_events.specs.Events.{event_of_four, event_of_record, event_of, Unbuilt, IsSoundEvent}
 
 all_read_back : (cs : Plains) → AllByRecursion IsReadBack (caveats_from cs)
@@ -82,17 +82,9 @@ space_below (integer (pos (suc n))) s is = space_small n (nat_lt n 8) refl s is
 space_below v s is = absurd cc
 
 module _ (oid : Plain) (key : List ℕ) (cs : Plains) where
-  to_fine : (s : ℕ) (b : Bool) → s < 2 ^ 32 → Fine (Some (if b then Unbuilt else Bind (record {
-    oid = oid;
-    key = key;
-    cap = reference_to s cs;
-  })))
-  to_fine s true small = tt
-  to_fine s false small = reference_sound s cs (caveats_from cs) small refl
-
   bound_fine : (o : Option ℕ) → ((s : ℕ) → o ≡ Some s → s < 2 ^ 32) → Fine (option_map (bound_to oid key cs) o)
   bound_fine None small = tt
-  bound_fine (Some s) small = to_fine s (any_guarded cs) (small s refl)
+  bound_fine (Some s) small = reference_sound s cs (caveats_from cs) (small s refl) refl
 
 binding_fine : (oid key space caveats : Plain) → Fine (binding_event oid key space caveats)
 binding_fine oid (byte_string key) space (sequence cs) =

@@ -6,9 +6,9 @@ use Rattle.ac_world.proofs.readings.aim_of.Goals.{in_default-as_slice-via-then-a
 use Rattle.ac_world.proofs.readings.aim_of.Goals.{in_default-as_slice-via-else-as_slice-lt2+else-this-lt3}
 
 pub returns-in_default-as_slice : goal.returns-in_default-as_slice
-returns-in_default-as_slice c =
+returns-in_default-as_slice g c =
     rw (← c.key.view_is, c.in-Seq.is)
-    (sym (no_aim c.in-Seq.items (λ e. elim c.in_default-as_slice.branch [
+    (sym (no_aim (g.J.Judge.schema c.args.judge.now) c.in-Seq.items (λ e. elim c.in_default-as_slice.branch [
       | in_default-as_slice-via-then-as_slice-lt2 w ↦ omega (arith, ltb-true, ap length c.as_slice.ensures.same)
       | in_default-as_slice-via-else-as_slice-lt2+else-this-lt3 w ↦ omega
           (arith, ltb-false, ap length c.as_slice.ensures.same)

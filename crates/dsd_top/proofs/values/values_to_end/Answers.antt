@@ -35,11 +35,13 @@ pub returns-in-Ok-None-clause-made : goal.returns-in-Ok-None-clause-made
 returns-in-Ok-None-clause-made c =
     let l = c.loop-value in
     let next = rw c.in-Ok-None.field-0-is at c.in-Ok-None.ensures.next in
-    all_read c.args.input (made_of c.args.each) c.args.bytes.now l.place l.values l.out.items l.invariant.made l.invariant.short
+    all_read c.args.input (made_of c.args.each) c.args.bytes.now l.place l.values l.out.items l.invariant.made
+    l.invariant.short
     (λ vs s. next c.args.input c.args.bytes.now vs s)
 
 pub returns-in-Err-Bad-clause-fault : goal.returns-in-Err-Bad-clause-fault
 returns-in-Err-Bad-clause-fault c =
     let l = c.loop-value in
-    cut_off c.args.input (made_of c.args.each) c.args.bytes.now l.place l.values l.out.items l.invariant.made l.invariant.short
+    cut_off c.args.input (made_of c.args.each) c.args.bytes.now l.place l.values l.out.items l.invariant.made
+    l.invariant.short
     (λ vs s. c.in-Err-Bad.ensures.stop (ap Err c.in-Err-Bad.field-0-is) c.args.input c.args.bytes.now vs s)

@@ -5,4 +5,4 @@ use Rattle.sr_pass.proofs.passing.pass.Given as goal
 
 abbrev pub invariant-loop-left : goal.invariant-loop-left
 invariant-loop-left g l =
-    Some l.passing ≡ passed (g.J.Judge.judged l.judge) (drop (length l.caveats - l.left) l.caveats) l.value
+    Some l.passing ≡ passed (g.J.Judge.schema l.judge) (drop (length l.caveats - l.left) l.caveats) l.value

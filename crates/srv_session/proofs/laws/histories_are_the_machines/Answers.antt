@@ -3,5 +3,5 @@ use Rattle.srv_session.proofs.Running.{runs}
 use Rattle.srv_session.proofs.laws.histories_are_the_machines.Goals as goal
 
 pub returns : goal.returns
-returns g c h es is legal =
-    let run : _ = runs h opening es is legal in record { state = run.0; allowed = run.1; replies = run.2 }
+returns g c ds h es is legal =
+    let run : _ = runs h (opening ds) es is legal in record { state = run.0; allowed = run.1; replies = run.2 }

@@ -10,9 +10,9 @@ returns-in-Done-clause-applied g c =
     let old = g.S.Space.rows c.self.inside.space in
     let told : IsApplied g.S.Space.rows old c.args.event (Done c.in-Done.space c.in-Done.changes) =
     rw c.in-Done.is at c.in_ok-space.ensures in
-    rw (← c.self.view_is) (
+    λ ds. rw (← c.self.view_is) (
       told.0,
       refl,
       exact (values_of old) (values_of (changed old c.args.event)) c.in-Done.changes.items told.1,
-      fits_by (values_of (changed old c.args.event)) c.args.event told.2,
+      fits_by ds (values_of (changed old c.args.event)) c.args.event told.2,
     )

@@ -16,10 +16,11 @@ returns-clause-applied c =
     let old : Rows = c.args.self.got in
     let new : Rows = insert_entry nat_cmp old c.args.handle v in
     let items : c.in_ok-changes.changes.items ≡ cond (asks v && not (among v (values_of old))) (Came v ∷ []) [] =
-    c.in_ok-changes.ensures ∙ (λ i. cond (c.is_new-is_new.ensures i) (Came (c.in_ok-copy.ensures i) ∷ []) []) in (
+    c.in_ok-changes.ensures ∙ (λ i. cond (c.is_new-is_new.ensures i) (Came (c.in_ok-copy.ensures i) ∷ []) []) in
+    λ ds. (
       c.in_ok-insert.ensures.entries
           ∙ ap (λ (g : Gatekeeping). insert_entry nat_cmp g.got c.args.handle v) c.self.view_is,
-      ap (λ (g : Gatekeeping). gatekeeper g.bindings) c.self.view_is,
+      ap (λ (g : Gatekeeping). gatekeeper ds g.bindings) c.self.view_is,
       items ∙ sym (came_changes v (values_of old) (values_of new) (longer_by_row c.args.handle v old c.requires)),
       omega arith,
     )

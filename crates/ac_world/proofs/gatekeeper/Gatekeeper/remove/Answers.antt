@@ -16,10 +16,11 @@ returns-in-None-clause-applied c =
     let h = c.args.handle in
     let old : Rows = c.args.self.got in
     let none : lookup (is_at (nat_cmp h)) old ≡ None =
-    ap (λ (g : Gatekeeping). lookup (is_at (nat_cmp h)) g.got) (sym c.self.view_is) ∙ sym c.in-None.ensures.value in (
+    ap (λ (g : Gatekeeping). lookup (is_at (nat_cmp h)) g.got) (sym c.self.view_is) ∙ sym c.in-None.ensures.value in
+    λ ds. (
       c.in-None.ensures.entries
           ∙ ap (λ (g : Gatekeeping). remove_entry (is_at (nat_cmp h)) g.got) c.self.view_is,
-      ap (λ (g : Gatekeeping). gatekeeper g.bindings) c.self.view_is,
+      ap (λ (g : Gatekeeping). gatekeeper ds g.bindings) c.self.view_is,
       c.new.ensures.items ∙ sym (no_changes (values_of old))
           ∙ ap (λ (rows : Rows). changes (asked (values_of old)) (asked (values_of rows)))
           (sym (same_without h old none)),
@@ -37,9 +38,10 @@ returns-in_ok-changes-in-Some-clause-applied c =
     let found : lookup (is_at (nat_cmp h)) old ≡ Some v =
     ap (λ (g : Gatekeeping). lookup (is_at (nat_cmp h)) g.got) (sym c.self.view_is) ∙ sym c.in-Some.ensures.value in
     let is_new : c.is_new-is_new.result ≡ (asks v && not (among v (values_of new))) =
-    c.is_new-is_new.ensures ∙ ap (λ (rs : Rows). asks v && not (among v (values_of rs))) rows in (
+    c.is_new-is_new.ensures ∙ ap (λ (rs : Rows). asks v && not (among v (values_of rs))) rows in
+    λ ds. (
       rows,
-      ap (λ (g : Gatekeeping). gatekeeper g.bindings) c.self.view_is,
+      ap (λ (g : Gatekeeping). gatekeeper ds g.bindings) c.self.view_is,
       c.in_ok-changes-in-Some.ensures ∙ ap (λ b. cond b (Left v ∷ []) []) is_new
           ∙ sym (left_changes v (values_of new) (values_of old) (longer_than_without h v old found)),
       tt,

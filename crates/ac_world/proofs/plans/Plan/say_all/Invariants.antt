@@ -4,4 +4,6 @@ use Rattle.ac_world.proofs.plans.Plan.say_all.Given as goal
 
 -- what is left to say leads to what all leads to
 abbrev pub invariant-loop-fanned : goal.invariant-loop-fanned
-invariant-loop-fanned l = say_all l.fanned-iterator.rest.items l.self ≡ say_all l.fn.list.items l.fn.self
+invariant-loop-fanned g l =
+    say_all (g.J.Judge.schema l.judge) l.fanned-iterator.rest.items l.self
+    ≡ say_all (g.J.Judge.schema l.judge) l.fn.list.items l.fn.self

@@ -10,6 +10,7 @@ returns g c =
     let w : WorldState =
     record {
       opened = c.self.inside.opened;
+      schema = g.J.Judge.schema c.self.inside.judge;
       bindings = c.self.inside.gatekeeper.system.bindings;
       table = c.self.inside.table;
       residents = (0, resident_by (λ k. k.got) c.self.inside.gatekeeper) ∷ residents_by c.self.inside.spaces.entries;

@@ -10,7 +10,7 @@ pub invariant_of-world : goal.invariant_of-world
 invariant_of-world g c =
     let i = c.self.inside in
     let b = c.args.batch in
-    world_turned (gatekeeper i.gatekeeper.system.bindings) 0 b.from i.opened b.events
+    world_turned (gatekeeper (g.J.Judge.schema i.judge) i.gatekeeper.system.bindings) 0 b.from i.opened b.events
     (resident_by (λ k. k.got) i.gatekeeper) (turning_by (λ k. k.got) c.in_ok-resident.field-0) c.in_ok-commit.field-0
     i.table c.in_ok-resident.ensures.turned c.in_ok-commit.ensures c.self.invariant
 
@@ -21,6 +21,7 @@ returns-clause-world g c =
     let w : WorldState =
     record {
       opened = i.opened;
+      schema = g.J.Judge.schema i.judge;
       bindings = i.gatekeeper.system.bindings;
       table = i.table;
       residents = (0, resident_by (λ k. k.got) i.gatekeeper) ∷ residents;
@@ -29,6 +30,7 @@ returns-clause-world g c =
     let t : Turning = turning_by (λ k. k.got) c.in_ok-resident.field-0 in
     (λ j. record {
       opened = i.opened;
+      schema = g.J.Judge.schema i.judge;
       bindings = c.in_ok-resident.ensures.bound j;
       table = c.in_ok-commit.ensures j;
       residents = (0, t.resident) ∷ residents;
@@ -43,6 +45,7 @@ returns-clause-turned g c =
     let w : WorldState =
     record {
       opened = i.opened;
+      schema = g.J.Judge.schema i.judge;
       bindings = i.gatekeeper.system.bindings;
       table = i.table;
       residents = (0, resident_by (λ k. k.got) i.gatekeeper) ∷ residents_by i.spaces.entries;

@@ -3,7 +3,7 @@ use Rattle.std.proofs.Common.{◌≡◌, subst}
 use Rattle.hub_machine.specs.State.{State}
 use Rattle.hub_machine.specs.Admission.{admission, admitted}
 use Rattle.hub_valid.specs.Lemmas.Hubs.{accepted_is_valid}
-use Rattle.hub_core.proofs.hub.Hub.judge.Goals as goal
+use Rattle.hub_core.proofs.hub.Hub.judge_packet.Goals as goal
 
 pub accept-requires-clause-valid : goal.accept-requires-clause-valid
 accept-requires-clause-valid g c = λ valid.
