@@ -14,7 +14,7 @@ use crate::forms::{Each, Form, value_in};
 use crate::schemas::schema_of;
 use crate::values::values_to_end;
 use crate::words::{Command, Making};
-use ds_space::PlainSpace;
+use ds_skeleton::Skeleton;
 use hub_laws::settled_holdings_are_from_scratch;
 use out_ports::ports::Host;
 use ps_schema::Schema;
@@ -96,7 +96,7 @@ fn report_in(alloc: Global, bytes: &[u8], input: Input, form: Form) -> Result<Ve
     ensures stop { IfErr result (StopsAt input bytes.now) }
 {
     settled_holdings_are_from_scratch();
-    let ran = run_script::<PlainSpace, Conformance>(alloc, bytes, input, Conformance)?;
+    let ran = run_script::<Skeleton, Conformance>(alloc, bytes, input, Conformance)?;
     let value = report(alloc, &ran)?;
     Ok(value_in(alloc, &value, form)?)
 }

@@ -1,6 +1,7 @@
 //! Spaces: what is wanted comes and goes.
 
 use crate::patterns::value;
+use ds_skeleton::Skeleton;
 use ds_space::{Applied, Fan, PlainSpace, Space, SpaceEvent};
 use pv_value::Value;
 use std::alloc::Global;
@@ -73,5 +74,6 @@ fn is_observed<S: Space + Drop>(alloc: Global) -> Result<bool, Fail> {
 #[test]
 fn what_is_captured_comes_and_goes(rt: HostRuntime) -> Result<(), Fail> {
     assert!(rt; is_observed::<PlainSpace>(rt.alloc())?);
+    assert!(rt; is_observed::<Skeleton>(rt.alloc())?);
     Ok(())
 }
