@@ -31,7 +31,9 @@
 //! call is given, an arrow `=>`, and what it answers. `data/README` has all of it.
 #![tactic(auto)]
 
-ghost use Rattle.std.specs.Prelude.{◌≡◌, ◌≤◌, [], IfOk};
+ghost use Rattle.std.specs.Prelude.{◌≡◌, ◌≢◌, ◌≤◌, [], None, IfOk, IfErr};
+ghost use Rattle.row_cases.specs.Tables.{table_named as codec_table_named};
+ghost use Rattle.row_cases.specs.declared.faults.Fault.TheVariants as fault;
 ghost use Rattle.row_schemas.specs.Tables.{table_named};
 ghost use Rattle.dsd_rows.specs.Files.{FileHolds, TableHolds};
 
@@ -181,8 +183,10 @@ fn judge(alloc: Global, folder: Folder, name: &str, text: &str) -> Result<Findin
 
 /// What came of the cases of a table: one of schemas, or one of the codecs and the hash.
 fn judge_in_table(alloc: Global, name: &str, text: &str) -> Result<Findings, Fault>
-    ensures { IfOk result (λ found. found.differences.items ≡ []
+    ensures passing { IfOk result (λ found. found.differences.items ≡ []
         → TableHolds (table_named name.now) name.now text.now) }
+    ensures unnamed { IfErr result (λ f. f ≢ fault.NoMemory
+        → (table_named name.now ≡ None) × (codec_table_named name.now ≡ None)) }
 {
     match find_table(name) {
         Some(table) => Ok(row_schemas::judge_table(alloc, table, text)?),

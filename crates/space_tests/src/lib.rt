@@ -6,3 +6,5 @@
 mod patterns;
 #[cfg(test)]
 mod spaces;
+#[cfg(test)]
+mod wide;

@@ -8,7 +8,7 @@ use std::alloc::Global;
 use std::test::Fail;
 
 /// The space with one row more, and how many keys it changed.
-fn with<S: Space + Drop>(
+pub(crate) fn with<S: Space + Drop>(
     alloc: Global,
     space: S,
     number: u64,
