@@ -55,7 +55,9 @@ impl<'a, Rt> RealHost<'a, Rt> {
     }
 
     /// The number of its port, where it has one: another than it was asked for, where that was 0.
-    pub fn port_number(&self) -> Option<u16> {
+    pub fn port_number(&self) -> Option<u16>
+        ensures { self.now.port ≡ None → result ≡ None }
+    {
         let port = self.port.as_ref()?;
         let address = port.listener.local_addr().ok()?;
         Some(address.port())

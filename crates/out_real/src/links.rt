@@ -1,5 +1,5 @@
 //! Links over TCP.
-ghost use Rattle.std.specs.Prelude.{◌≡◌, None};
+ghost use Rattle.std.specs.Prelude.{◌≡◌, None, false, IfOk};
 
 use crate::streams::{ReadSource, WriteSink};
 use out_ports::ports::{Put, Sink};
@@ -50,7 +50,12 @@ impl Sink for TcpSink {
 }
 
 /// The next link in two halves, of which each piece is sent at once.
-pub fn next_link(listener: &TcpListener) -> io::Result<(TcpSource, TcpSink)> {
+pub(crate) fn next_link(listener: &TcpListener) -> io::Result<(TcpSource, TcpSink)>
+    ensures reads { IfOk result (λ link. (link.0.given ≡ 0) × (link.0.ended ≡ false)
+        × (link.0.faults ≡ 0)) }
+    ensures writes { IfOk result (λ link. (link.1.link.finishes ≡ 0)
+        × (link.1.link.faults ≡ 0)) }
+{
     let (reads, _peer) = listener.accept()?;
     reads.set_nodelay(true)?;
     let writes = reads.try_clone()?;

@@ -16,7 +16,7 @@ pub struct Ends {
 }
 
 /// A link to a host that listens at this address of the machine's own.
-pub fn link_to<Rt>(
+pub(super) fn link_to<Rt>(
     rt: &Rt,
     alloc: Global,
     host: &mut RealHost<'_, Rt>,
