@@ -16,6 +16,10 @@ impl Replayed for Sum {
 
     ghost next = { sum_next };
 
+    fn is_quiet(_total: &u64) -> bool {
+        false
+    }
+
     fn step(self, s: u64) -> Result<(Sum, u64), NoMemory> {
         if s > 1000 {
             return Err(NoMemory);

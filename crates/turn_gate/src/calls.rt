@@ -23,7 +23,14 @@ impl<T: Replayed> Gate<T> {
     {
         let _ = seats;
         match Gate::begin_at(alloc, t) {
-            Ok((gate, seat)) => Ok((gate, Pass { seat, floor: 0 })),
+            Ok((gate, seat)) => Ok((
+                gate,
+                Pass {
+                    seat,
+                    floor: 0,
+                    heard: 0,
+                },
+            )),
             Err(failed) => Err(failed),
         }
     }
@@ -48,6 +55,8 @@ impl<T: Replayed> Gate<T> {
             (λ r. own_pairs (view pass.new) ≡ own_pairs (view pass.old) ++ (s, r) ∷ [])
             (λ e. own_pairs (view pass.new) ≡ own_pairs (view pass.old)) }
     {
+        // Read before the step, so that no later news are missed.
+        pass.heard = self.news();
         match self.commit_at(rt, &mut pass.seat, s) {
             Ok((reply, n)) => {
                 pass.floor = n;
@@ -76,11 +85,12 @@ impl<T: Replayed> Gate<T> {
         n
     }
 
-    /// Sleeps until a step stands that the pass was not told of, or the value was given up.
+    /// Sleeps until behind the pass's last step there was one of another pass whose reply isn't
+    /// quiet ([`Replayed::is_quiet`]), or the gate is at its end. It may end sooner.
     pub fn rest<R: Wait>(&self, rt: &R, pass: &Pass<T>)
         requires gate { IsPassOf self.now pass.now }
     {
-        self.rest_at(rt, pass.floor);
+        self.rest_at(rt, pass.heard);
     }
 
     /// A new pass, for another caller, which has seen as much as the first one.
@@ -98,6 +108,7 @@ impl<T: Replayed> Gate<T> {
         Ok(Pass {
             seat,
             floor: pass.floor,
+            heard: pass.heard,
         })
     }
 
@@ -109,7 +120,7 @@ impl<T: Replayed> Gate<T> {
         ensures gate { IsPassOf self.now pass.new }
         ensures both { IsUnion (view pass.old) (view other) (view pass.new) }
     {
-        let Pass { seat, floor } = other;
+        let Pass { seat, floor, .. } = other;
         self.join_at(&mut pass.seat, seat);
         if pass.floor < floor {
             pass.floor = floor;
@@ -131,7 +142,7 @@ impl<T: Replayed> Gate<T> {
         ensures legal { IsLegal T.next (opening_of self) (view pass).seen }
         ensures whole { IsWhole (view pass) }
     {
-        let Pass { seat, floor: _ } = pass;
+        let Pass { seat, .. } = pass;
         self.close_at(seat)
     }
 }

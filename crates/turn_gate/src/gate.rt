@@ -40,7 +40,7 @@ const WAITERS: usize = 2;
 // How many callers sleep until a further step stands.
 const RESTERS: usize = 3;
 
-// Changes for those who rest, each time when they have to look again.
+// How many steps weren't quiet, or found that the gate is at its end: those who rest look again.
 const NEWS: usize = 4;
 
 // 1 once the value was given up.
@@ -69,6 +69,8 @@ pub(crate) type Place<T> = Seat<
 pub struct Pass<T: Replayed> {
     pub(crate) seat: Seat<Held<T, T::Step>, View<T, T::Step, T::Reply>>,
     pub(crate) floor: u64,
+    // What the news were before the pass's last step.
+    pub(crate) heard: u64,
     ghost empty: { seat.me.1 ≡ [] },
     ghost idle: { seat.me.0.has ≡ Nothing },
     ghost named: { seat.me.0.named ≡ true },
@@ -111,33 +113,34 @@ impl<T: Replayed> Gate<T> {
         self.table.shared.fetch_sub::<Touch>(pass, WAITERS, 1);
     }
 
-    // Wakes those who rest, if any do.
+    // There is something new: those who rest wake, if any do.
     fn tell(&self, pass: &mut Place<T>)
         requires gate { pass.old.table_id ≡ self.now.table.shared.table_id }
         ensures gate { pass.new.table_id ≡ pass.old.table_id }
         ensures same { pass.new.me ≡ pass.old.me }
     {
+        self.table.shared.fetch_add::<Touch>(pass, NEWS, 1);
         if self.table.shared.peek(RESTERS) != 0 {
-            self.table.shared.fetch_add::<Touch>(pass, NEWS, 1);
             self.table.shared.wake_all(NEWS);
         }
     }
 
-    // Sleeps until more than so many steps stand, or the value was given up.
-    pub(crate) fn rest_at<R: Wait>(&self, rt: &R, floor: u64) {
-        let (count, mut seat) = self.table.shared.load_new_seat::<Visit>(COUNT);
-        if count > floor {
-            return;
-        }
+    // What the news are now.
+    pub(crate) fn news(&self) -> u64 {
+        self.table.shared.peek(NEWS)
+    }
+
+    // Sleeps until the news are others than these, or the value was given up.
+    pub(crate) fn rest_at<R: Wait>(&self, rt: &R, heard: u64) {
+        let (_count, mut seat) = self.table.shared.load_new_seat::<Visit>(COUNT);
         self.table.shared.fetch_add::<Touch>(&mut seat, RESTERS, 1);
         for _ in rt.forever() {
-            let news = self.table.shared.peek(NEWS);
-            if self.table.shared.peek(COUNT) > floor || self.table.shared.peek(ENDED) != 0 {
+            if self.news() != heard || self.table.shared.peek(ENDED) != 0 {
                 break;
             }
             self.table
                 .shared
-                .park(rt, NEWS, (news & 0xffff_ffff) as u32);
+                .park(rt, NEWS, (heard & 0xffff_ffff) as u32);
         }
         self.table.shared.fetch_sub::<Touch>(&mut seat, RESTERS, 1);
     }
@@ -176,8 +179,8 @@ impl<T: Replayed> Gate<T> {
         unreachable!()
     }
 
-    // Gives the slot back with what is in it.
-    fn give(&self, pass: &mut Place<T>)
+    // Gives the slot back with what is in it, and tells it where it isn't quiet.
+    fn give(&self, pass: &mut Place<T>, quiet: bool)
         requires gate { pass.old.table_id ≡ self.now.table.shared.table_id }
         requires ready { ((place_view pass.old).named ≡ true)
             × ((x : _) × (pass.old.me.1 ≡ (0, x) ∷ [])
@@ -189,7 +192,9 @@ impl<T: Replayed> Gate<T> {
         if self.table.shared.peek(WAITERS) != 0 {
             self.table.shared.wake_one(LOCK);
         }
-        self.tell(pass);
+        if !quiet {
+            self.tell(pass);
+        }
     }
 
     // Puts the value into the slot, which holds the mark.
@@ -220,19 +225,20 @@ impl<T: Replayed> Gate<T> {
         let n = self.table.shared.load::<Look>(pass, COUNT);
         if n >= MOST {
             self.put(pass, t);
-            self.give(pass);
+            self.give(pass, false);
             return Err(GateFault::Spent);
         }
         match t.step(s) {
             Ok((t, reply)) => {
+                let quiet = T::is_quiet(&reply);
                 self.table.shared.fetch_add::<Note>(pass, COUNT, 1);
                 self.put(pass, t);
-                self.give(pass);
+                self.give(pass, quiet);
                 Ok((reply, n + 1))
             }
             Err(NoMemory) => {
                 self.table.shared.store::<Touch>(pass, ENDED, 1);
-                self.give(pass);
+                self.give(pass, false);
                 Err(GateFault::NoMemory)
             }
         }
@@ -258,7 +264,7 @@ impl<T: Replayed> Gate<T> {
         match self.table.shared.exchange(pass, 0, Held::Mark) {
             Held::Value(t) => self.advance(pass, t, s),
             Held::Mark => {
-                self.give(pass);
+                self.give(pass, false);
                 Err(GateFault::NoMemory)
             }
             Held::Ask(_s) => unreachable!(),

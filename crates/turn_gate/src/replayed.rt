@@ -14,6 +14,10 @@ pub trait Replayed: Drop {
     /// The value after a step, and the reply.
     ghost next: { Self → Self.Step → Self × Self.Reply };
 
+    /// Whether nobody who rests has to look again behind a step with this reply. No clause speaks
+    /// of it: what is called quiet and isn't is noticed late.
+    fn is_quiet(reply: &Self::Reply) -> bool;
+
     /// Does the step. Where there is no memory for it the value is given up.
     fn step(self, s: Self::Step) -> Result<(Self, Self::Reply), NoMemory>
         ensures { IfOk result (λ r. r ≡ next self s) };
