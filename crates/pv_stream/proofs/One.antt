@@ -1,5 +1,6 @@
 -- Of what may be next, one stands, and one alone.
 use Rattle.std.proofs.Common.{◌≡◌, ℕ, ◌+◌, ◌<◌, List, length, refl, sym, subst, ap, ◌∙◌, ◌⊎◌, inl, inr, arith}
+use Rattle.std.proofs.Common.{add-zero}
 use Rattle.std.proofs.lemmas.Bool.Decides.{leb_tells}
 use Rattle.std.proofs.lemmas.List.{take_all}
 use Rattle.std.proofs.lemmas.List.Elements.{All-take}
@@ -78,18 +79,26 @@ pub only_next : OneNext → (left : List ℕ) (before : ℕ) (x : Next) (n : ℕ
 only_next one left before x n are is =
     one (record { left = left; before = before }) x (given n (record { left = left; before = before })) are is
 
+-- where no byte is given, all stands
+pub none_given : (f : FeedState) → f ≡ given 0 f
+none_given f = λ i. record { left = f.left; before = sym (add-zero f.before) i }
+
 more_here : (left : List ℕ) (before : ℕ) → length left < most_bytes → IsFront left
-    → IsNext (record { left = left; before = before }) next.More (record { left = left; before = before })
-more_here left before few front =
-    (subst IsFront (sym (take_all most_bytes left (omega (arith, few)))) front, few, refl)
+    → IsNext (record { left = left; before = before }) next.More (given 0 (record { left = left; before = before }))
+more_here left before few front = (
+  subst IsFront (sym (take_all most_bytes left (omega (arith, few)))) front,
+  few,
+  sym (none_given (record { left = left; before = before })),
+)
 
 -- where more is known to come, nothing else is next
 pub more_next : OneNext → (left : List ℕ) (before : ℕ) → AreBytes left → length left < most_bytes → IsFront left
-    → IsNext (record { left = left; before = before }) next.More (record { left = left; before = before })
-    × IsOnlyNext (record { left = left; before = before }) next.More (record { left = left; before = before })
+    → IsNext (record { left = left; before = before }) next.More (given 0 (record { left = left; before = before }))
+    × IsOnlyNext (record { left = left; before = before }) next.More
+    (given 0 (record { left = left; before = before }))
 more_next one left before are few front =
     let is = more_here left before few front in
-    (is, one (record { left = left; before = before }) next.More (record { left = left; before = before }) are is)
+    (is, only_next one left before next.More 0 are is)
 
 -- no fault that stands is that the bytes end
 pub never_truncated : NeverTruncated

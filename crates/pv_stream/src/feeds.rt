@@ -1,12 +1,12 @@
 //! What was pushed of a stream and isn't given yet.
 ghost use Rattle.std.specs.Prelude.{◌≡◌, ◌+◌, ◌≤◌, ◌<◌, ◌^◌, length, drop};
 ghost use Rattle.std.specs.Prelude.{IfOk, OnOk, OnErr, IsTrue};
-ghost use Rattle.pv_binary.specs.OneOfThree.{IsFront};
+ghost use Rattle.pv_binary.specs.OneOfThree.{AreBytes, IsFront};
 ghost use Rattle.std.specs.Vec.{vec_len};
-ghost use Rattle.pv_stream.specs.Feeds.{no_bytes, with_bytes};
+ghost use Rattle.pv_stream.specs.Feeds.{no_bytes, with_bytes, given};
 ghost use Rattle.pv_stream.specs.Nexts.{IsNext, IsOnlyNext};
 
-use crate::nexts::{MOST_BYTES, Next, first_in, more};
+use crate::nexts::{Found, MOST_BYTES, Next, first_in, more};
 use crate::walks::{Level, walk};
 use pv_value::NoMemory;
 use std::alloc::Global;
@@ -41,12 +41,21 @@ impl Model for Feed {
         × IsAt (drop f.start f.bytes.items) f.place f.levels.items };
 }
 
-/// The bytes behind the first so many.
+/// The first so many bytes are let go.
 fn drop_front(bytes: &mut Vec<u8>, count: usize)
     requires { count ≤ length bytes.old.items }
     ensures { bytes.new.items ≡ drop count bytes.old.items }
 {
     bytes.drain(..count);
+}
+
+/// The bytes behind the first so many.
+fn bytes_behind(bytes: &[u8], count: usize) -> &[u8]
+    requires { count ≤ length bytes.now }
+    ensures left { result.now ≡ drop count bytes.now }
+    ensures bytes { AreBytes result.now }
+{
+    &bytes[count..]
 }
 
 impl Feed {
@@ -101,14 +110,35 @@ impl Feed {
         ensures only { IfOk result (λ x. IsOnlyNext self.old x self.new) }
         ensures undone { OnErr result (self.new ≡ self.old) }
     {
+        let Found { next, size } = self.first(alloc)?;
+        self.give(size);
+        Ok(next)
+    }
+
+    /// What is next. Nothing is given: only what was looked at is known better.
+    pub fn first(&mut self, alloc: Global) -> Result<Found, NoMemory>
+        ensures same { self.new ≡ self.old }
+        ensures told { IfOk result (λ x. IsNext self.old x.next (given x.size self.old)) }
+        ensures only { IfOk result (λ x. IsOnlyNext self.old x.next (given x.size self.old)) }
+        ensures fits { IfOk result (λ x. x.size ≤ length self.old.left) }
+        ensures bytes { IfOk result (λ x. AreBytes self.old.left) }
+    {
         if self.waits(alloc)? {
             return Ok(more(self.bytes_left(), self.before()));
         }
-        let (next, size) = first_in(alloc, self.bytes_left(), self.before())?;
-        self.start += size;
-        self.place = 0;
-        self.levels.clear();
-        Ok(next)
+        first_in(alloc, self.bytes_left(), self.before())
+    }
+
+    /// So many bytes are given, and no longer left.
+    pub fn give(&mut self, count: usize)
+        requires { count ≤ length self.old.left }
+        ensures { self.new ≡ given count self.old }
+    {
+        if count > 0 {
+            self.start += count;
+            self.place = 0;
+            self.levels.clear();
+        }
     }
 
     /// Whether a value is known to begin and not to end yet. Where it isn't known, the value is to
@@ -146,12 +176,14 @@ impl Feed {
 
     fn bytes_left(&self) -> &[u8]
         ensures left { result.now ≡ self.now.left }
+        ensures bytes { AreBytes self.now.left }
         ensures few { self.now.before + length self.now.left < 2 ^ 63 }
     {
-        &self.bytes[self.start..]
+        bytes_behind(&self.bytes, self.start)
     }
 
-    fn before(&self) -> u64
+    /// How many bytes of the stream stand before what is left. It takes no memory.
+    pub fn before(&self) -> u64
         ensures { result ≡ self.now.before }
     {
         self.gone + self.start as u64

@@ -26,43 +26,60 @@ pub enum Next {
     TooLong,
 }
 
-/// What is next in these bytes, before which stand so many of the stream, and how many bytes it
-/// takes.
-pub(crate) fn first_in(alloc: Global, left: &[u8], before: u64) -> Result<(Next, usize), NoMemory>
+/// What was found to be next, and how many bytes it takes: those of a value, and else none.
+#[derive(Drop)]
+pub struct Found {
+    pub next: Next,
+    pub size: usize,
+}
+
+/// What is next in these bytes, before which stand so many of the stream. They are read from the
+/// first one on.
+pub fn first_in(alloc: Global, left: &[u8], before: u64) -> Result<Found, NoMemory>
     requires { before + length left.now < 2 ^ 63 }
     ensures told { IfOk result (λ x. let f : FeedState = record { left = left.now; before = before }
-        in IsNext f x.0 (given x.1 f)) }
+        in IsNext f x.next (given x.size f)) }
     ensures only { IfOk result (λ x. let f : FeedState = record { left = left.now; before = before }
-        in IsOnlyNext f x.0 (given x.1 f)) }
-    ensures fits { IfOk result (λ x. x.1 ≤ length left.now) }
+        in IsOnlyNext f x.next (given x.size f)) }
+    ensures fits { IfOk result (λ x. x.size ≤ length left.now) }
 {
     one_next();
     decided(alloc, left, before)
 }
 
 /// More is to come, where these bytes begin a value and don't end it.
-pub(crate) fn more(left: &[u8], before: u64) -> Next
+pub(crate) fn more(left: &[u8], before: u64) -> Found
     requires few { length left.now < 262144 }
     requires front { IsFront left.now }
     ensures told { let f : FeedState = record { left = left.now; before = before }
-        in IsNext f result f }
+        in IsNext f result.next (given result.size f) }
     ensures only { let f : FeedState = record { left = left.now; before = before }
-        in IsOnlyNext f result f }
+        in IsOnlyNext f result.next (given result.size f) }
+    ensures none { result.size ≡ 0 }
 {
     one_next();
-    Next::More
+    Found {
+        next: Next::More,
+        size: 0,
+    }
 }
 
 /// The same, as reading tells it.
-fn decided(alloc: Global, left: &[u8], before: u64) -> Result<(Next, usize), NoMemory>
+fn decided(alloc: Global, left: &[u8], before: u64) -> Result<Found, NoMemory>
     requires { before + length left.now < 2 ^ 63 }
     ensures told { IfOk result (λ x. let f : FeedState = record { left = left.now; before = before }
-        in IsNext f x.0 (given x.1 f)) }
-    ensures fits { IfOk result (λ x. x.1 ≤ length left.now) }
+        in IsNext f x.next (given x.size f)) }
+    ensures fits { IfOk result (λ x. x.size ≤ length left.now) }
 {
     match read(alloc, front_of(left)) {
-        Ok((value, size)) => Ok((Next::Value(value), size)),
-        Err(BinFault::Bad(kind, at)) => Ok((stopped(left, before, kind, at), 0)),
+        Ok((value, size)) => Ok(Found {
+            next: Next::Value(value),
+            size,
+        }),
+        Err(BinFault::Bad(kind, at)) => Ok(Found {
+            next: stopped(left, before, kind, at),
+            size: 0,
+        }),
         Err(BinFault::NoMemory) => Err(NoMemory),
     }
 }

@@ -7,5 +7,5 @@ mod nexts;
 mod streams;
 
 pub use laws::{any_cut_is_one_course, next_is_decided, one_course, one_next};
-pub use nexts::{Next, PACKET_BYTES, next_packet};
+pub use nexts::{Next, next_packet};
 pub use streams::Stream;

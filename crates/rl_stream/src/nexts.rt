@@ -1,15 +1,14 @@
 //! What stands next in the bytes that a peer has sent.
 ghost use Rattle.std.specs.Prelude.{◌≡◌, ◌<◌, ◌+◌, ◌^◌, ℕ, List, length, IfOk};
-ghost use Rattle.pv_binary.specs.Reads.{BeginsWith, Stops};
+ghost use Rattle.pv_binary.specs.Reads.{BeginsWith};
+ghost use Rattle.pv_stream.specs.Feeds.{FeedState, given};
+ghost use Rattle.pv_stream.specs.Nexts as values;
 ghost use Rattle.rl_stream.specs.Nexts.{front_of, IsNext};
 
-use pv_binary::{BinFault, BinKind, read};
+use pv_stream::{Found, first_in};
 use pv_value::{NoMemory, Value};
 use rl_packet::{Packet, PacketFault, packet_of};
 use std::alloc::Global;
-
-/// The most bytes of a packet.
-pub const PACKET_BYTES: usize = 262_144;
 
 /// What is told of a value that doesn't end within a packet's length, in place of a fault's number.
 const TOO_LONG: u8 = 9;
@@ -33,18 +32,22 @@ pub fn next_packet(alloc: Global, rest: &[u8], place: u64) -> Result<Next, NoMem
     requires { place + length rest.now < 2 ^ 63 }
     ensures { IfOk result (IsNext rest.now place) }
 {
-    match read(alloc, front_of(rest)) {
-        Ok((value, size)) => packet_or_not(alloc, &value, size),
-        Err(BinFault::Bad(kind, at)) => Ok(stopped(rest, place, kind, at)),
-        Err(BinFault::NoMemory) => Err(NoMemory),
-    }
+    let found = first_in(alloc, rest, place)?;
+    as_packet(alloc, found, place)
 }
 
-/// The bytes on which the first value is decided.
-fn front_of(rest: &[u8]) -> &[u8]
-    ensures { result.now ≡ front_of rest.now }
+/// What was found at this place, of which a value is a packet or none.
+pub(crate) fn as_packet(alloc: Global, found: Found, place: u64) -> Result<Next, NoMemory>
+    ensures { (rest : List ℕ) → let f : FeedState = record { left = rest; before = place } in
+        values.IsNext f found.next (given found.size f) → IfOk result (IsNext rest place) }
 {
-    &rest[..rest.len().min(PACKET_BYTES)]
+    let Found { next, size } = found;
+    match next {
+        pv_stream::Next::Value(value) => packet_or_not(alloc, &value, size),
+        pv_stream::Next::More => Ok(Next::Waits),
+        pv_stream::Next::Fault(kind, at) => Ok(Next::BadBytes(kind.number(), at)),
+        pv_stream::Next::TooLong => Ok(Next::BadBytes(TOO_LONG, place)),
+    }
 }
 
 /// What stands next, where the first so many bytes spell the value.
@@ -56,18 +59,5 @@ fn packet_or_not(alloc: Global, value: &Value, size: usize) -> Result<Next, NoMe
         Ok(packet) => Ok(Next::Whole(packet, size)),
         Err(PacketFault::BadPacket) => Ok(Next::BadPacket),
         Err(PacketFault::NoMemory) => Err(NoMemory),
-    }
-}
-
-/// What stands next, where this fault stops the reading of the first value.
-fn stopped(rest: &[u8], place: u64, kind: BinKind, at: usize) -> Next
-    requires fits { place + length rest.now < 2 ^ 63 }
-    requires stops { Stops (front_of rest.now) (record { kind = kind; place = at }) }
-    ensures { IsNext rest.now place result }
-{
-    match kind {
-        BinKind::Truncated if rest.len() < PACKET_BYTES => Next::Waits,
-        BinKind::Truncated => Next::BadBytes(TOO_LONG, place),
-        _ => Next::BadBytes(kind.number(), place + at as u64),
     }
 }

@@ -1,42 +1,31 @@
-//! What a peer has sent, and how far it is read.
-ghost use Rattle.std.specs.Prelude.{◌≡◌, ◌+◌, ◌≤◌, ◌<◌, ◌^◌, length, IfOk, OnOk, OnErr};
+//! What a peer has sent, as far as it isn't read.
+ghost use Rattle.std.specs.Prelude.{◌≡◌, ◌≤◌, length, IfOk, OnOk, OnErr};
 ghost use Rattle.rl_stream.specs.Nexts.{IsNext, AllTell};
 ghost use Rattle.rl_stream.specs.Streams.{no_stream, with_bytes, read_off};
 
 use crate::laws::one_next;
-use crate::nexts::{Next, next_packet};
+use crate::nexts::{Next, as_packet};
+use pv_stream::Feed;
 use pv_value::NoMemory;
 use std::alloc::Global;
 use std::marker::Model;
 
-/// The bytes that one peer has sent, of which the first so many are read. They are all kept, so
-/// that places count from the first one.
+/// The bytes that one peer has sent, of which the first so many are read.
+///
+/// Places count from the first byte that was sent, but what is read is let go: with each piece
+/// that comes, all but what is left. A packet that comes bit by bit is looked at once.
 #[derive(Drop)]
 pub struct Stream {
-    bytes: Vec<u8>,
-    read: usize,
+    feed: Feed,
 }
 
 impl Model for Stream {
-    ghost use Rattle.std.specs.Prelude.{drop, length, ◌≤◌};
     ghost use Rattle.std.specs.Coded.{codes};
     ghost use Rattle.rl_stream.specs.Streams.{StreamState};
 
     ghost Value = { StreamState };
 
-    ghost view = { λ s. record { rest = drop s.read s.bytes.items; place = s.read } };
-
-    ghost invariant = { λ s. s.read ≤ length s.bytes.items };
-}
-
-/// What is next in bytes whose first is at this place, as each decider tells it.
-fn next_in(alloc: Global, rest: &[u8], place: u64) -> Result<Next, NoMemory>
-    requires { place + length rest.now < 2 ^ 63 }
-    ensures next { IfOk result (IsNext rest.now place) }
-    ensures told { IfOk result (AllTell rest.now place) }
-{
-    one_next();
-    next_packet(alloc, rest, place)
+    ghost view = { λ s. record { rest = s.feed.left; place = s.feed.before } };
 }
 
 impl Stream {
@@ -45,32 +34,28 @@ impl Stream {
         ensures { result ≡ no_stream }
     {
         Stream {
-            bytes: Vec::new(alloc),
-            read: 0,
+            feed: Feed::new(alloc),
         }
     }
 
-    /// The bytes that aren't read yet.
-    fn rest(&self) -> &[u8]
-        ensures rest { result.now ≡ self.now.rest }
-        ensures few { self.now.place + length self.now.rest < 2 ^ 63 }
+    /// How many bytes aren't read yet.
+    pub fn left(&self) -> u64
+        ensures { result ≡ length self.now.rest }
     {
-        &self.bytes[self.read..]
+        self.feed.left()
     }
 
-    /// Where they begin in all that was sent.
-    fn place(&self) -> u64
-        ensures { result ≡ self.now.place }
+    /// What is next in the bytes that aren't read yet. None is read: only what was looked at is
+    /// known better.
+    pub fn first(&mut self, alloc: Global) -> Result<Next, NoMemory>
+        ensures same { self.new ≡ self.old }
+        ensures next { IfOk result (IsNext self.old.rest self.old.place) }
+        ensures told { IfOk result (AllTell self.old.rest self.old.place) }
     {
-        self.read as u64
-    }
-
-    /// What is next in the bytes that aren't read yet.
-    pub fn first(&self, alloc: Global) -> Result<Next, NoMemory>
-        ensures next { IfOk result (IsNext self.now.rest self.now.place) }
-        ensures told { IfOk result (AllTell self.now.rest self.now.place) }
-    {
-        next_in(alloc, self.rest(), self.place())
+        one_next();
+        let place = self.feed.before();
+        let found = self.feed.first(alloc)?;
+        as_packet(alloc, found, place)
     }
 
     /// More bytes come, behind those that are there. For want of memory none does.
@@ -78,8 +63,7 @@ impl Stream {
         ensures longer { OnOk result (self.new ≡ with_bytes more.now self.old) }
         ensures undone { OnErr result (self.new ≡ self.old) }
     {
-        self.bytes.extend_from_slice(more)?;
-        Ok(())
+        self.feed.push(more)
     }
 
     /// So many of the bytes are read.
@@ -87,6 +71,6 @@ impl Stream {
         requires { count ≤ length self.old.rest }
         ensures { self.new ≡ read_off count self.old }
     {
-        self.read += count;
+        self.feed.give(count);
     }
 }

@@ -16,14 +16,11 @@ pub(crate) const PIECE: usize = 65_536;
 /// The most bytes that a reader takes in all.
 const MOST: u64 = 1 << 40;
 
-/// The bytes that a reader has taken: how many, how many of them are still undecided, and these.
+/// The bytes that a reader has taken: how many, and those that are still undecided.
 #[derive(Drop)]
 pub(crate) struct Received {
     stream: Stream,
     taken: u64,
-    undecided: u64,
-    ghost counted: { undecided ≡ length stream.rest },
-    ghost within: { undecided ≤ taken },
     ghost few: { taken ≤ 2 ^ 40 },
 }
 
@@ -36,7 +33,6 @@ impl Received {
         Received {
             stream: Stream::new(alloc),
             taken: 0,
-            undecided: 0,
         }
     }
 
@@ -51,7 +47,7 @@ impl Received {
     pub(crate) fn end(&self) -> ReaderEnd
         ensures { result ≡ link_end self.now.stream }
     {
-        if self.undecided == 0 {
+        if self.stream.left() == 0 {
             ReaderEnd::Clean
         } else {
             ReaderEnd::Cut
@@ -59,8 +55,9 @@ impl Received {
     }
 
     /// What is next in the bytes that aren't decided.
-    pub(crate) fn first(&self, alloc: Global) -> Result<Next, NoMemory>
-        ensures { IfOk result (IsNext self.now.stream.rest self.now.stream.place) }
+    pub(crate) fn first(&mut self, alloc: Global) -> Result<Next, NoMemory>
+        ensures same { self.new ≡ self.old }
+        ensures next { IfOk result (IsNext self.old.stream.rest self.old.stream.place) }
     {
         self.stream.first(alloc)
     }
@@ -72,7 +69,6 @@ impl Received {
         ensures taken { self.new.taken ≡ self.old.taken }
     {
         self.stream.read_off(size);
-        self.undecided -= size as u64;
     }
 
     /// More bytes were taken. For want of memory they are gone.
@@ -85,7 +81,6 @@ impl Received {
     {
         self.stream.add(more)?;
         self.taken += more.len() as u64;
-        self.undecided += more.len() as u64;
         Ok(())
     }
 }

@@ -1,6 +1,6 @@
 //! What a feed tells is next.
 use pv_binary::{BinKind, write};
-use pv_stream::{Feed, Next};
+use pv_stream::{Feed, Next, first_in};
 use pv_value::{Items, NoMemory, Text, Value};
 use std::alloc::Global;
 use std::test::Fail;
@@ -156,5 +156,32 @@ fn comes_long(alloc: Global, count: usize) -> Result<bool, NoMemory> {
 #[test]
 fn a_long_value_comes_byte_by_byte(rt: HostRuntime) -> Result<(), Fail> {
     assert!(rt; comes_long(rt.alloc(), 262_144)?);
+    Ok(())
+}
+
+/// A feed of `[] #f`, of which the first value was found, and then given.
+fn given_first(alloc: Global) -> Result<Feed, NoMemory> {
+    let mut feed = Feed::new(alloc);
+    feed.push(&[0xb5, 0x84, 0x80])?;
+    let found = feed.first(alloc)?;
+    feed.give(found.size);
+    Ok(feed)
+}
+
+fn goes_on(alloc: Global) -> Result<bool, NoMemory> {
+    let feed = given_first(alloc)?;
+    Ok(feed.before() == 2 && feed.left() == 1)
+}
+
+/// Whether a value of so many bytes stands first in these.
+fn finds(alloc: Global, bytes: &[u8], size: usize) -> Result<bool, NoMemory> {
+    let found = first_in(alloc, bytes, 0)?;
+    Ok(found.size == size)
+}
+
+#[test]
+fn what_is_found_is_given_by_its_size(rt: HostRuntime) -> Result<(), Fail> {
+    assert!(rt; goes_on(rt.alloc())?);
+    assert!(rt; finds(rt.alloc(), &[0xb5, 0x84, 0x80], 2)?);
     Ok(())
 }

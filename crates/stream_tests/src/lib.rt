@@ -1,7 +1,9 @@
-//! Tests of values from pieces: calls that take memory, where it is ample.
+//! Tests of values and packets from pieces: calls that take memory, where it is ample.
 #![tactic(auto)]
 
 #[cfg(test)]
 mod feeds;
+#[cfg(test)]
+mod packets;
 #[cfg(test)]
 mod scans;

@@ -107,16 +107,16 @@ front_longer left more = elim (leb_tells most_bytes (length left)) [
       )
 ]
 
-front_full : (left more : List ℕ) → most_bytes ≤ length left → front_of (left ++ more) ≡ front_of left
+pub front_full : (left more : List ℕ) → most_bytes ≤ length left → front_of (left ++ more) ≡ front_of left
 front_full left more l = take-append-le most_bytes left more l
 
-still_begins : (left more : List ℕ) (n : ℕ) (v : Plain) → BeginsWith (front_of left) n v
+pub still_begins : (left more : List ℕ) (n : ℕ) (v : Plain) → BeginsWith (front_of left) n v
     → BeginsWith (front_of (left ++ more)) n v
 still_begins left more n v begins =
     let f = front_longer left more in
     subst (λ (x : List ℕ). BeginsWith x n v) (sym f.1) (begins_longer (front_of left) f.0 n v begins)
 
-still_stands : (left more : List ℕ) (f : Fault BinKind) → Stands (front_of left) f → Stands (front_of (left ++ more)) f
+pub still_stands : (left more : List ℕ) (f : Fault BinKind) → Stands (front_of left) f → Stands (front_of (left ++ more)) f
 still_stands left more f stands =
     let l = front_longer left more in
     subst (λ (x : List ℕ). Stands x f) (sym l.1) (stands_longer (front_of left) l.0 f stands)

@@ -1,7 +1,8 @@
-use Rattle.std.proofs.Common.{◌≡◌, sym, subst, add-zero}
-use Rattle.pv_stream.specs.Feeds.{FeedState, given}
+use Rattle.std.proofs.Common.{subst}
+use Rattle.pv_stream.specs.Feeds.{FeedState}
 use Rattle.pv_stream.specs.Nexts.{IsNext}
 use Rattle.pv_stream.specs.Lemmas.Longer.{value_fits}
+use Rattle.pv_stream.proofs.One.{none_given}
 use Rattle.pv_stream.proofs.nexts.decided.Goals as goal
 
 pub stopped-requires-clause-stops : goal.stopped-requires-clause-stops
@@ -12,9 +13,6 @@ stopped-requires-clause-stops c =
 pub returns-in-Ok-clause-fits : goal.returns-in-Ok-clause-fits
 returns-in-Ok-clause-fits c =
     value_fits c.args.left.now _ _ (rw c.front_of.ensures at c.in-Ok.ensures.found)
-
-none_given : (f : FeedState) → f ≡ given 0 f
-none_given f = λ i. record { left = f.left; before = sym (add-zero f.before) i }
 
 pub returns-in-Err-Bad-clause-told : goal.returns-in-Err-Bad-clause-told
 returns-in-Err-Bad-clause-told c =
