@@ -10,7 +10,7 @@ use Rattle.ac_table.specs.declared.table.Seat.{Seat}
 use Rattle.ac_table.proofs.Changes.{seen-set_value, seen-set_same, seen-insert, seen-remove, values-push}
 
 pub joined_is : (a next : ℕ) (s : Seat) (rows : List (ℕ × Row)) (seats new : List (ℕ × Seat)) (t : TableState)
-    → state_of next rows seats ≡ t → value_at a seats ≡ None → s.inbox.items ≡ []
+    → state_of next rows seats ≡ t → value_at a seats ≡ None → s.inbox ≡ []
     → new ≡ insert_entry nat_cmp seats a s → state_of next rows new ≡ joined a t
 joined_is a next s rows seats new t view none empty is =
     let actors : map seen new ≡ placed (record { number = a; inbox = [] }) (map seen seats) =
@@ -23,7 +23,7 @@ joined_is a next s rows seats new t view none empty is =
 pub asserted_is : (a next : ℕ) (s u : Seat) (row : Row) (rows more : List (ℕ × Row)) (seats new : List (ℕ × Seat))
     (t : TableState) → state_of next rows seats ≡ t → row.handle ≡ next → row.owner ≡ a
     → more ≡ rows ++ by_handle row ∷ []
-    → value_at a seats ≡ Some s → u.inbox.items ≡ s.inbox.items → new ≡ set_value (is_at (nat_cmp a)) seats u
+    → value_at a seats ≡ Some s → u.inbox ≡ s.inbox → new ≡ set_value (is_at (nat_cmp a)) seats u
     → state_of (next + 1) more new ≡ asserted a row.facet row.target row.entity row.value t
 asserted_is a next s u row rows more seats new t view handle owner more_is was same is =
     let rows_is : values_of more ≡ values_of rows ++ row ∷ [] = ap values_of more_is ∙ values-push rows row in
@@ -75,7 +75,7 @@ ended_is a next rows less seats new t view rows_is ascend is =
     here ∙ ap (ended a) view
 
 pub same_is : (a next : ℕ) (s u : Seat) (rows : List (ℕ × Row)) (seats new : List (ℕ × Seat)) (t : TableState)
-    → state_of next rows seats ≡ t → value_at a seats ≡ Some s → u.inbox.items ≡ s.inbox.items
+    → state_of next rows seats ≡ t → value_at a seats ≡ Some s → u.inbox ≡ s.inbox
     → new ≡ set_value (is_at (nat_cmp a)) seats u → state_of next rows new ≡ t
 same_is a next s u rows seats new t view was same is =
     let actors : map seen new ≡ map seen seats = ap (map seen) is ∙ seen-set_same a s u seats was same in
@@ -85,7 +85,7 @@ same_is a next s u rows seats new t view was same is =
 
 pub pushed_is : (a next : ℕ) (b : Batch) (s u : Seat) (rows : List (ℕ × Row)) (seats new : List (ℕ × Seat))
     (t : TableState) → state_of next rows seats ≡ t → value_at a seats ≡ Some s
-    → u.inbox.items ≡ s.inbox.items ++ b ∷ []
+    → u.inbox ≡ s.inbox ++ b ∷ []
     → new ≡ set_value (is_at (nat_cmp a)) seats u → state_of next rows new ≡ pushed a b t
 pushed_is a next b s u rows seats new t view was more is =
     let actors = ap (map seen) is ∙ seen-set_value a (λ bs. bs ++ b ∷ []) s u seats was more in
@@ -94,7 +94,7 @@ pushed_is a next b s u rows seats new t view was more is =
     here ∙ ap (pushed a b) view
 
 pub popped_is : (a next : ℕ) (s u : Seat) (rows : List (ℕ × Row)) (seats new : List (ℕ × Seat)) (t : TableState)
-    → state_of next rows seats ≡ t → value_at a seats ≡ Some s → u.inbox.items ≡ drop 1 s.inbox.items
+    → state_of next rows seats ≡ t → value_at a seats ≡ Some s → u.inbox ≡ drop 1 s.inbox
     → new ≡ set_value (is_at (nat_cmp a)) seats u → state_of next rows new ≡ popped a t
 popped_is a next s u rows seats new t view was less is =
     let actors = ap (map seen) is ∙ seen-set_value a (drop 1) s u seats was less in

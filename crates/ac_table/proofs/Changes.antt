@@ -13,13 +13,13 @@ use Rattle.ac_table.specs.declared.table.Seat.{Seat}
 use Rattle.ac_table.proofs.Finding.{is_at_same}
 
 pub seen-set_value : (a : ℕ) (f : List Batch → List Batch) (s t : Seat) (es : List (ℕ × Seat))
-    → value_at a es ≡ Some s → t.inbox.items ≡ f s.inbox.items
+    → value_at a es ≡ Some s → t.inbox ≡ f s.inbox
     → map seen (set_value (is_at (nat_cmp a)) es t) ≡ with_inbox a f (map seen es)
 seen-set_value a f s t [] at is = refl
 seen-set_value a f s t (e ∷ es) at is = split (e.0 == a) refl (seen-set_value a f s t es)
   where
     split : (b : Bool) → (e.0 == a) ≡ b
-        → (value_at a es ≡ Some s → t.inbox.items ≡ f s.inbox.items
+        → (value_at a es ≡ Some s → t.inbox ≡ f s.inbox
         → map seen (set_value (is_at (nat_cmp a)) es t) ≡ with_inbox a f (map seen es))
         → map seen (set_value (is_at (nat_cmp a)) (e ∷ es) t) ≡ with_inbox a f (map seen (e ∷ es))
     split true same later =
@@ -35,7 +35,7 @@ with_inbox-same a [] = refl
 with_inbox-same a (x ∷ xs) = grind (arith, with_inbox-same a xs)
 
 pub seen-set_same : (a : ℕ) (s t : Seat) (es : List (ℕ × Seat))
-    → value_at a es ≡ Some s → t.inbox.items ≡ s.inbox.items
+    → value_at a es ≡ Some s → t.inbox ≡ s.inbox
     → map seen (set_value (is_at (nat_cmp a)) es t) ≡ map seen es
 seen-set_same a s t es at is = seen-set_value a (λ bs. bs) s t es at is ∙ with_inbox-same a (map seen es)
 

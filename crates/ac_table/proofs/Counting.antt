@@ -7,9 +7,9 @@ use Rattle.ac_table.specs.declared.table.Seat.{Seat}
 
 abbrev pub total : List Seat → ℕ
 total [] = 0
-total (s ∷ ss) = length s.inbox.items + total ss
+total (s ∷ ss) = length s.inbox + total ss
 
 pub waiting-seen : (next : ℕ) (rows : List (ℕ × Row)) (seats : List (ℕ × Seat))
     → total (values_of seats) ≡ waiting (state_of next rows seats)
 waiting-seen next rows [] = refl
-waiting-seen next rows (e ∷ es) = ap (λ (n : ℕ). length e.1.inbox.items + n) (waiting-seen next rows es)
+waiting-seen next rows (e ∷ es) = ap (λ (n : ℕ). length e.1.inbox + n) (waiting-seen next rows es)

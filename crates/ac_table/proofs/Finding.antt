@@ -5,6 +5,7 @@ use Rattle.std.specs.Map.{values_of}
 use Rattle.std.specs.BTreeMap.{is_at}
 use Rattle.std.specs.Ordering.{nat_cmp}
 use Rattle.ac_table.specs.Faults.{actor_fault, row_fault, Faults}
+use Rattle.ac_table.specs.Sums.{inbox_of}
 use Rattle.ac_table.specs.Tables.{Row, Actor, Batch, TableState, find_actor, find_row, first_batch, first_in, is_live}
 use Rattle.ac_table.specs.Kept.{by_handle, seen, state_of, value_at}
 use Rattle.ac_table.specs.declared.TableFault.{TableFault}
@@ -33,7 +34,7 @@ find_row-by_handle h (r ∷ rs) = grind (arith, is_at_same h r.handle, find_row-
 -- the first batch of a seat
 abbrev pub front_of : Option Seat → Option Batch
 front_of None = None
-front_of (Some s) = slice_get s.inbox.items 0
+front_of (Some s) = slice_get s.inbox 0
 
 pub first_at : (a : ℕ) (s : Option Seat) → first_in (actor_at a s) ≡ front_of s
 first_at a None = refl
@@ -42,6 +43,18 @@ first_at a (Some s) = refl
 pub first_batch-seen : (a next : ℕ) (rows : List (ℕ × Row)) (seats : List (ℕ × Seat))
     → first_batch a (state_of next rows seats) ≡ front_of (value_at a seats)
 first_batch-seen a next rows seats = ap first_in (find_actor-seen a seats) ∙ first_at a (value_at a seats)
+
+-- the batches of a seat
+abbrev pub inbox_at : Option Seat → List Batch
+inbox_at None = []
+inbox_at (Some s) = s.inbox
+
+inbox_of_at : (a : ℕ) (s : Option Seat) → inbox_of (actor_at a s) ≡ inbox_at s
+inbox_of_at a None = refl
+inbox_of_at a (Some s) = refl
+
+pub inbox-seen : (a : ℕ) (seats : List (ℕ × Seat)) → inbox_of (find_actor a (map seen seats)) ≡ inbox_at (value_at a seats)
+inbox-seen a seats = ap inbox_of (find_actor-seen a seats) ∙ inbox_of_at a (value_at a seats)
 
 -- ---- whether an actor is live
 

@@ -1,7 +1,7 @@
 -- Each change keeps the table in order.
 use Rattle.std.proofs.Common.{◌≡◌, ℕ, ◌+◌, ◌<◌, Bool, true, false, not, ◌==◌, nat_lt, List, [], ◌∷◌, ◌++◌, map, refl}
 use Rattle.std.proofs.Common.{ap}
-use Rattle.std.proofs.Common.{arith, sym, ◌∙◌, Some, None, cond, Option, IsSome, is_some, length, subst, drop}
+use Rattle.std.proofs.Common.{arith, sym, ◌∙◌, Some, None, cond, Option, IsSome, is_some, length, subst}
 use Rattle.std.specs.BTreeMap.{BTreeMap, is_at, get, WritesThrough}
 use Rattle.std.specs.List.{AllByRecursion}
 use Rattle.std.specs.Map.{values_of, keys_of}
@@ -9,9 +9,13 @@ use Rattle.std.specs.List.Sorted.{IsStrictlySortedBy}
 use Rattle.std.specs.Ordering.{nat_cmp}
 use Rattle.std.specs.Set.{remove_key}
 use Rattle.std.proofs.lemmas.List.{map-append}
+use Rattle.pv_value.specs.Weight.{weight}
+use Rattle.ac_table.specs.Sums.{top}
+use Rattle.ac_table.specs.Kept.{sum_of_rows}
 use Rattle.ac_table.specs.Tables.{Row, Batch, IsTable, handles, rows_of, rows_of_others, find_row, without_row}
 use Rattle.ac_table.specs.Kept.{by_handle, value_at, is_key, waits_at, KeysAscend, IsOwned, IsBusy, IsKept, seen}
-use Rattle.ac_table.specs.Kept.{state_of}
+use Rattle.ac_table.specs.Kept.{state_of, ChangesAt, SetChangesAt}
+use Rattle.ac_table.proofs.Weighing.{same_number, weighed_reseated, sum_of_rows-push, less_weight}
 use Rattle.ac_table.specs.declared.table.Seat.{Seat}
 use Rattle.ac_table.proofs.Changes.{values-push}
 use Rattle.ac_table.proofs.Finding.{is_at_same, is_live-seen}
@@ -19,21 +23,11 @@ use Rattle.ac_table.specs.Lemmas.Lists.{all_weaker, all_push, all_filter}
 use Rattle.ac_table.proofs.Removing.{Ascend, ascend_from, values_from, keyed_from, rows_of-without_other}
 use Rattle.ac_table.proofs.Removing.{handles-without}
 
--- at one key the map has w afterwards, and at each other what it had
-abbrev pub ChangesAt : {X : Type 0} → ℕ → Option X → List (ℕ × X) → List (ℕ × X) → Type 0
-ChangesAt a w old new = (q : ℕ) → value_at q new ≡ cond (is_at (nat_cmp a) q) w (value_at q old)
-
-abbrev pub SetChangesAt : ℕ → Bool → List ℕ → List ℕ → Type 0
-SetChangesAt a w old new = (q : ℕ) → is_key q new ≡ cond (is_at (nat_cmp a) q) w (is_key q old)
-
 -- the seat s of an actor became t
 pub record IsReseated (a : ℕ) (s t : Seat) (old new : List (ℕ × Seat)) : Type 0 where
   pub was : value_at a old ≡ Some s
   pub changes : ChangesAt a (Some t) old new
   pub ascend : KeysAscend new
-
-same_number : (a b : ℕ) → is_at (nat_cmp a) b ≡ true → a ≡ b
-same_number a b is = grind (arith, is_at_same a b, is)
 
 changed_here : {X : Type 0} (a : ℕ) (w : Option X) (old new : List (ℕ × X)) → ChangesAt a w old new
     → value_at a new ≡ w
@@ -48,7 +42,7 @@ some_still a q x old new ch o = rw (ch q) (split (is_at (nat_cmp a) q))
     split true = refl
     split false = o
 
-no_rows : (a : ℕ) (seats : List (ℕ × Seat)) (rows : List Row)
+pub no_rows : (a : ℕ) (seats : List (ℕ × Seat)) (rows : List Row)
     → AllByRecursion (λ r. IsSome (value_at r.owner seats)) rows
     → value_at a seats ≡ None → rows_of a rows ≡ []
 no_rows a seats [] live none = refl
@@ -62,15 +56,18 @@ no_rows a seats (r ∷ rs) live none = split (r.owner == a) refl (no_rows a seat
     split false other later = rw other later
 
 pub kept_joined : (a next : ℕ) (s : Seat) (rows : List (ℕ × Row)) (seats new : List (ℕ × Seat)) (busy : List ℕ)
-    → IsKept next rows seats busy → value_at a seats ≡ None → s.own.keys ≡ [] → s.inbox.items ≡ []
+    → IsKept next rows seats busy → value_at a seats ≡ None → s.own.keys ≡ [] → s.row_weight ≡ 0 → s.inbox ≡ []
     → ChangesAt a (Some s) seats new → KeysAscend new → IsKept next rows new busy
-kept_joined a next s rows seats new busy k none own empty ch ascend = record {
+kept_joined a next s rows seats new busy k none own weighs empty ch ascend = record {
   keyed = k.keyed;
   rows_ascend = k.rows_ascend;
   below = k.below;
   owners = all_weaker _ _ (λ r o. some_still a r.owner s seats new ch o) (values_of rows) k.owners;
   seats_ascend = ascend;
   owned = λ b t is. owned b t (is_at (nat_cmp a) b) refl is;
+  weighed = weighed_reseated a s seats new (values_of rows) (values_of rows) k.weighed ch
+      (weighs ∙ ap sum_of_rows (sym (no_rows a seats (values_of rows) k.owners none)))
+      (λ b apart. refl);
   busy_is = λ b. waits b (is_at (nat_cmp a) b) refl;
 }
   where
@@ -129,15 +126,17 @@ owned_same a b s t u seats new rows k re own is = split (is_at (nat_cmp a) b) re
     split false other = k b u (sym (re.changes b ∙ rw other refl) ∙ is)
 
 pub kept_reseated : (a next : ℕ) (s t : Seat) (rows : List (ℕ × Row)) (seats new : List (ℕ × Seat)) (busy more : List ℕ)
-    → IsKept next rows seats busy → IsReseated a s t seats new → t.own.keys ≡ s.own.keys → IsBusy more new
-    → IsKept next rows new more
-kept_reseated a next s t rows seats new busy more k re own waits = record {
+    → IsKept next rows seats busy → IsReseated a s t seats new → t.own.keys ≡ s.own.keys → t.row_weight ≡ s.row_weight
+    → IsBusy more new → IsKept next rows new more
+kept_reseated a next s t rows seats new busy more k re own weighs waits = record {
   keyed = k.keyed;
   rows_ascend = k.rows_ascend;
   below = k.below;
   owners = all_weaker _ _ (λ r o. some_still a r.owner t seats new re.changes o) (values_of rows) k.owners;
   seats_ascend = re.ascend;
   owned = λ b u is. owned_same a b s t u seats new (values_of rows) k.owned re own is;
+  weighed = weighed_reseated a t seats new (values_of rows) (values_of rows) k.weighed re.changes
+      (weighs ∙ k.weighed a s re.was) (λ b apart. refl);
   busy_is = waits;
 }
 
@@ -173,9 +172,9 @@ owned_more b next s t u row seats new rows k re own is = split (is_at (nat_cmp r
 
 pub kept_asserted : (next : ℕ) (s t : Seat) (row : Row) (rows more : List (ℕ × Row)) (seats new : List (ℕ × Seat))
     (busy : List ℕ) → IsKept next rows seats busy → IsReseated row.owner s t seats new
-    → t.own.keys ≡ s.own.keys ++ row.handle ∷ [] → t.inbox.items ≡ s.inbox.items → row.handle ≡ next
-    → more ≡ rows ++ by_handle row ∷ [] → KeysAscend more → IsKept (next + 1) more new busy
-kept_asserted next s t row rows more seats new busy k re own same handle more_is ascend =
+    → t.own.keys ≡ s.own.keys ++ row.handle ∷ [] → t.row_weight ≡ s.row_weight + top (weight row.value)
+    → t.inbox ≡ s.inbox → row.handle ≡ next → more ≡ rows ++ by_handle row ∷ [] → KeysAscend more → IsKept (next + 1) more new busy
+kept_asserted next s t row rows more seats new busy k re own weighs same handle more_is ascend =
     let v : values_of more ≡ values_of rows ++ row ∷ [] = ap values_of more_is ∙ values-push rows row in
     let here : IsSome (value_at row.owner new) = rw (changed_here row.owner (Some t) seats new re.changes) refl in
     let waits : waits_at (Some t) ≡ waits_at (Some s) = ap (λ (bs : List Batch). nat_lt 0 (length bs)) same in
@@ -190,6 +189,11 @@ kept_asserted next s t row rows more seats new busy k re own same handle more_is
           here);
       seats_ascend = re.ascend;
       owned = λ b u is. rw v (owned_more b next s t u row seats new (values_of rows) k.owned re own is);
+      weighed = rw v (weighed_reseated row.owner t seats new (values_of rows) (values_of rows ++ row ∷ []) k.weighed
+          re.changes
+          (weighs ∙ ap (λ (n : ℕ). n + top (weight row.value)) (k.weighed row.owner s re.was)
+          ∙ sym (sum_of_rows-push row.owner (values_of rows) row (grind arith)))
+          (λ b apart. rows_of-push_other b (values_of rows) row apart));
       busy_is = busy_same row.owner s t seats new busy k.busy_is re waits;
     }
 
@@ -230,11 +234,12 @@ owned_less b h s t u row seats new rows k re own ascend found is = split (is_at 
 
 pub kept_retracted : (h next : ℕ) (s t : Seat) (row : Row) (rows less : List (ℕ × Row)) (seats new : List (ℕ × Seat))
     (busy : List ℕ) → IsKept next rows seats busy → IsReseated row.owner s t seats new
-    → t.own.keys ≡ remove_key (is_at (nat_cmp h)) s.own.keys → t.inbox.items ≡ s.inbox.items
-    → find_row h (values_of rows) ≡ Some row → less ≡ map by_handle (without_row h (values_of rows)) → KeysAscend less
+    → t.own.keys ≡ remove_key (is_at (nat_cmp h)) s.own.keys → t.row_weight + top (weight row.value) ≡ s.row_weight
+    → t.inbox ≡ s.inbox → find_row h (values_of rows) ≡ Some row → less ≡ map by_handle (without_row h (values_of rows)) → KeysAscend less
     → IsKept next less new busy
-kept_retracted h next s t row rows less seats new busy k re own same found less_is ascend =
+kept_retracted h next s t row rows less seats new busy k re own weighs same found less_is ascend =
     let v : values_of less ≡ without_row h (values_of rows) = values_from less _ less_is in
+    let ascends = ascend_from rows k.keyed k.rows_ascend in
     let waits : waits_at (Some t) ≡ waits_at (Some s) = ap (λ (bs : List Batch). nat_lt 0 (length bs)) same in
     record {
       keyed = keyed_from less _ less_is;
@@ -244,7 +249,12 @@ kept_retracted h next s t row rows less seats new busy k re own same found less_
           (values_of rows) k.owners);
       seats_ascend = re.ascend;
       owned = λ b u is. rw v (owned_less b h s t u row seats new (values_of rows) k.owned re own
-          (ascend_from rows k.keyed k.rows_ascend) found is);
+          ascends found is);
+      weighed = rw v (weighed_reseated row.owner t seats new (values_of rows) (without_row h (values_of rows)) k.weighed
+          re.changes
+          (less_weight h row t.row_weight s.row_weight (values_of rows) ascends found weighs
+          (k.weighed row.owner s re.was))
+          (λ b apart. rows_of-without_other b h (values_of rows) row ascends found apart));
       busy_is = busy_same row.owner s t seats new busy k.busy_is re waits;
     }
 
@@ -265,6 +275,7 @@ kept_ended a next rows less seats new busy fewer k ch new_ascend set keyed v asc
   owners = rw v (all_filter _ _ _ (λ r passed o. still r passed o) (values_of rows) k.owners);
   seats_ascend = new_ascend;
   owned = λ b u is. rw v (owned b u (is_at (nat_cmp a) b) refl is);
+  weighed = λ b u is. rw v (weighed b u (is_at (nat_cmp a) b) refl is);
   busy_is = busy_set a false None seats new busy fewer k.busy_is ch set refl;
 }
   where
@@ -279,6 +290,14 @@ kept_ended a next rows less seats new busy fewer k ch new_ascend set keyed v asc
     owned b u false other is =
         let apart : (a == b) ≡ false = grind (arith, is_at_same a b, other) in
         k.owned b u (sym (ch b ∙ rw other refl) ∙ is) ∙ ap handles (sym (rows_of-others a b (values_of rows) apart))
+
+    weighed : (b : ℕ) (u : Seat) (c : Bool) → is_at (nat_cmp a) b ≡ c → value_at b new ≡ Some u
+        → u.row_weight ≡ sum_of_rows (rows_of b (rows_of_others a (values_of rows)))
+    weighed b u true same is = let clash : None ≡ Some u = sym (ch b ∙ rw same refl) ∙ is in absurd cc
+    weighed b u false other is =
+        let apart : (a == b) ≡ false = grind (arith, is_at_same a b, other) in
+        k.weighed b u (sym (ch b ∙ rw other refl) ∙ is)
+        ∙ ap sum_of_rows (sym (rows_of-others a b (values_of rows) apart))
 
 -- ---- what the maps' calls say
 
@@ -314,32 +333,6 @@ handles_below a n (r ∷ rs) b = split (r.owner == a) refl (handles_below a n rs
 pub own_below : (a next : ℕ) (s : Seat) (rows : List (ℕ × Row)) (seats : List (ℕ × Seat)) (busy : List ℕ)
     → IsKept next rows seats busy → value_at a seats ≡ Some s → AllByRecursion (λ h. h < next) s.own.keys
 own_below a next s rows seats busy k was = rw (k.owned a s was) (handles_below a next (values_of rows) k.below)
-
--- ---- a batch more or less
-
-waits_more : (b : Batch) (bs : List Batch) → nat_lt 0 (length (bs ++ b ∷ [])) ≡ true
-waits_more b [] = grind arith
-waits_more b (x ∷ xs) = grind arith
-
-pub waits_pushed : (b : Batch) (s t : Seat) → t.inbox.items ≡ s.inbox.items ++ b ∷ [] → true ≡ waits_at (Some t)
-waits_pushed b s t more = sym (ap (λ (bs : List Batch). nat_lt 0 (length bs)) more ∙ waits_more b s.inbox.items)
-
--- a batch is put behind what waits, after room was made
-pub behind_room : (b : Batch) (all roomy more : List Batch) → roomy ≡ all → more ≡ roomy ++ b ∷ []
-    → more ≡ all ++ b ∷ []
-behind_room b all roomy more same is = is ∙ ap (λ (bs : List Batch). bs ++ b ∷ []) same
-
-pub waits_alike : (s t : Seat) → t.inbox.items ≡ s.inbox.items → waits_at (Some t) ≡ waits_at (Some s)
-waits_alike s t same = ap (λ (bs : List Batch). nat_lt 0 (length bs)) same
-
-still : (less all : List Batch) → less ≡ drop 1 all → nat_lt 0 (length less) ≡ true
-    → nat_lt 0 (length less) ≡ nat_lt 0 (length all)
-still less [] is some = ap (λ (bs : List Batch). nat_lt 0 (length bs)) is
-still less (b ∷ bs) is some = grind (arith, some)
-
-pub still_waits : (s t : Seat) → t.inbox.items ≡ drop 1 s.inbox.items → nat_lt 0 (length t.inbox.items) ≡ true
-    → waits_at (Some t) ≡ waits_at (Some s)
-still_waits s t less some = still t.inbox.items s.inbox.items less some
 
 -- ---- what is true of every table
 

@@ -6,3 +6,5 @@ pub mod Keeps
 pub mod Lowest
 pub mod Removing
 pub mod Taking
+pub mod Totals
+pub mod Weighing

@@ -31,7 +31,7 @@ waits_behind q e es s waits =
     rw other waits
 
 waits_first : (e : ℕ × Seat) (es : List (ℕ × Seat))
-    → waits_at (value_at e.0 (e ∷ es)) ≡ nat_lt 0 (length e.1.inbox.items)
+    → waits_at (value_at e.0 (e ∷ es)) ≡ nat_lt 0 (length e.1.inbox)
 waits_first e es = let here : is_at (nat_cmp e.0) e.0 ≡ true = grind (arith, is_at_same e.0 e.0) in rw here refl
 
 -- a batch waits for this one, and for none below it
@@ -39,13 +39,13 @@ pub lowest_found : (k : ℕ) (seats : List (ℕ × Seat)) → KeysAscend seats �
     → ((q : ℕ) → waits_at (value_at q seats) ≡ true → k ≤ q) → lowest_in (map seen seats) ≡ Some k
 lowest_found k [] s waits least = absurd cc
 lowest_found k (e ∷ es) s waits least =
-    split (is_at (nat_cmp k) e.0) (nat_lt 0 (length e.1.inbox.items)) refl refl
+    split (is_at (nat_cmp k) e.0) (nat_lt 0 (length e.1.inbox)) refl refl
     (λ later. lowest_found k es (sorted_tail nat_cmp _ _ s) later (λ q w. least q (waits_behind q e es s w)))
   where
-    split : (b c : Bool) → is_at (nat_cmp k) e.0 ≡ b → nat_lt 0 (length e.1.inbox.items) ≡ c
+    split : (b c : Bool) → is_at (nat_cmp k) e.0 ≡ b → nat_lt 0 (length e.1.inbox) ≡ c
         → (waits_at (value_at k es) ≡ true → lowest_in (map seen es) ≡ Some k) → lowest_in (map seen (e ∷ es)) ≡ Some k
     split true c here has later =
-        let some : nat_lt 0 (length e.1.inbox.items) ≡ true = rw here at waits in
+        let some : nat_lt 0 (length e.1.inbox) ≡ true = rw here at waits in
         let same : e.0 ≡ k = grind (arith, is_at_same k e.0, here) in
         rw some (ap Some same)
     split false true other has later =
@@ -59,7 +59,7 @@ pub lowest_none : (seats : List (ℕ × Seat)) → ((q : ℕ) → waits_at (valu
     → KeysAscend seats → lowest_in (map seen seats) ≡ None
 lowest_none [] none s = refl
 lowest_none (e ∷ es) none s =
-    let here : nat_lt 0 (length e.1.inbox.items) ≡ false = sym (waits_first e es) ∙ none e.0 in
+    let here : nat_lt 0 (length e.1.inbox) ≡ false = sym (waits_first e es) ∙ none e.0 in
     rw here (lowest_none es (λ q. behind q (waits_at (value_at q es)) refl) (sorted_tail nat_cmp _ _ s))
   where
     behind : (q : ℕ) (b : Bool) → waits_at (value_at q es) ≡ b → waits_at (value_at q es) ≡ false

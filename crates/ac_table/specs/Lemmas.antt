@@ -1,2 +1,3 @@
 -- Lemmas which proofs here and above cite. A reader of the contracts needs none of them.
 pub mod Lists
+pub mod Sums

@@ -1,13 +1,16 @@
-//! Changes of the rows and of an actor's handles together.
+//! Changes of the rows and of an actor's handles together, and of an inbox and the busy actors.
 ghost use Rattle.std.specs.Prelude.{◌≡◌, ◌<◌, ◌≤◌, [], ◌∷◌, ◌++◌, map, OnOk, OnErr, vec_len};
-ghost use Rattle.std.specs.Prelude.{vec_capacity, ◌+◌};
+ghost use Rattle.std.specs.Prelude.{vec_capacity, ◌+◌, ◌&&◌, slice_get, drop};
 ghost use Rattle.std.specs.List.{AllByRecursion};
 ghost use Rattle.std.specs.BTreeMap.{values, IsOrdered};
 ghost use Rattle.std.specs.Ordering.{nat_cmp};
 ghost use Rattle.std.specs.BTreeSet.{btree_set_len};
+ghost use Rattle.ac_table.specs.Inboxes.{is_busy};
 ghost use Rattle.ac_table.specs.Kept.{by_handle, Takes};
+ghost use Rattle.ac_table.specs.Maps.{is_key, SetChangesAt};
 
-use crate::batches::Row;
+use crate::batches::{Batch, Row};
+use crate::inbox::Inbox;
 use pv_value::NoMemory;
 use std::collections::{BTreeMap, BTreeSet};
 
@@ -66,4 +69,48 @@ pub(crate) fn take_rows(
         }
     }
     taken
+}
+
+/// An actor for which no batch waits is busy no more.
+fn settle(busy: &mut BTreeSet<u32>, actor: u32, inbox: &Inbox)
+    ensures { SetChangesAt actor (is_busy inbox.now && is_key actor busy.old.keys)
+        busy.old.keys busy.new.keys }
+{
+    if inbox.is_empty() {
+        busy.remove(&actor);
+    }
+}
+
+/// One more batch for an actor, who is busy then. For want of memory none waits more.
+pub(crate) fn push_busy(
+    busy: &mut BTreeSet<u32>,
+    actor: u32,
+    inbox: &mut Inbox,
+    batch: Batch,
+) -> Result<(), NoMemory>
+    requires { is_key actor busy.old.keys ≡ is_busy inbox.old }
+    ensures pushed { OnOk result (inbox.new ≡ inbox.old ++ batch ∷ []) }
+    ensures same { OnErr result (inbox.new ≡ inbox.old) }
+    ensures busy { SetChangesAt actor (is_busy inbox.new) busy.old.keys busy.new.keys }
+{
+    busy.insert(actor)?;
+    match inbox.push(batch) {
+        Ok(()) => Ok(()),
+        Err(fault) => {
+            settle(busy, actor, inbox);
+            Err(fault)
+        }
+    }
+}
+
+/// The first batch for an actor, who is busy no more where it was the last.
+pub(crate) fn pop_busy(busy: &mut BTreeSet<u32>, actor: u32, inbox: &mut Inbox) -> Option<Batch>
+    requires { is_key actor busy.old.keys ≡ is_busy inbox.old }
+    ensures batch { result ≡ slice_get inbox.old 0 }
+    ensures rest { inbox.new ≡ drop 1 inbox.old }
+    ensures busy { SetChangesAt actor (is_busy inbox.new) busy.old.keys busy.new.keys }
+{
+    let batch = inbox.pop();
+    settle(busy, actor, inbox);
+    batch
 }

@@ -6,12 +6,18 @@
 
 mod batches;
 mod handles;
+mod inbox;
 mod keeping;
+mod loads;
+mod senders;
+mod sum;
 mod table;
 
 pub use batches::{Batch, BatchEvents, Event, Row};
+pub use loads::Load;
 use pv_value::NoMemory;
 use std::alloc::{AllocError, AllocFailed};
+pub use sum::Sum;
 pub use table::Table;
 use thiserror::Error;
 

@@ -3,7 +3,8 @@ ghost use Rattle.std.specs.Prelude.{◌≡◌, ◌<◌, ◌≤◌, ◌^◌, ◌-
 ghost use Rattle.std.specs.Prelude.{option_copied, MatchOption, None, Some, IfNone, ◌≢◌};
 ghost use Rattle.ac_table.specs.declared.TableFault.TheVariants.{NoMemory as no_memory};
 ghost use Rattle.ac_table.specs.Faults.{actor_fault, facet_fault, row_fault, Faults, ExactFaults};
-ghost use Rattle.ac_table.specs.Tables.{opening, is_live, find_actor, find_row, rows_of, handles};
+ghost use Rattle.ac_table.specs.Sums.{top, top_load, load_for, load_sent, load_below, weight_owned};
+ghost use Rattle.ac_table.specs.Tables.{opening, is_live, find_row, rows_of};
 ghost use Rattle.ac_table.specs.Tables.{first_batch};
 ghost use Rattle.ac_table.specs.Tables.{lowest, waiting, joined, asserted, retracted, ended};
 ghost use Rattle.ac_table.specs.Tables.{pushed};
@@ -12,17 +13,21 @@ ghost use Rattle.ac_table.specs.Tables.{popped, IsTable};
 use crate::TableFault;
 use crate::batches::{Batch, Row};
 use crate::handles::NextHandle;
-use crate::keeping::{put_row, take_rows};
-use pv_value::{NoMemory, Value};
+use crate::inbox::Inbox;
+use crate::keeping::{pop_busy, push_busy, put_row, take_rows};
+use crate::loads::Load;
+use crate::sum::Sum;
+use pv_value::{NoMemory, Value, weight};
 use std::alloc::Global;
-use std::collections::{BTreeMap, BTreeSet, VecDeque};
+use std::collections::{BTreeMap, BTreeSet};
 use std::marker::Model;
 
-/// A live actor: the handles of its rows, and what waits for it.
+/// A live actor: the handles of its rows, what they weigh, and what waits for it.
 #[derive(Drop)]
 struct Seat {
     own: BTreeSet<u64>,
-    inbox: VecDeque<Batch>,
+    row_weight: Sum,
+    inbox: Inbox,
 }
 
 /// Live actors with their inboxes, and rows.
@@ -94,14 +99,45 @@ impl Table {
         seat.inbox.front()
     }
 
-    /// The batches that wait for a live actor, the earliest first.
-    pub fn inbox(&self, actor: u32) -> Option<&VecDeque<Batch>>
-        ensures { MatchOption result (find_actor actor self.now.actors ≡ None)
-            (λ inbox. find_actor actor self.now.actors
-            ≡ Some (record { number = actor; inbox = inbox.now.items })) }
+    /// What waits for an actor.
+    pub fn load(&self, actor: u32) -> Load
+        ensures { result ≡ top_load (load_for actor self.now) }
     {
-        let seat = self.seats.get(&actor)?;
-        Some(&seat.inbox)
+        match self.seats.get(&actor) {
+            Some(seat) => seat.inbox.load(),
+            None => Load::none(),
+        }
+    }
+
+    /// What of an actor's waits for another.
+    pub fn load_sent(&self, actor: u32, to: u32) -> Load
+        ensures { result ≡ top_load (load_sent actor to self.now) }
+    {
+        match self.seats.get(&to) {
+            Some(seat) => seat.inbox.load_from(actor),
+            None => Load::none(),
+        }
+    }
+
+    /// What of an actor's waits for the actors below `end`, each of which is looked up.
+    pub fn load_below(&self, actor: u32, end: u32) -> Load
+        ensures { result ≡ top_load (load_below actor end self.now) }
+    {
+        let mut load = Load::none();
+        for to in 0..end {
+            load = load.and(self.load_sent(actor, to));
+        }
+        load
+    }
+
+    /// What the values of an actor's rows weigh together.
+    pub fn row_weight(&self, actor: u32) -> u64
+        ensures { result ≡ top (weight_owned actor self.now) }
+    {
+        match self.seats.get(&actor) {
+            Some(seat) => seat.row_weight.told(),
+            None => 0,
+        }
     }
 
     /// The lowest of the actors for which a batch waits.
@@ -122,15 +158,6 @@ impl Table {
         waiting
     }
 
-    /// The handles of a live actor's rows, ascending.
-    pub fn own_handles(&self, actor: u32) -> Option<&BTreeSet<u64>>
-        ensures { MatchOption result (is_live actor self.now ≡ false)
-            (λ own. own.now.keys ≡ handles (rows_of actor self.now.rows)) }
-    {
-        let seat = self.seats.get(&actor)?;
-        Some(&seat.own)
-    }
-
     /// What is true of every table.
     pub fn keeps_its_order(&self)
         ensures { IsTable self.now }
@@ -146,7 +173,8 @@ impl Table {
     {
         let seat = Seat {
             own: BTreeSet::new(self.alloc),
-            inbox: VecDeque::new(self.alloc),
+            row_weight: Sum::none(),
+            inbox: Inbox::new(self.alloc),
         };
         self.seats.insert(actor, seat)?;
         Ok(())
@@ -179,6 +207,8 @@ impl Table {
         let Some(seat) = self.seats.get_mut(&owner) else {
             return Err(TableFault::NoActor);
         };
+        let weight = weight(&value);
+        let _rows = seat.own.len();
         let row = Row {
             handle,
             owner,
@@ -188,6 +218,7 @@ impl Table {
             value,
         };
         put_row(&mut self.rows, &mut seat.own, row)?;
+        seat.row_weight.add(weight);
         self.next.advance();
         Ok(handle)
     }
@@ -207,6 +238,7 @@ impl Table {
             return Ok(row);
         };
         seat.own.remove(&handle);
+        seat.row_weight.take_off(weight(&row.value));
         Ok(row)
     }
 
@@ -235,9 +267,7 @@ impl Table {
         let Some(seat) = self.seats.get_mut(&actor) else {
             return Err(TableFault::NoActor);
         };
-        seat.inbox.reserve(1)?;
-        self.busy.insert(actor)?;
-        seat.inbox.push_back(batch)?;
+        push_busy(&mut self.busy, actor, &mut seat.inbox, batch)?;
         Ok(())
     }
 
@@ -252,10 +282,6 @@ impl Table {
         let Some(seat) = self.seats.get_mut(&actor) else {
             return Err(TableFault::NoActor);
         };
-        let batch = seat.inbox.pop_front();
-        if seat.inbox.is_empty() {
-            self.busy.remove(&actor);
-        }
-        Ok(batch)
+        Ok(pop_busy(&mut self.busy, actor, &mut seat.inbox))
     }
 }

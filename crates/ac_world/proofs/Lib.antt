@@ -1,10 +1,9 @@
-pub mod Adding
 pub mod Changing
 pub mod Dropping
-pub mod Handles
 pub mod Lives
 pub mod Numbers
 pub mod Pushes
 pub mod Shapes
 pub mod Spaces
 pub mod Taken
+pub mod Weights

@@ -1,11 +1,11 @@
 //! What was delivered to an actor that is no dataspace.
-ghost use Rattle.std.specs.Prelude.{◌≡◌, [], OnOk, IfOk};
+ghost use Rattle.std.specs.Prelude.{◌≡◌, [], OnOk};
 ghost use Rattle.std.specs.Map.{values_of};
-ghost use Rattle.ac_world.specs.Worlds.{delivered, all_delivered};
-ghost use Rattle.ac_world.specs.Sums.{top_load, load_got};
+ghost use Rattle.ac_world.specs.Worlds.{delivered, all_delivered, with_entry, without_entry};
+ghost use Rattle.ac_table.specs.Sums.{top_load};
+ghost use Rattle.ac_world.specs.Sums.{load_got, weight_found};
 
-use crate::sums::Load;
-use ac_table::Event;
+use ac_table::{Event, Load, Sum};
 use pv_value::{NoMemory, Value, weight};
 use std::alloc::Global;
 use std::collections::BTreeMap;
@@ -18,15 +18,28 @@ pub struct Held {
     pub value: Value,
 }
 
-/// What was delivered and not taken back, by handle.
+/// What a delivery weighs, where there is one.
+fn weight_of(held: Option<Held>) -> u64
+    ensures { result ≡ weight_found held }
+{
+    match held {
+        Some(held) => weight(&held.value),
+        None => 0,
+    }
+}
+
+/// What was delivered and not taken back, by handle, and what it weighs.
 #[derive(Drop)]
 pub struct Deliveries {
     by_handle: BTreeMap<u64, Held>,
+    weight: Sum,
 }
 
 impl Model for Deliveries {
     ghost use Rattle.std.specs.Coded.{codes};
     ghost use Rattle.pv_value.specs.Lemmas.Coded.{plain_code};
+    ghost use Rattle.std.specs.Prelude.{◌≡◌};
+    ghost use Rattle.ac_world.specs.Sums.{sum_of_held};
     ghost use Rattle.ac_world.specs.Worlds.{Deliveries as DeliveriesOf};
 
     ghost Value = { DeliveriesOf };
@@ -34,6 +47,8 @@ impl Model for Deliveries {
     ghost coded = { Prim.hlevel (codes, plain_code) };
 
     ghost view = { λ d. d.by_handle.entries };
+
+    ghost invariant = { λ d. d.weight ≡ sum_of_held d.by_handle.entries };
 }
 
 impl Deliveries {
@@ -43,7 +58,28 @@ impl Deliveries {
     {
         Deliveries {
             by_handle: BTreeMap::new(alloc),
+            weight: Sum::none(),
         }
+    }
+
+    /// One that is delivered, in place of what was under its handle.
+    fn hold(&mut self, handle: u64, held: Held) -> Result<(), NoMemory>
+        ensures { OnOk result (self.new ≡ with_entry handle held self.old) }
+    {
+        let more = weight(&held.value);
+        let _many = self.by_handle.len();
+        let replaced = self.by_handle.insert(handle, held)?;
+        self.weight.take_off(weight_of(replaced));
+        self.weight.add(more);
+        Ok(())
+    }
+
+    /// One that is taken back, where it was delivered.
+    fn let_go(&mut self, handle: u64)
+        ensures { self.new ≡ without_entry handle self.old }
+    {
+        let gone = self.by_handle.remove(&handle);
+        self.weight.take_off(weight_of(gone));
     }
 
     /// One event more.
@@ -56,11 +92,9 @@ impl Deliveries {
                     entity: *entity,
                     value: value.copy()?,
                 };
-                self.by_handle.insert(*handle, held)?;
+                self.hold(*handle, held)?;
             }
-            Event::Retract(handle, _) => {
-                self.by_handle.remove(handle);
-            }
+            Event::Retract(handle, _) => self.let_go(*handle),
             Event::Message(_, _) | Event::Sync(_, _) => {}
         }
         Ok(())
@@ -80,11 +114,9 @@ impl Deliveries {
     pub(crate) fn load(&self) -> Load
         ensures { result ≡ top_load (load_got (values_of self.now)) }
     {
-        let mut load = Load::none();
-        for held in self.by_handle.values() {
-            let weight = weight(&held.value);
-            load = load.and(Load { count: 1, weight });
+        Load {
+            count: self.by_handle.len() as u64,
+            weight: self.weight.told(),
         }
-        load
     }
 }

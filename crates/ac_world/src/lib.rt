@@ -22,11 +22,11 @@ mod turning;
 mod turns;
 mod world;
 
+pub use ac_table::Load;
 pub use actors::{BEFORE_CONNECTIONS, FIRST_CONNECTION};
 pub use acts::Act;
 pub use aims::Aim;
 pub use held::Held;
 pub use spreads::{Spread, Spreads};
-pub use sums::Load;
 pub use turns::Turned;
 pub use world::World;

@@ -9,7 +9,8 @@ use Rattle.ac_table.specs.declared.batches.Event.{Event}
 use Rattle.ac_table.specs.declared.batches.Event.TheVariants.{Retract}
 use Rattle.ac_table.specs.Tables.{Actor, find_actor, is_live, ended, rows_of}
 use Rattle.ac_world.specs.Outboxes.{Outbox, told, told_to, retractions}
-use Rattle.ac_world.specs.Sums.{nothing, both, load_of, load_in, load_waiting, inbox_of, load_got, deliveries}
+use Rattle.ac_table.specs.Sums.{nothing, both, load_of, load_in, load_waiting, inbox_of}
+use Rattle.ac_world.specs.Sums.{load_got, deliveries}
 use Rattle.ac_world.specs.Worlds.{WorldState, Deliveries, held_by, gone}
 use Rattle.ac_world.specs.Lemmas.Entries.{out_other, all_append}
 use Rattle.hub_laws.specs.Laws.{EndingsSpareOthers}

@@ -9,10 +9,11 @@ use Rattle.gk_sturdy.specs.declared.bound.Binding.{Binding}
 use Rattle.ac_table.specs.declared.batches.Batch.{Batch}
 use Rattle.ac_table.specs.Tables.{is_live, lowest}
 use Rattle.ac_world.specs.declared.spreads.Spread.{Spread as SpreadOf}
-use Rattle.ac_world.specs.declared.sums.Load.{Load}
+use Rattle.ac_table.specs.declared.loads.Load.{Load}
 use Rattle.ac_world.specs.declared.turns.Turned.{Turned}
 use Rattle.ac_world.specs.declared.turns.Turned.TheVariants as turned
-use Rattle.ac_world.specs.Sums.{top_load, deliveries}
+use Rattle.ac_table.specs.Sums.{top_load}
+use Rattle.ac_world.specs.Sums.{deliveries}
 use Rattle.ac_world.specs.Turns.{turn}
 use Rattle.ac_world.specs.Worlds.{actor_of, entry_of, without_entry, is_system, binding}
 use Rattle.ac_world.specs.Lemmas.Entries.{put_found, put_other}

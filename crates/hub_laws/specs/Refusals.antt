@@ -7,7 +7,8 @@ use Rattle.ac_table.specs.Tables.{is_live, lowest}
 use Rattle.ac_world.specs.declared.spreads.Spread.{Spread as SpreadOf}
 use Rattle.ac_world.specs.declared.turns.Turned.{Turned}
 use Rattle.ac_world.specs.declared.turns.Turned.TheVariants as turned
-use Rattle.ac_world.specs.Sums.{top_load, deliveries}
+use Rattle.ac_table.specs.Sums.{top_load}
+use Rattle.ac_world.specs.Sums.{deliveries}
 use Rattle.ac_world.specs.Turns.{turn}
 use Rattle.ac_world.specs.Worlds.{actor_of, entry_of, is_system}
 use Rattle.hub_machine.specs.declared.faults.Fault.{Fault}

@@ -9,8 +9,9 @@ use Rattle.ac_table.specs.declared.batches.Row.{Row as TableRow}
 use Rattle.ac_table.specs.Tables.{find_row}
 use Rattle.ac_world.specs.declared.acts.Act.{Act}
 use Rattle.ac_world.specs.declared.acts.Act.TheVariants as act
-use Rattle.ac_world.specs.declared.sums.Load.{Load}
-use Rattle.ac_world.specs.Sums.{top, top_load, both, one, backlog, row_weight}
+use Rattle.ac_table.specs.declared.loads.Load.{Load}
+use Rattle.ac_table.specs.Sums.{top, top_load, both, one}
+use Rattle.ac_world.specs.Sums.{backlog, row_weight}
 use Rattle.ac_table.specs.Tables.{is_live}
 use Rattle.ac_world.specs.Worlds.{WorldState, entry_of, with_entry, actor_of, is_system}
 use Rattle.rl_packet.specs.declared.packets.Event.{Event}

@@ -5,7 +5,7 @@ use Rattle.pv_value.specs.Plain.{Plain}
 use Rattle.sr_caveat.specs.declared.caps.Cap.{Cap}
 use Rattle.ac_table.specs.declared.batches.Batch.{Batch}
 use Rattle.ac_table.specs.Tables.{first_batch}
-use Rattle.ac_world.specs.declared.sums.Load.{Load}
+use Rattle.ac_table.specs.declared.loads.Load.{Load}
 use Rattle.ac_world.specs.Worlds.{WorldState, is_system}
 use Rattle.rl_packet.specs.declared.packets.Event.{Event}
 use Rattle.rl_packet.specs.declared.packets.Event.TheVariants.{Assert, Retract, Message, Sync}

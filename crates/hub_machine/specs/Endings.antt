@@ -2,8 +2,9 @@
 use Rattle.std.specs.Prelude.{ℕ, ◌-◌, List, [], ◌∷◌, ◌&&◌, nat_le, Option, Some, None, if◌then◌else◌}
 use Rattle.std.specs.Map.{keys_of}
 use Rattle.ac_world.specs.declared.spreads.Spread.{Spread as SpreadOf}
-use Rattle.ac_world.specs.declared.sums.Load.{Load}
-use Rattle.ac_world.specs.Sums.{top_load, deliveries}
+use Rattle.ac_table.specs.declared.loads.Load.{Load}
+use Rattle.ac_table.specs.Sums.{top_load}
+use Rattle.ac_world.specs.Sums.{deliveries}
 use Rattle.ac_world.specs.Worlds.{ended_of, actor_of, with_entry, without_entry}
 use Rattle.hub_machine.specs.Faults.{Fault, Spread, ◌<|>◌, overrun}
 use Rattle.hub_machine.specs.State.{State, is_there}

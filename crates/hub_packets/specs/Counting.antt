@@ -1,7 +1,7 @@
 -- What the code looks at of an assertion and of a row, one after the other.
 use Rattle.std.specs.Prelude.{ℕ, ◌+◌, Option, length}
-use Rattle.ac_world.specs.declared.sums.Load.{Load}
-use Rattle.ac_world.specs.Sums.{top}
+use Rattle.ac_table.specs.declared.loads.Load.{Load}
+use Rattle.ac_table.specs.Sums.{top}
 use Rattle.hub_machine.specs.declared.faults.Fault.{Fault}
 use Rattle.hub_machine.specs.Faults.{◌<|>◌, over}
 use Rattle.hub_machine.specs.Admission.{Admitting, handle_cause, load_cause, rows_with}

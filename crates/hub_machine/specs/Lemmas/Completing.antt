@@ -8,9 +8,9 @@ use Rattle.pv_value.specs.Plain.{Plain}
 use Rattle.sr_caveat.specs.declared.caps.Cap.{Cap}
 use Rattle.ac_table.specs.declared.batches.Batch.{Batch}
 use Rattle.ac_table.specs.Tables.{Actor, first_batch, first_in, find_actor, is_live, popped, with_inbox}
-use Rattle.ac_world.specs.declared.sums.Load.{Load}
+use Rattle.ac_table.specs.declared.loads.Load.{Load}
 use Rattle.ac_world.specs.Worlds.{WorldState, is_system, actor_of}
-use Rattle.ac_world.specs.Sums.{top}
+use Rattle.ac_table.specs.Sums.{top}
 use Rattle.ac_world.specs.Turns.{After as TurnOf, turn, turn_with, connection_turn}
 use Rattle.rl_packet.specs.declared.packets.Event.{Event}
 use Rattle.rl_packet.specs.declared.packets.Event.TheVariants.{Assert, Retract, Message, Sync}

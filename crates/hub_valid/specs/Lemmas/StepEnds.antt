@@ -6,7 +6,8 @@ use Rattle.std.specs.List.{AllByRecursion}
 use Rattle.std.specs.Map.{keys_of}
 use Rattle.std.proofs.lemmas.Bool.Decides.{nat_tests}
 use Rattle.ac_world.specs.declared.spreads.Spread.{Spread as SpreadOf}
-use Rattle.ac_world.specs.Sums.{top_load, deliveries}
+use Rattle.ac_table.specs.Sums.{top_load}
+use Rattle.ac_world.specs.Sums.{deliveries}
 use Rattle.ac_world.specs.Worlds.{actor_of}
 use Rattle.hub_machine.specs.declared.faults.Fault.{Fault}
 use Rattle.hub_machine.specs.declared.faults.Fault.TheVariants.{Spread}

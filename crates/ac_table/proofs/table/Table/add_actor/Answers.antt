@@ -16,11 +16,11 @@ pub invariant_of-self-2 : goal.invariant_of-self-2
 invariant_of-self-2 c = let i = c.self.inside in
     let none = none_from c.args.actor i.next i.rows.entries i.seats.entries (ap (is_live c.args.actor) c.self.view_is
     ∙ c.requires) in
-    kept_joined _ _ _ _ _ _ _ c.self.invariant none c.new.ensures.empty c.new-2.ensures.items
+    kept_joined _ _ _ _ _ _ _ c.self.invariant none c.new.ensures.empty c.none.ensures c.new-2.ensures
     c.in_ok-insert.ensures.updates.0 c.insert.ensures.ordered
 
 pub returns-clause-joined : goal.returns-clause-joined
 returns-clause-joined c = let i = c.self.inside in
     let none = none_from c.args.actor i.next i.rows.entries i.seats.entries (ap (is_live c.args.actor) c.self.view_is
     ∙ c.requires) in
-    joined_is _ _ _ _ _ _ _ c.self.view_is none c.new-2.ensures.items c.in_ok-insert.ensures.entries
+    joined_is _ _ _ _ _ _ _ c.self.view_is none c.new-2.ensures c.in_ok-insert.ensures.entries

@@ -1,4 +1,4 @@
-use Rattle.std.proofs.Common.{◌≡◌, ◌∙◌, sym, ap, refl, List, ℕ, Some, None, true, false, is_some, map}
+use Rattle.std.proofs.Common.{◌≡◌, ◌∙◌, ◌+◌, arith, sym, ap, refl, List, ℕ, Some, None, true, false, is_some, map}
 use Rattle.std.specs.Map.{values_of}
 use Rattle.ac_table.specs.Kept.{IsKept, value_at, state_of, seen}
 use Rattle.ac_table.specs.Faults.{row_fault}
@@ -8,7 +8,8 @@ use Rattle.ac_table.proofs.Becomes.{retracted_is}
 use Rattle.ac_table.proofs.Changes.{seen-set_same}
 use Rattle.ac_table.proofs.Finding.{row_missing, row_present}
 use Rattle.ac_table.proofs.Keeps.{reseated_from, kept_retracted, owner_lives}
-use Rattle.ac_table.proofs.Removing.{found_from, values_removed, values_from}
+use Rattle.ac_table.proofs.Removing.{found_from, values_removed, values_from, ascend_from}
+use Rattle.ac_table.proofs.Weighing.{weight_within}
 use Rattle.ac_table.proofs.table.Table.retract_row.Goals as goal
 
 pub returns-in_default-clause-fault : goal.returns-in_default-clause-fault
@@ -46,17 +47,28 @@ pub returns-in_default-get_mut-clause-row : goal.returns-in_default-get_mut-clau
 returns-in_default-get_mut-clause-row c =
     absurd (lives _ _ _ _ _ _ c.self.invariant c.in-Some.ensures.value c.in_default-get_mut.ensures.value)
 
+pub take_off-requires : goal.take_off-requires
+take_off-requires c = let i = c.self.inside in
+    let k = c.self.invariant in
+    let found = sym (found_from i.rows.entries c.args.handle k.keyed) ∙ sym c.in-Some.ensures.value in
+    let within = weight_within c.args.handle (values_of i.rows.entries) c.in-Some.row _
+    (ascend_from i.rows.entries k.keyed k.rows_ascend) found
+    (k.weighed c.in-Some.row.owner c.in-Some-get_mut.seat.now (sym c.in-Some-get_mut.ensures.value)) in
+    omega (arith, within, c.weight.ensures)
+
 pub invariant_of-self-2 : goal.invariant_of-self-2
 invariant_of-self-2 c = let i = c.self.inside in
     let k = c.self.invariant in
-    let t : Seat = record { own = c.remove-2.new.self; inbox = c.in-Some-get_mut.seat.now.inbox } in
+    let s = c.in-Some-get_mut.seat.now in
+    let t : Seat = record { own = c.remove-2.new.self; row_weight = c.take_off.new.self; inbox = s.inbox } in
     let new = c.get_mut.follows.lender t in
     let re = reseated_from c.in-Some.row.owner c.in-Some-get_mut.seat.now t i.seats new
     (sym c.in-Some-get_mut.ensures.value) (c.get_mut.follows.holds t) in
     let found = sym (found_from i.rows.entries c.args.handle k.keyed) ∙ sym c.in-Some.ensures.value in
     kept_retracted c.args.handle i.next c.in-Some-get_mut.seat.now t c.in-Some.row i.rows.entries
     c.remove.new.self.entries
-    i.seats.entries new.entries i.busy.keys k re c.remove-2.ensures.keys refl found
+    i.seats.entries new.entries i.busy.keys k re c.remove-2.ensures.keys
+    (sym (ap (λ (n : ℕ). c.take_off.new.self + n) c.weight.ensures) ∙ c.take_off.ensures) refl found
     (values_removed _ _ _ k.keyed k.rows_ascend c.remove.ensures.entries) c.remove.ensures.ordered
 
 pub returns-clause-fault : goal.returns-clause-fault
@@ -68,7 +80,8 @@ returns-clause-fault c = let i = c.self.inside in
 pub returns-clause-gone : goal.returns-clause-gone
 returns-clause-gone c = let i = c.self.inside in
     let k = c.self.invariant in
-    let t : Seat = record { own = c.remove-2.new.self; inbox = c.in-Some-get_mut.seat.now.inbox } in
+    let s = c.in-Some-get_mut.seat.now in
+    let t : Seat = record { own = c.remove-2.new.self; row_weight = c.take_off.new.self; inbox = s.inbox } in
     let new = c.get_mut.follows.lender t in
     let w = c.get_mut.follows.holds t in
     retracted_is c.args.handle i.next i.rows.entries c.remove.new.self.entries i.seats.entries new.entries _

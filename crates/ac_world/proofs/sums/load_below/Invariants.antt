@@ -1,6 +1,0 @@
-use Rattle.std.proofs.Common.{◌≡◌}
-use Rattle.ac_world.specs.Sums.{top_load, load_below}
-use Rattle.ac_world.proofs.sums.load_below.Given as goal
-
-abbrev pub invariant-loop-to : goal.invariant-loop-to
-invariant-loop-to l = l.load ≡ top_load (load_below l.actor l.to l.table)
