@@ -10,10 +10,11 @@ use Rattle.sc_events.specs.Events.{event_of}
 use Rattle.sc_events.specs.Readings.{AreReadAs}
 use Rattle.sc_events.specs.SoFar.{AreSoFar}
 use Rattle.sc_events.specs.Lemmas.Reading.{few_so_far}
+use Rattle.sc_schema.specs.Firsts.{text_in, first_text, IsVerdict}
 use Rattle.sc_script.specs.declared.faults.ScriptFault.{ScriptFault}
 use Rattle.sc_script.specs.declared.faults.ScriptFault.TheVariants as fault
 use Rattle.sc_script.specs.Runs.{Running, Cause, Course, goes, stops, bad, goes_on, beginning, after_value}
-use Rattle.sc_script.specs.Runs.{after_values, ended, course_of, cause_in, text_in, first_text, IsVerdict}
+use Rattle.sc_script.specs.Runs.{after_values, ended, course_of, cause_in}
 use Rattle.sc_script.specs.Keeping.{RunState, IsAt, HasRun, StopsFor, IsStopped, RanAs}
 use Rattle.sc_script.specs.Scripts.{IsCourseOf, StopsWith, StopsAt}
 

@@ -4,12 +4,12 @@ use Rattle.std.proofs.Common.{◌∙◌, Option, Some, None, arith}
 use Rattle.std.proofs.lemmas.Bool.Decides.{leb_tells}
 use Rattle.pv_value.specs.Plain.{Plain}
 use Rattle.ps_schema.specs.declared.Definition.{Definition}
-use Rattle.ps_read.specs.Laws.{OneSchema, NoFaultBeside}
 use Rattle.pv_binary.specs.OneOfThree.{AreBytes}
 use Rattle.rl_stream.specs.Nexts.{Decider}
 use Rattle.sc_events.specs.declared.inputs.Form.{Form}
 use Rattle.sc_events.specs.Readings.{AreReadAs}
-use Rattle.sc_script.specs.Runs.{Course, limit, stops, course_of, first_text, IsVerdict, HasVerdict}
+use Rattle.sc_schema.specs.Firsts.{first_text, IsVerdict, HasVerdict, OneVerdict, SomeVerdict}
+use Rattle.sc_script.specs.Runs.{Course, limit, stops, course_of}
 use Rattle.sc_script.specs.Scripts.{IsCourseOf}
 
 -- from what one_reading ensures
@@ -22,38 +22,23 @@ IsOneReading =
     (form : Form) (bytes : List ℕ) (vs ws : List Plain) (a b : Bool) → AreReadAs form bytes vs a
     → AreReadAs form bytes ws b → (vs ≡ ws) × (a ≡ b)
 
--- a text is this schema or none, where the first value gives one
-some_verdict : (t : Option (List ℕ)) → ((text : List ℕ) → t ≡ Some text → HasVerdict text)
-    → (o : Option (List Definition)) × IsVerdict t o
-some_verdict None has = (Some [], refl)
-some_verdict (Some text) has = has text refl
-
-pub some_course : IsSomeReading → (N : Decider) (form : Form) (bytes : List ℕ) → AreBytes bytes
+pub some_course : IsSomeReading → SomeVerdict → (N : Decider) (form : Form) (bytes : List ℕ) → AreBytes bytes
     → ((text : List ℕ) → HasVerdict text) → (c : Course) × IsCourseOf N form bytes c
-some_course some N form bytes p has = elim (leb_tells (length bytes) 67108864) [
+some_course some verdict N form bytes p has = elim (leb_tells (length bytes) 67108864) [
   | inl l ↦
       let r = some form bytes p in
-      let v = some_verdict (first_text r.0) (λ text is. has text) in
+      let v = verdict (first_text r.0) has in
       (course_of N v.0 r.0 r.1, inr (l.1, (r.0, r.1, r.2, v.0, v.1, refl)))
   | inr l ↦ (stops (limit 1), inl (l.1, refl))
 ]
 
--- of a text one is the verdict
-one_verdict : OneSchema → NoFaultBeside → (t : Option (List ℕ)) (o q : Option (List Definition)) → IsVerdict t o
-    → IsVerdict t q → o ≡ q
-one_verdict one none None o q is so = is ∙ sym so
-one_verdict one none (Some text) (Some ds) (Some es) is so = ap Some (one text ds es is so)
-one_verdict one none (Some text) (Some ds) None is so = absurd (none text ds so.0 so.1 is so.2)
-one_verdict one none (Some text) None (Some ds) is so = absurd (none text ds is.0 is.1 so is.2)
-one_verdict one none (Some text) None None is so = refl
-
-pub same_course : IsOneReading → OneSchema → NoFaultBeside → (N : Decider) (form : Form) (bytes : List ℕ)
+pub same_course : IsOneReading → OneVerdict → (N : Decider) (form : Form) (bytes : List ℕ)
     (c d : Course) → IsCourseOf N form bytes c → IsCourseOf N form bytes d → c ≡ d
-same_course one schema none N form bytes c d (inl p) (inl q) = p.1 ∙ sym q.1
-same_course one schema none N form bytes c d (inl p) (inr q) = absurd (omega (arith, p.0, q.0))
-same_course one schema none N form bytes c d (inr p) (inl q) = absurd (omega (arith, p.0, q.0))
-same_course one schema none N form bytes c d (inr p) (inr q) =
+same_course one verdict N form bytes c d (inl p) (inl q) = p.1 ∙ sym q.1
+same_course one verdict N form bytes c d (inl p) (inr q) = absurd (omega (arith, p.0, q.0))
+same_course one verdict N form bytes c d (inr p) (inl q) = absurd (omega (arith, p.0, q.0))
+same_course one verdict N form bytes c d (inr p) (inr q) =
     let r = one form bytes p.1.0 q.1.0 p.1.1 q.1.1 p.1.2 q.1.2 in
     let so : IsVerdict (first_text p.1.0) q.1.3 = subst (λ vs. IsVerdict (first_text vs) q.1.3) (sym r.0) q.1.4 in
-    let v = one_verdict schema none (first_text p.1.0) p.1.3 q.1.3 p.1.4 so in
+    let v = verdict (first_text p.1.0) p.1.3 q.1.3 p.1.4 so in
     p.1.5 ∙ (λ i. course_of N (v i) (r.0 i) (r.1 i)) ∙ sym q.1.5

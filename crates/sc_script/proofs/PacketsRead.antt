@@ -42,21 +42,23 @@ module _ (k : ℕ) (st : StreamState) (x : Next) (told : AllTell st.rest st.plac
       let f = read_first N k w.0 st w.2 x w.1 (told N d) in
       (f.0, f.1, w.4 ∙ f.2)
 
-  -- what is next is no packet
-  module _ (not : (p : Packet) (size : ℕ) → x ≡ Whole p size → ⊥) (y : Result RunState ScriptFault) where
+  -- what is next is no packet; the stream stays as it is
+  module _ (not : (p : Packet) (size : ℕ) → x ≡ Whole p size → ⊥) (kept : StreamState) (so : kept ≡ st)
+      (y : Result RunState ScriptFault) where
     no_packet : (N : Decider) → Decides N → (r : Running) → IsAt r before
-        → (now : Running) × IsAt now s × (part N r ≡ with_no_packet k x st now)
+        → (now : Running) × IsAt now s × (part N r ≡ with_no_packet k x kept now)
     no_packet N d r at =
         let w = from N d r at in
         let f = next_first N d r at in
-        (w.2, w.3, f.2 ∙ not_whole k x st (λ size. all_read N k f.0 (read_off size st)) w.2 not)
+        let e = f.2 ∙ not_whole k x st (λ size. all_read N k f.0 (read_off size st)) w.2 not in
+        (w.2, w.3, e ∙ ap (λ b. with_no_packet k x b w.2) (sym so))
 
-    pub no_packet_runs : IfOk y (RunsAs s (λ N. with_no_packet k x st)) → IfOk y (RunsAs before part)
+    pub no_packet_runs : IfOk y (RunsAs s (λ N. with_no_packet k x kept)) → IfOk y (RunsAs before part)
     no_packet_runs = IfOk-weaker y _ _ (λ t runs N d r at.
         let e = no_packet N d r at in
         subst (λ c. HasRun c t) (sym e.2) (runs N d e.0 e.1))
 
-    pub no_packet_stops : IfErr y (StopsAs s (λ N. with_no_packet k x st)) → IfErr y (StopsAs before part)
+    pub no_packet_stops : IfErr y (StopsAs s (λ N. with_no_packet k x kept)) → IfErr y (StopsAs before part)
     no_packet_stops = IfErr-weaker y _ _ (λ f stop N d r at.
         let e = no_packet N d r at in
         subst (λ c. IsStopped c f) (sym e.2) (stop N d e.0 e.1))

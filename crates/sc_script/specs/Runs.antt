@@ -7,9 +7,6 @@ use Rattle.pv_binary.specs.Written.{written}
 use Rattle.ps_schema.specs.declared.Definition.{Definition}
 use Rattle.sr_caveat.specs.Patterns.{caveats}
 use Rattle.lc_guard.specs.Knowing.{all_known}
-use Rattle.ps_read.specs.Answers.{IsSchemaOf, IsSchemaFault}
-use Rattle.ps_read.specs.declared.faults.SchemaFault.{SchemaFault}
-use Rattle.ps_read.specs.declared.faults.SchemaFault.TheVariants as schema
 use Rattle.gk_sturdy.specs.declared.bound.Binding.{Binding}
 use Rattle.ac_world.specs.Worlds.{entry_of, with_entry, without_entry}
 use Rattle.rl_packet.specs.Packets.{packet_value}
@@ -211,28 +208,6 @@ ended whole n r = if whole then goes r else stops (bad n)
 abbrev pub course_of : Decider → Option (List Definition) → List Plain → Bool → Course
 course_of N None vs whole = stops (config 0)
 course_of N (Some ds) vs whole = goes_on (ended whole (length vs)) (after_values N 0 vs (beginning ds))
-
--- ---- the schema
-
--- the text of the schema that an event gives
-abbrev pub text_in : Option ScriptEvent → Option (List ℕ)
-text_in (Some (Schema text)) = Some text
-text_in o = None
-
--- the first value may give one
-abbrev pub first_text : List Plain → Option (List ℕ)
-first_text [] = None
-first_text (v ∷ vs) = text_in (event_of v)
-
--- the text is this schema, or none; where no text is given, the schema is that without definitions
-abbrev pub IsVerdict : Option (List ℕ) → Option (List Definition) → Type 0
-IsVerdict None o = o ≡ Some []
-IsVerdict (Some text) (Some ds) = IsSchemaOf text ds
-IsVerdict (Some text) None = (f : SchemaFault) × (f ≢ schema.NoMemory) × IsSchemaFault text f
-
--- the text is a schema, or is refused
-abbrev pub HasVerdict : List ℕ → Type 0
-HasVerdict text = (o : Option (List Definition)) × IsVerdict (Some text) o
 
 -- ---- faults
 

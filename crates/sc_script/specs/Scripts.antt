@@ -10,9 +10,9 @@ use Rattle.hub_laws.specs.Laws.{AreAllowed}
 use Rattle.sc_report.specs.Reports.{RanState}
 use Rattle.sc_events.specs.declared.inputs.Form.{Form}
 use Rattle.sc_events.specs.Readings.{AreReadAs}
+use Rattle.sc_schema.specs.Firsts.{first_text, IsVerdict}
 use Rattle.sc_script.specs.declared.faults.ScriptFault.{ScriptFault}
 use Rattle.sc_script.specs.Runs.{Cause, limit, Course, goes, stops, course_of, Running, cause_in}
-use Rattle.sc_script.specs.Runs.{first_text, IsVerdict}
 use Rattle.sc_script.specs.Leavings.{ran_of}
 
 abbrev pub IsCourseOfValues : Decider → Form → List ℕ → Course → Type 0

@@ -3,11 +3,12 @@ ghost use Rattle.std.specs.Prelude.{◌≡◌, ℕ, List};
 ghost use Rattle.pv_binary.specs.OneOfThree.{AreBytes};
 ghost use Rattle.rl_stream.specs.Nexts.{Decider};
 ghost use Rattle.sc_events.specs.declared.inputs.Form.{Form};
-ghost use Rattle.sc_script.specs.Runs.{Course, HasVerdict};
+ghost use Rattle.sc_schema.specs.Firsts.{HasVerdict};
+ghost use Rattle.sc_script.specs.Runs.{Course};
 ghost use Rattle.sc_script.specs.Scripts.{IsCourseOf};
 
-use ps_read::one_verdict;
 use sc_events::one_reading;
+use sc_schema::one_first_schema;
 
 /// An input has one course: it runs through one list of steps, or stops for one cause. It has some
 /// where each text is a schema or is refused.
@@ -18,5 +19,5 @@ pub fn one_course()
         → IsCourseOf N form bytes c → IsCourseOf N form bytes d → c ≡ d }
 {
     one_reading();
-    one_verdict();
+    one_first_schema();
 }

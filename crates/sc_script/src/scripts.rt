@@ -1,54 +1,32 @@
 //! Scripts, in the binary form or in text: the run of an input.
-ghost use Rattle.std.specs.Prelude.{◌≡◌, ◌≢◌, [], Some, None, IfOk, IfErr};
+ghost use Rattle.std.specs.Prelude.{◌≡◌, ◌≢◌, Some, None, IfOk, IfErr};
 ghost use Rattle.sc_events.specs.Events.{event_of};
 ghost use Rattle.sc_script.specs.declared.faults.ScriptFault.TheVariants as fault;
 ghost use Rattle.sc_script.specs.Keeping.{RanAs};
-ghost use Rattle.sc_script.specs.Runs.{text_in, IsVerdict};
+ghost use Rattle.sc_schema.specs.Firsts.{text_in, IsVerdict};
 ghost use Rattle.sc_script.specs.Scripts.{StopsAt};
 
 use crate::faults::ScriptFault;
 use crate::runs::Run;
 use ds_space::Space;
 use lc_guard::{Guards, Predicate};
-use ps_read::{SchemaFault, read_schema};
-use ps_schema::{Defs, Schema};
+use ps_read::SchemaFault;
+use ps_schema::Schema;
 use pv_value::Value;
-use sc_events::{Form, INPUT_BYTES, NextFault, ScriptEvent, Values, event_of, one_reading};
+use sc_events::{Form, INPUT_BYTES, NextFault, Values, one_reading};
+use sc_schema::{first_schema, no_schema};
 use std::alloc::Global;
 
-/// The schema without definitions.
-fn no_schema(alloc: Global) -> Result<Schema, ScriptFault>
-    ensures none { IfOk result (λ ds. ds ≡ []) }
-    ensures memory { IfErr result (λ f. f ≡ fault.NoMemory) }
-{
-    match Schema::new(alloc, Defs::from_vec(Vec::new(alloc))) {
-        Ok(schema) => Ok(schema),
-        Err(_) => Err(ScriptFault::NoMemory),
-    }
-}
-
-/// The schema that a text is, as event 0 gives it.
-fn schema_of(alloc: Global, text: &[u8]) -> Result<Schema, ScriptFault>
-    ensures schema { IfOk result (λ ds. IsVerdict (Some text.now) (Some ds)) }
+/// The schema that the first value of a script gives, or else the one without definitions.
+fn schema_of(alloc: Global, first: &Value) -> Result<Schema, ScriptFault>
+    ensures schema { IfOk result (λ ds. IsVerdict (text_in (event_of first.now)) (Some ds)) }
     ensures refused { IfErr result (λ f. f ≢ fault.NoMemory
-        → (f ≡ fault.Schema 0) × IsVerdict (Some text.now) None) }
+        → (f ≡ fault.Schema 0) × IsVerdict (text_in (event_of first.now)) None) }
 {
-    match read_schema(alloc, text) {
+    match first_schema(alloc, first) {
         Ok(schema) => Ok(schema),
         Err(SchemaFault::NoMemory) => Err(ScriptFault::NoMemory),
         Err(_) => Err(ScriptFault::Schema(0)),
-    }
-}
-
-/// The schema that the first value of a script gives, or else the one without definitions.
-fn first_schema(alloc: Global, value: &Value) -> Result<Schema, ScriptFault>
-    ensures schema { IfOk result (λ ds. IsVerdict (text_in (event_of value.now)) (Some ds)) }
-    ensures refused { IfErr result (λ f. f ≢ fault.NoMemory
-        → (f ≡ fault.Schema 0) × IsVerdict (text_in (event_of value.now)) None) }
-{
-    match event_of(alloc, value)? {
-        Some(ScriptEvent::Schema(text)) => schema_of(alloc, text.as_bytes()),
-        _ => no_schema(alloc),
     }
 }
 
@@ -76,7 +54,7 @@ pub(crate) fn run_of<S: Space + Drop, F: Predicate + Drop>(
         Err(NextFault::Bad) => return Err(ScriptFault::Bad(0)),
         Err(NextFault::NoMemory) => return Err(ScriptFault::NoMemory),
     };
-    let guards = Guards::new(first_schema(alloc, &first)?, predicate);
+    let guards = Guards::new(schema_of(alloc, &first)?, predicate);
     let mut run = Run::begin(alloc, guards)?.value(alloc, 0, &first)?;
     let mut place = 1;
     loop {

@@ -3,6 +3,6 @@ use Rattle.sc_script.proofs.laws.one_course.Goals as goal
 
 pub returns : goal.returns
 returns c = record {
-  some = some_course c.one_reading.ensures.some;
-  one = same_course c.one_reading.ensures.one c.one_verdict.ensures.schema c.one_verdict.ensures.fault;
+  some = some_course c.one_reading.ensures.some c.one_first_schema.ensures.some;
+  one = same_course c.one_reading.ensures.one c.one_first_schema.ensures.one;
 }

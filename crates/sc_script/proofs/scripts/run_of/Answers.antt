@@ -16,23 +16,23 @@ returns-in-Ok-None-clause-run g c =
     none_there c.args.form c.args.bytes.now s (omega (arith, c.if-bytes-gt-INPUT_BYTES.false))
     (next c.args.form c.args.bytes.now [] c.of-values.ensures)
     (subst (λ (ds : List Definition). IsAt (beginning ds) s)
-    (c.new.ensures ∙ c.in_ok-no_schema-in-Ok-None.ensures.none) c.in_ok-begin-in-Ok-None.ensures)
+    (c.new.ensures ∙ c.in_ok-no_schema-in-Ok-None.ensures) c.in_ok-begin-in-Ok-None.ensures)
 
 pub returns-in-Err-Bad-clause-stop : goal.returns-in-Err-Bad-clause-stop
 returns-in-Err-Bad-clause-stop g c =
     none_read c.args.form c.args.bytes.now (omega (arith, c.if-bytes-gt-INPUT_BYTES.false))
     (c.in-Err-Bad.ensures.stop (ap Err c.in-Err-Bad.field-0-is) c.args.form c.args.bytes.now [] c.of-values.ensures)
 
-pub returns-in_err-first_schema-clause-stop : goal.returns-in_err-first_schema-clause-stop
-returns-in_err-first_schema-clause-stop g c =
+pub returns-in_err-schema_of-clause-stop : goal.returns-in_err-schema_of-clause-stop
+returns-in_err-schema_of-clause-stop g c =
     let bytes = c.args.bytes.now in
     let next = rw c.in-Ok-Some.field-0-is at c.in-Ok-Some.ensures.next in
     let read = next c.args.form bytes [] c.of-values.ensures in
     let are = All-from_get_or (λ b. b < 256) bytes 0 (λ i within. omega (arith, c.type_inv.bytes i)) in
-    err_so _ _ _ c.from_residual-in_err-first_schema.ensures.1 (first_at_fault c.args.form bytes c.next.new.self
+    err_so _ _ _ c.from_residual-in_err-schema_of.ensures.1 (first_at_fault c.args.form bytes c.next.new.self
     c.in-Ok-Some.value read (omega (arith, c.if-bytes-gt-INPUT_BYTES.false))
     (c.one_reading.ensures.on c.args.form bytes (c.in-Ok-Some.value ∷ []) c.next.new.self are read)
-    _ c.in_err-first_schema.ensures.refused)
+    _ c.in_err-schema_of.ensures.refused)
 
 pub returns-in_err-run-clause-stop : goal.returns-in_err-run-clause-stop
 returns-in_err-run-clause-stop g c =
@@ -44,7 +44,7 @@ returns-in_err-run-clause-stop g c =
     err_so _ _ _ c.from_residual-in_err-run.ensures.1 (first_stops c.args.form bytes c.next.new.self
     c.in-Ok-Some.value read (omega (arith, c.if-bytes-gt-INPUT_BYTES.false))
     (c.one_reading.ensures.on c.args.form bytes (c.in-Ok-Some.value ∷ []) c.next.new.self are read)
-    c.in_ok-first_schema.field-0 s c.in_ok-first_schema.ensures.schema
+    c.in_ok-schema_of.field-0 s c.in_ok-schema_of.ensures.schema
     (subst (λ (ds : List Definition). IsAt (beginning ds) s) c.new-guards.ensures c.in_ok-begin.ensures) _
     c.in_err-run.ensures.stop)
 
@@ -55,8 +55,8 @@ loop-value-init g c =
     let s = c.in_ok-begin.field-0 in record {
       short = omega (arith, c.if-bytes-gt-INPUT_BYTES.false);
       done = first_done c.args.form bytes c.next.new.self c.in-Ok-Some.value
-          (next c.args.form bytes [] c.of-values.ensures) c.in_ok-first_schema.field-0
-          c.in_ok-first_schema.ensures.schema s
+          (next c.args.form bytes [] c.of-values.ensures) c.in_ok-schema_of.field-0
+          c.in_ok-schema_of.ensures.schema s
           (subst (λ (ds : List Definition). IsAt (beginning ds) s) c.new-guards.ensures c.in_ok-begin.ensures) _
           c.in_ok-run.ensures.run;
     }

@@ -1,0 +1,5 @@
+pub mod Binding
+pub mod FaultsPassed
+pub mod OneCourse
+pub mod Parts
+pub mod TextCourses

@@ -1,0 +1,15 @@
+-- What is promised of a part is promised of what runs as it does.
+use Rattle.std.proofs.Common.{◌≡◌, Result, IfOk, IfErr, subst}
+use Rattle.std.proofs.lemmas.Result.{IfOk-weaker, IfErr-weaker}
+use Rattle.hub_machine.specs.State.{State}
+use Rattle.sc_config.specs.declared.faults.ConfigFault.{ConfigFault}
+use Rattle.sc_config.specs.Courses.{Setting, Course}
+use Rattle.sc_config.specs.Keeping.{HasSet, IsStopped, SetsAs, StopsAs}
+
+module _ (s : State) (part whole : Setting → Course) (same : (c : Setting) → part c ≡ whole c)
+    (x : Result State ConfigFault) where
+  pub sets_so : IfOk x (SetsAs s part) → IfOk x (SetsAs s whole)
+  sets_so = IfOk-weaker x _ _ (λ t p c at. subst (λ d. HasSet d t) (same c) (p c at))
+
+  pub stops_so : IfErr x (StopsAs s part) → IfErr x (StopsAs s whole)
+  stops_so = IfErr-weaker x _ _ (λ f p c at. subst (λ d. IsStopped d f) (same c) (p c at))

@@ -1,0 +1,18 @@
+-- A binding's course is that of its event.
+use Rattle.std.proofs.Common.{sym, ap}
+use Rattle.sc_config.specs.Courses.{binds, after_event}
+use Rattle.sc_config.proofs.Parts.{sets_so, stops_so}
+use Rattle.sc_config.proofs.events.with_event.Goals as goal
+
+pub with_binding-requires : goal.with_binding-requires
+with_binding-requires g c = c.requires c.in-Bind.binding c.in-Bind.is
+
+pub returns-in-Bind-clause-set : goal.returns-in-Bind-clause-set
+returns-in-Bind-clause-set g c =
+    sets_so c.args.hub (binds c.args.place c.in-Bind.binding) (after_event c.args.place c.args.event)
+    (λ d. ap (λ e. after_event c.args.place e d) (sym c.in-Bind.is)) c.with_binding.result c.with_binding.ensures.set
+
+pub returns-in-Bind-clause-stop : goal.returns-in-Bind-clause-stop
+returns-in-Bind-clause-stop g c =
+    stops_so c.args.hub (binds c.args.place c.in-Bind.binding) (after_event c.args.place c.args.event)
+    (λ d. ap (λ e. after_event c.args.place e d) (sym c.in-Bind.is)) c.with_binding.result c.with_binding.ensures.stop

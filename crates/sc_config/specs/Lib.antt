@@ -1,0 +1,3 @@
+pub mod Configs
+pub mod Courses
+pub mod Keeping

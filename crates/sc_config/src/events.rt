@@ -1,0 +1,72 @@
+//! The events of a configuration, done one by one, over any body of a dataspace.
+ghost use Rattle.std.specs.Prelude.{◌≡◌, IfOk, IfErr};
+ghost use Rattle.sr_caveat.specs.Caps.{IsSound};
+ghost use Rattle.sc_events.specs.Events.{event_of, IsSoundEvent};
+ghost use Rattle.sc_config.specs.Courses.{binds, after_event, after_value};
+ghost use Rattle.sc_config.specs.Keeping.{SetsAs, StopsAs};
+
+use crate::faults::ConfigFault;
+use ds_space::Space;
+use gk_sturdy::Binding;
+use hub_core::{Hub, Reply, Step};
+use lc_guard::all_known;
+use pv_value::Value;
+use sc_events::{ScriptEvent, event_of};
+use sr_pass::Judge;
+use std::alloc::Global;
+
+/// Event `place` binds a reference. The names of its guards are looked at first.
+fn with_binding<S: Space + Drop, J: Judge + Drop>(
+    alloc: Global,
+    hub: Hub<S, J>,
+    place: u64,
+    binding: Binding,
+) -> Result<Hub<S, J>, ConfigFault>
+    requires { IsSound binding.cap }
+    ensures set { IfOk result (SetsAs hub (binds place binding)) }
+    ensures stop { IfErr result (StopsAs hub (binds place binding)) }
+{
+    if !all_known(hub.judge(), binding.cap.caveats.as_slice()) {
+        return Err(ConfigFault::Bad(place));
+    }
+    let (hub, reply) = hub.step(alloc, Step::Bind(binding))?;
+    match reply {
+        Reply::Taken => Ok(hub),
+        _ => Err(ConfigFault::Bad(place)),
+    }
+}
+
+/// Event `place` of a configuration.
+fn with_event<S: Space + Drop, J: Judge + Drop>(
+    alloc: Global,
+    hub: Hub<S, J>,
+    place: u64,
+    event: ScriptEvent,
+) -> Result<Hub<S, J>, ConfigFault>
+    requires { IsSoundEvent event }
+    ensures set { IfOk result (SetsAs hub (after_event place event)) }
+    ensures stop { IfErr result (StopsAs hub (after_event place event)) }
+{
+    match event {
+        ScriptEvent::Bind(binding) => with_binding(alloc, hub, place, binding),
+        ScriptEvent::Schema(_) if place == 0 => Ok(hub),
+        ScriptEvent::Unbuilt => Err(ConfigFault::NotBuilt(place)),
+        _ => Err(ConfigFault::Bad(place)),
+    }
+}
+
+/// Value `place` of a configuration.
+pub(crate) fn with_value<S: Space + Drop, J: Judge + Drop>(
+    alloc: Global,
+    hub: Hub<S, J>,
+    place: u64,
+    value: &Value,
+) -> Result<Hub<S, J>, ConfigFault>
+    ensures set { IfOk result (SetsAs hub (after_value place (event_of value.now))) }
+    ensures stop { IfErr result (StopsAs hub (after_value place (event_of value.now))) }
+{
+    match event_of(alloc, value)? {
+        Some(event) => with_event(alloc, hub, place, event),
+        None => Err(ConfigFault::Bad(place)),
+    }
+}

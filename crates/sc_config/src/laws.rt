@@ -1,0 +1,21 @@
+//! A law of configurations.
+ghost use Rattle.std.specs.Prelude.{◌≡◌, ℕ, List};
+ghost use Rattle.pv_binary.specs.OneOfThree.{AreBytes};
+ghost use Rattle.sc_schema.specs.Firsts.{HasVerdict};
+ghost use Rattle.sc_config.specs.Courses.{Course};
+ghost use Rattle.sc_config.specs.Configs.{IsCourseOf};
+
+use sc_events::one_reading;
+use sc_schema::one_first_schema;
+
+/// A text has one course as a configuration: it sets one schema and one list of steps, or is
+/// refused for one cause. It has some where each text is a schema or is refused.
+pub fn one_configuration()
+    ensures some { (text : List ℕ) → AreBytes text → ((t : List ℕ) → HasVerdict t)
+        → (c : Course) × IsCourseOf text c }
+    ensures one { (text : List ℕ) (c d : Course)
+        → IsCourseOf text c → IsCourseOf text d → c ≡ d }
+{
+    one_reading();
+    one_first_schema();
+}

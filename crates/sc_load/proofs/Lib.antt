@@ -1,0 +1,4 @@
+pub mod Drawing
+pub mod Made
+pub mod Turns
+pub mod Wiring

@@ -1,0 +1,10 @@
+//! The schema by which guards judge: the first value of a script or of a configuration may give it.
+//!
+//! What a first value gives, and which schema that is, stands in `specs/Firsts.antt`.
+#![tactic(auto)]
+
+mod firsts;
+mod laws;
+
+pub use firsts::{first_schema, no_schema};
+pub use laws::one_first_schema;
