@@ -1,5 +1,5 @@
 -- A legal history over the hub is a run of the machine.
-use Rattle.std.proofs.Common.{◌≡◌, List, [], ◌∷◌, refl, ap, ◌∙◌}
+use Rattle.std.proofs.Common.{◌≡◌, List, [], ◌∷◌, ◌++◌, refl, ap, ◌∙◌}
 use Rattle.turn_gate.specs.declared.view.Entry.{Entry}
 use Rattle.turn_gate.specs.History.{after, IsLegal, replies_of}
 use Rattle.hub_machine.specs.State.{State, opening}
@@ -38,3 +38,13 @@ runs h s (e ∷ es) is legal =
       (anywhere (opening []) s e.step.step e.step.allowed, rest.1),
       (λ i. (legal.0 ∙ ap (λ t. (step t e.step.step).reply) is) i ∷ rest.2 i),
     )
+
+-- the steps before, and then these
+pub run_from-behind : (s : State) (es fs : List Step) → run_from s (es ++ fs) ≡ run_from (run_from s es) fs
+run_from-behind s [] fs = refl
+run_from-behind s (e ∷ es) fs = run_from-behind (step s e).state es fs
+
+pub allowed_behind : (s : State) (es fs : List Step) → AreAllowed s es → AreAllowed (run_from s es) fs
+    → AreAllowed s (es ++ fs)
+allowed_behind s [] fs all more = more
+allowed_behind s (e ∷ es) fs all more = (all.0, allowed_behind (step s e).state es fs all.1 more)

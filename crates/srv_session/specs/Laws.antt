@@ -1,5 +1,5 @@
--- What a gate's history over the hub is: a run of the machine.
-use Rattle.std.specs.Prelude.{◌≡◌, List, [], ◌∷◌, map}
+-- What a gate's history over the hub is: a run of the machine, that goes on behind the steps that were done before.
+use Rattle.std.specs.Prelude.{◌≡◌, List, [], ◌∷◌, ◌++◌, map}
 use Rattle.ps_schema.specs.declared.Definition.{Definition}
 use Rattle.turn_gate.specs.declared.view.Entry.{Entry}
 use Rattle.turn_gate.specs.History.{after, IsLegal, replies_of}
@@ -22,14 +22,14 @@ abbrev pub replies_from : State → List Step → List Reply
 replies_from s [] = []
 replies_from s (e ∷ es) = (step s e).reply ∷ replies_from (step s e).state es
 
--- a history is a run of the machine from its beginning, where guards judge by this schema
-pub record IsRun {X Y : Type 0} (ds : List Definition) (h : Served X Y) (es : List (Entry ServedStep Reply)) : Type 0
-  where
-    pub state : (after served_next h es).hub ≡ replay ds (machine_steps es)
-    pub allowed : AreAllowed (opening ds) (machine_steps es)
-    pub replies : replies_of es ≡ replies_from (opening ds) (machine_steps es)
+-- a history goes on with the machine's run behind these steps, from its beginning, where guards judge by this schema
+pub record IsRun {X Y : Type 0} (ds : List Definition) (before : List Step) (h : Served X Y)
+    (es : List (Entry ServedStep Reply)) : Type 0 where
+  pub state : (after served_next h es).hub ≡ replay ds (before ++ machine_steps es)
+  pub allowed : AreAllowed (opening ds) (before ++ machine_steps es)
+  pub replies : replies_of es ≡ replies_from (replay ds before) (machine_steps es)
 
 abbrev pub HistoriesAreTheMachines : Type 0 → Type 0 → Type 0
 HistoriesAreTheMachines X Y =
-    (ds : List Definition) (h : Served X Y) (es : List (Entry ServedStep Reply)) → h.hub ≡ opening ds
-    → IsLegal served_next h es → IsRun ds h es
+    (ds : List Definition) (before : List Step) (h : Served X Y) (es : List (Entry ServedStep Reply))
+    → AreAllowed (opening ds) before → h.hub ≡ replay ds before → IsLegal served_next h es → IsRun ds before h es

@@ -1,4 +1,5 @@
 pub mod Allowed
+pub mod Lemmas
 pub mod Served
 pub mod Laws
 pub mod Seats

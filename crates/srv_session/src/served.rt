@@ -48,7 +48,14 @@ impl<S: Space + Drop, J: Judge + Drop> Served<S, J> {
         ensures { IfOk result (λ s. s.hub ≡ opening (J.schema judge)) }
     {
         let hub = Hub::begin(alloc, judge)?;
-        Ok(Served { hub, alloc })
+        Ok(Served::of(alloc, hub))
+    }
+
+    /// This hub, at which steps may have been done before.
+    pub fn of(alloc: Global, hub: Hub<S, J>) -> Served<S, J>
+        ensures { result.hub ≡ hub }
+    {
+        Served { hub, alloc }
     }
 }
 
@@ -60,6 +67,15 @@ impl<S: Space + Drop, J: Judge + Drop> Replayed for Served<S, J> {
     type Reply = Reply;
 
     ghost next = { served_next };
+
+    /// A step that nothing waited for, that sent what waited for its own connection, or that found
+    /// its actor gone or the server stopped, gives nobody else anything to do.
+    fn is_quiet(reply: &Reply) -> bool {
+        match reply {
+            Reply::Idle | Reply::Sent(_) | Reply::Gone | Reply::Halted => true,
+            _ => false,
+        }
+    }
 
     fn step(self, s: ServedStep) -> Result<(Served<S, J>, Reply), NoMemory> {
         let Served { hub, alloc } = self;

@@ -1,5 +1,5 @@
 use Rattle.std.proofs.lemmas.Result.{IfOk-weaker}
-use Rattle.srv_session.proofs.Replied.{replied}
+use Rattle.srv_session.specs.Lemmas.Replied.{replied}
 use Rattle.srv_session.proofs.seated.SeatedServedTurns.commit.Goals as goal
 
 pub returns-clause-reply : goal.returns-clause-reply

@@ -1,0 +1,4 @@
+pub mod Fronts
+pub mod Cutting
+pub mod Steps
+pub mod Committing
