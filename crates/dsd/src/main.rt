@@ -4,7 +4,7 @@
 ghost use Rattle.std.specs.Prelude.{◌≡◌, ◌↔◌, [], ◌∷◌, Contains};
 ghost use Rattle.std.specs.declared.io.ErrorKind.TheVariants.{OutOfMemory};
 
-use dsd_top::dsd_main;
+use dsd_serve::dsd_main;
 use out_ports::ports::Sink;
 use out_ports::streams::write_all;
 use out_real::{ReadSource, RealHost, WriteSink};

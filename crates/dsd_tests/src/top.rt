@@ -1,7 +1,7 @@
 //! What the rows of data can't bring: the call with threads at hand, and a sink of another kind.
 ghost use Rattle.std.specs.Prelude.{Some};
 
-use dsd_top::dsd_main;
+use dsd_serve::dsd_main;
 use out_ports::memory::{MemHost, MemListen, MemSink, MemSource};
 use out_ports::ports::{Put, Sink};
 use std::alloc::{AllocError, Global};

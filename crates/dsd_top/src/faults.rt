@@ -14,7 +14,7 @@ use sc_script::ScriptFault;
 
 /// Why the status isn't 0.
 #[derive(Clone, Copy)]
-pub(crate) enum Fault {
+pub enum Fault {
     BadInput(u64),
     BadWords,
     ReadFailed,

@@ -1,4 +1,4 @@
-//! The program over an outside world that is handed in.
+//! The program over an outside world that is handed in: all words but those that serve.
 #![tactic(auto)]
 
 mod answers;
@@ -12,6 +12,10 @@ mod schemas;
 mod values;
 mod words;
 
-pub use once::{dsd_main, dsd_once};
+pub use conformance::Conformance;
+pub use faults::Fault;
+pub use lines::{refuse, say};
+pub use once::dsd_once;
 pub use sc_script::{next_is_decided, one_course, one_reading};
+pub use schemas::FILE_BYTES;
 pub use words::is_serve;

@@ -1,5 +1,5 @@
 //! What is said on standard error.
-ghost use Rattle.std.specs.Prelude.{◌≡◌, ◌++◌, OnOk, OnErr};
+ghost use Rattle.std.specs.Prelude.{◌≡◌, ◌++◌, ◌∷◌, [], OnOk, OnErr};
 ghost use Rattle.out_ports.specs.Ports.{Rose, Appends, AppendsFront};
 ghost use Rattle.dsd_top.specs.Lines.{line_of};
 ghost use Rattle.dsd_top.specs.Statuses.{status_of};
@@ -31,25 +31,38 @@ fn write_three<E: Sink>(
     write_all(sink, third)
 }
 
-/// Says why the status isn't 0, in one line. After a fault the sink holds a front of it.
-fn tell<E: Sink>(diag: &mut E, fault: Fault) -> Result<(), WriteFault>
-    ensures written { OnOk result (Appends (E.held diag.old) (E.held diag.new) (line_of fault)) }
-    ensures front { OnErr result
-        (AppendsFront (E.held diag.old) (E.held diag.new) (line_of fault)) }
+/// Writes a line of words and of a number behind them, where there is one. After a fault the sink
+/// holds a front of it.
+fn write_line<E: Sink>(diag: &mut E, words: &str, number: &str) -> Result<(), WriteFault>
+    ensures written { OnOk result (Appends (E.held diag.old) (E.held diag.new)
+        (words.now ++ number.now ++ 10 ∷ [])) }
+    ensures front { OnErr result (AppendsFront (E.held diag.old) (E.held diag.new)
+        (words.now ++ number.now ++ 10 ∷ [])) }
     ensures cause { OnErr result (Rose (E.faults diag.old) (E.faults diag.new)) }
 {
-    let mut buffer = Buffer::new();
-    let number = fault.number(&mut buffer);
-    write_three(diag, fault.words().as_bytes(), number.as_bytes(), b"\n")
+    write_three(diag, words.as_bytes(), number.as_bytes(), b"\n")
+}
+
+/// Says a line of words and of a number behind them, where there is one. What can't be written is
+/// left.
+pub fn say<E: Sink>(diag: &mut E, words: &str, number: &str)
+    ensures said { AppendsFront (E.held diag.old) (E.held diag.new)
+        (words.now ++ number.now ++ 10 ∷ []) }
+    ensures said_all { (Rose (E.faults diag.old) (E.faults diag.new) → ⊥)
+        → Appends (E.held diag.old) (E.held diag.new) (words.now ++ number.now ++ 10 ∷ []) }
+{
+    let _ = write_line(diag, words, number);
 }
 
 /// Says why the status isn't 0, and answers it. What can't be written is left.
-pub(crate) fn refuse<E: Sink>(diag: &mut E, fault: Fault) -> u8
+pub fn refuse<E: Sink>(diag: &mut E, fault: Fault) -> u8
     ensures status { result ≡ status_of fault }
     ensures said { AppendsFront (E.held diag.old) (E.held diag.new) (line_of fault) }
     ensures said_all { (Rose (E.faults diag.old) (E.faults diag.new) → ⊥)
         → Appends (E.held diag.old) (E.held diag.new) (line_of fault) }
 {
-    let _ = tell(diag, fault);
+    let mut buffer = Buffer::new();
+    let number = fault.number(&mut buffer);
+    say(diag, fault.words(), number);
     fault.status()
 }

@@ -13,7 +13,7 @@ use std::alloc::Global;
 use thiserror::Error;
 
 /// The most bytes of a file.
-const FILE_BYTES: usize = 1_048_576;
+pub const FILE_BYTES: usize = 1_048_576;
 
 /// Why a file and a name are no schema that knows the name.
 #[derive(Clone, Copy, Debug, PartialEq, Eq, Error)]
