@@ -6,7 +6,7 @@ ghost use Rattle.dsd_top.specs.Commands.{texts, request_of, command_of, notice_o
 ghost use Rattle.dsd_top.specs.Lines.{Says, SaysFront};
 ghost use Rattle.dsd_top.specs.Statuses.{IsStatus, statuses_of, IfTold, file_of, IsAnswered};
 ghost use Rattle.dsd_top.specs.Statuses.{IsCut, IsShown, IsShownFront, IsBadInput, IsOver};
-ghost use Rattle.dsd_top.specs.Statuses.{IsBadConfig, IsNotBuilt, Stands};
+ghost use Rattle.dsd_top.specs.Statuses.{IsBadConfig, IsNotBuilt, Stands, IsUntold};
 
 use dsd_top::{Fault, dsd_once, is_serve, refuse};
 use out_ports::ports::{Host, Sink, Source};
@@ -66,6 +66,7 @@ where
         (λ n. IsShown n (O.held out.old) (O.held out.new)) }
     ensures shown_front { result ≡ 4 → IfSome (notice_of (texts words.now))
         (λ n. IsShownFront n (O.held out.old) (O.held out.new)) }
+    ensures untold { result ≢ 0 → IfSome (notice_of (texts words.now)) (IsUntold result) }
 
     // What stands after it. The host is asked for a file, where a command reads one, and for
     // nothing else.

@@ -1,14 +1,15 @@
 -- What a status says, by its cause.
-use Rattle.std.proofs.Common.{◌≡◌, ℕ, zero, suc, ◌<◌, List, length, Option, Some, None, IfErr, Result, Ok, Err}
+use Rattle.std.proofs.Common.{◌≡◌, ℕ, zero, suc, ◌<◌, List, length, Option, Some, None, IfSome, IfErr, Result, Ok, Err}
 use Rattle.std.proofs.Common.{Contains, [], ◌∷◌, lit<, refl, sym, subst, arith}
 use Rattle.std.specs.Result.{IsErrAnd}
 use Rattle.out_ports.specs.declared.streams.ReadFault.{ReadFault}
 use Rattle.out_ports.specs.declared.streams.ReadFault.TheVariants as reading
-use Rattle.dsd_top.specs.Commands.{IsOfTable, HasText, made_by}
+use Rattle.sc_script.specs.Runs.{Cause, bad, limit, config, not_built}
+use Rattle.dsd_top.specs.Commands.{IsOfTable, HasText, IsRightlyAsked, made_by, told_by}
 use Rattle.dsd_top.specs.Schemas.{Files}
 use Rattle.dsd_top.specs.Statuses.{IsStatus, statuses_by, statuses_told, statuses_of, IfTold, status_of, IsBehindInput}
 use Rattle.dsd_top.specs.Statuses.{IsBadInput, IsOver, IsBadConfig, IsNotBuilt, IsBadInputAt, IsOverAt}
-use Rattle.dsd_top.specs.Statuses.{IsBadConfigAt, IsNotBuiltAt, Stands, IsToldFault, from_read}
+use Rattle.dsd_top.specs.Statuses.{IsBadConfigAt, IsNotBuiltAt, Stands, IsToldFault, IsUntold, StopsTelling, from_read}
 use Rattle.dsd_top.specs.declared.faults.Fault.{Fault}
 use Rattle.dsd_top.specs.declared.faults.Fault.TheVariants.{BadInput, BadWords, ReadFailed, WriteFailed, NoMemory}
 use Rattle.dsd_top.specs.declared.faults.Fault.TheVariants.{Limit, BadConfig, NotBuilt}
@@ -16,7 +17,7 @@ use Rattle.dsd_top.specs.declared.words.Making.TheVariants.{Run, RunText, Canoni
 use Rattle.dsd_top.specs.declared.words.Command.{Command}
 use Rattle.dsd_top.specs.declared.words.Command.TheVariants.{Make, Check}
 use Rattle.dsd_top.specs.declared.words.Notice.{Notice}
-use Rattle.dsd_top.specs.declared.words.Notice.TheVariants.{Usage, Version, Reference}
+use Rattle.dsd_top.specs.declared.words.Notice.TheVariants.{Usage, Version, Reference, Load}
 use Rattle.dsd_top.specs.declared.words.Request.{Request}
 use Rattle.dsd_top.specs.declared.words.Request.TheVariants.{Tell}
 
@@ -53,6 +54,7 @@ pub told_write : (n : Notice) → Contains (statuses_told n) (status_of WriteFai
 told_write Usage = (1, lit< tt, refl)
 told_write Version = (1, lit< tt, refl)
 told_write (Reference m) = (2, lit< tt, refl)
+told_write (Load l) = (2, lit< tt, refl)
 
 always_told : (k : ℕ) → Contains (0 ∷ 4 ∷ []) k → IsStatus k
 always_told k (zero, l, e) = (0, lit< tt, e)
@@ -68,11 +70,23 @@ told_status (Reference m) k (suc zero, l, e) = (2, lit< tt, e)
 told_status (Reference m) k (suc (suc zero), l, e) = (4, lit< tt, e)
 told_status (Reference m) k (suc (suc (suc zero)), l, e) = (5, lit< tt, e)
 told_status (Reference m) k (suc (suc (suc (suc i))), l, e) = absurd (omega (arith, l))
+told_status (Load d) k (zero, l, e) = (0, lit< tt, e)
+told_status (Load d) k (suc zero, l, e) = (1, lit< tt, e)
+told_status (Load d) k (suc (suc zero), l, e) = (4, lit< tt, e)
+told_status (Load d) k (suc (suc (suc zero)), l, e) = (5, lit< tt, e)
+told_status (Load d) k (suc (suc (suc (suc zero))), l, e) = (6, lit< tt, e)
+told_status (Load d) k (suc (suc (suc (suc (suc zero)))), l, e) = (7, lit< tt, e)
+told_status (Load d) k (suc (suc (suc (suc (suc (suc zero))))), l, e) = (8, lit< tt, e)
+told_status (Load d) k (suc (suc (suc (suc (suc (suc (suc i)))))), l, e) = absurd (omega (arith, l))
 
 -- what the words ask for has the statuses that are said
 pub notice_known : (o : Option Request) (n : Notice) (k : ℕ) → Some (Tell n) ≡ o → Contains (statuses_told n) k
     → Contains (statuses_of o) k
 notice_known o n k is known = subst (λ q. Contains (statuses_of q) k) is known
+
+pub notice_untold : (o : Option Request) (n : Notice) (k : ℕ) → Some (Tell n) ≡ o → IsUntold k n
+    → IfSome (told_by o) (IsUntold k)
+notice_untold o n k is h = subst (λ q. IfSome (told_by q) (IsUntold k)) is h
 
 pub refused_known : (o : Option Request) (k : ℕ) → o ≡ None → k ≡ 2 → Contains (statuses_of o) k
 refused_known o k none is = subst (λ q. Contains (statuses_of q) k) (sym none) (0, lit< tt, sym is)
@@ -187,36 +201,49 @@ module _ (o : Option Request) (files : Files) (left : Option (List ℕ)) where
 -- what a cause says of a notice, it says of what asks for it
 pub told_stands : (n : Notice) (files : Files) (left : Option (List ℕ)) (f : Fault) → IsToldFault n f
     → Stands (Some (Tell n)) files left f
-told_stands n files left (BadInput k) h = absurd h
+told_stands n files left (BadInput k) h = tt
 told_stands n files left BadWords h = h
 told_stands n files left ReadFailed h = absurd h
 told_stands n files left WriteFailed h = tt
 told_stands n files left NoMemory h = tt
-told_stands n files left (Limit w) h = absurd h
-told_stands n files left (BadConfig k) h = absurd h
-told_stands n files left (NotBuilt k) h = absurd h
+told_stands n files left (Limit w) h = tt
+told_stands n files left (BadConfig k) h = tt
+told_stands n files left (NotBuilt k) h = tt
 
--- what has no text is refused, or memory ran out
-pub told_otherwise : (n : Notice) (f : Fault) → IsToldFault n f → (HasText n → ⊥)
+-- what has a text, or stops, is rightly asked for
+text_right : (n : Notice) → HasText n → IsRightlyAsked n
+text_right Usage h = tt
+text_right Version h = tt
+text_right (Reference m) h = h
+text_right (Load l) h = tt
+
+run_right : (n : Notice) (c : Cause) → StopsTelling n c → IsRightlyAsked n
+run_right Usage c h = tt
+run_right Version c h = tt
+run_right (Reference m) c h = absurd h
+run_right (Load l) c h = tt
+
+-- what isn't is refused, or memory ran out
+pub told_otherwise : (n : Notice) (f : Fault) → IsToldFault n f → (IsRightlyAsked n → ⊥)
     → Contains (2 ∷ 5 ∷ []) (status_of f)
-told_otherwise n (BadInput k) h none = absurd h
+told_otherwise n (BadInput k) h none = absurd (none (run_right n (bad k) h))
 told_otherwise n BadWords h none = (0, lit< tt, refl)
 told_otherwise n ReadFailed h none = absurd h
-told_otherwise n WriteFailed h none = absurd (none h)
+told_otherwise n WriteFailed h none = absurd (none (text_right n h))
 told_otherwise n NoMemory h none = (1, lit< tt, refl)
-told_otherwise n (Limit w) h none = absurd h
-told_otherwise n (BadConfig k) h none = absurd h
-told_otherwise n (NotBuilt k) h none = absurd h
+told_otherwise n (Limit w) h none = absurd (none (run_right n (limit w) h))
+told_otherwise n (BadConfig k) h none = absurd (none (run_right n (config k) h))
+told_otherwise n (NotBuilt k) h none = absurd (none (run_right n (not_built k) h))
 
-pub told_bad : (n : Notice) (f : Fault) → IsToldFault n f → status_of f ≡ 2 → HasText n → ⊥
-told_bad n (BadInput k) h e = absurd h
+pub told_bad : (n : Notice) (f : Fault) → IsToldFault n f → status_of f ≡ 2 → IsRightlyAsked n → ⊥
+told_bad n (BadInput k) h e = absurd (omega arith)
 told_bad n BadWords h e = h
 told_bad n ReadFailed h e = absurd h
 told_bad n WriteFailed h e = absurd (omega arith)
 told_bad n NoMemory h e = absurd (omega arith)
-told_bad n (Limit w) h e = absurd h
-told_bad n (BadConfig k) h e = absurd h
-told_bad n (NotBuilt k) h e = absurd h
+told_bad n (Limit w) h e = absurd (omega arith)
+told_bad n (BadConfig k) h e = absurd (omega arith)
+told_bad n (NotBuilt k) h e = absurd (omega arith)
 
 -- ---- errors
 

@@ -1,3 +1,4 @@
+pub mod Adding
 pub mod Causes
 pub mod Fronts
 pub mod InForm
@@ -8,3 +9,4 @@ pub mod Refusals
 pub mod Reported
 pub mod Saying
 pub mod Telling
+pub mod Within

@@ -17,3 +17,8 @@ pub record Minting : Type 0 where
   pub oid : List ℕ
   pub key : List ℕ
   pub caveats : List (List ℕ)
+
+-- behind `load`: where the draws of a load begin, and how many items it has
+pub record Loading : Type 0 where
+  pub start : ℕ
+  pub count : ℕ

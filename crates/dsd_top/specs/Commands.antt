@@ -1,15 +1,17 @@
 -- The program's words, and what they ask for.
-use Rattle.std.specs.Prelude.{◌≡◌, ℕ, ◌==◌, List, [], ◌∷◌, ◌++◌, length, codes, Bool, false, ◌&&◌}
+use Rattle.std.specs.Prelude.{◌≡◌, ℕ, ◌-◌, ◌^◌, ◌==◌, List, [], ◌∷◌, ◌++◌, length, codes, Bool, false, ◌&&◌}
 use Rattle.std.specs.Prelude.{nat_eq, nat_le, Option, Some, None, if◌then◌else◌}
 use Rattle.std.specs.List.{flat_map, starts_with}
 use Rattle.std.specs.Str.{bytes_eq}
 pub use Rattle.dsd_top.specs.Asked.{texts, Checking, Minting}
+use Rattle.dsd_top.specs.Loading.{IsLoadLine}
 use Rattle.dsd_top.specs.Minting.{IsReferenceLine}
+use Rattle.dsd_top.specs.Numbers.{number_within}
 use Rattle.dsd_top.specs.declared.words.Making.TheVariants.{Run, RunText, CanonicalForms, Printed, Written}
 use Rattle.dsd_top.specs.declared.words.Command.{Command}
 use Rattle.dsd_top.specs.declared.words.Command.TheVariants.{Make, Check}
 use Rattle.dsd_top.specs.declared.words.Notice.{Notice}
-use Rattle.dsd_top.specs.declared.words.Notice.TheVariants.{Usage, Version, Reference}
+use Rattle.dsd_top.specs.declared.words.Notice.TheVariants.{Usage, Version, Reference, Load}
 use Rattle.dsd_top.specs.declared.words.Request.{Request}
 use Rattle.dsd_top.specs.declared.words.Request.TheVariants.{Do, Tell}
 
@@ -29,13 +31,21 @@ abbrev pub named_with : List ℕ → List ℕ → Option Request
 named_with w option =
     if bytes_eq w (codes "run") && bytes_eq option (codes "--text") then Some (Do (Make RunText)) else None
 
--- what a word asks for before two others and these: `check FILE NAME`, or `mint OID KEY` and at most 32 caveats
+-- what `load` asks for, by its two numbers
+abbrev pub load_by : Option ℕ → Option ℕ → Option Request
+load_by (Some n) (Some m) = Some (Tell (Load (record { start = n; count = m })))
+load_by n m = None
+
+-- what a word asks for before two others and these: `check FILE NAME`, `mint OID KEY` and at most 32 caveats, or
+-- `load START N` with N from 1 to 20,000
 abbrev pub named_before : List ℕ → List ℕ → List ℕ → List (List ℕ) → Option Request
 named_before w x y ws =
     if bytes_eq w (codes "check") && (length ws == 0) then Some (Do (Check (record { file = x; name = y })))
     else (if bytes_eq w (codes "mint") && nat_le (length ws) 32
     then Some (Tell (Reference (record { oid = x; key = y; caveats = ws })))
-    else None)
+    else (if bytes_eq w (codes "load") && (length ws == 0)
+    then load_by (number_within 0 (2 ^ 64 - 1) x) (number_within 1 20000 y)
+    else None))
 
 -- what the words ask for
 abbrev pub request_of : List (List ℕ) → Option Request
@@ -81,6 +91,8 @@ usage = lines_of (
     ∷ codes "                of each text value, whether it conforms to the schema's NAME"
     ∷ codes "  mint OID KEY CAVEAT.."
     ∷ codes "                the signed reference, from no input"
+    ∷ codes "  load START N"
+    ∷ codes "                a run of a generated script: holdings, and the sum of what they capture"
     ∷ codes "  --help        these lines"
     ∷ codes "  --version     the version"
     ∷ []
@@ -89,22 +101,29 @@ usage = lines_of (
 unfoldable pub version : List ℕ
 version = lines_of (codes "dsd 0.1.0" ∷ [])
 
--- the text that a notice tells: of a reference none, where the words for it are no key and values
+-- the text that a notice tells: of a reference none, where the words for it are no key and values, and of a load none,
+-- where its script stops
 abbrev pub IsTextOf : Notice → List ℕ → Type 0
 IsTextOf Usage text = text ≡ usage
 IsTextOf Version text = text ≡ version
 IsTextOf (Reference m) text = IsReferenceLine m text
+IsTextOf (Load l) text = IsLoadLine l text
 
 abbrev pub HasText : Notice → Type 0
 HasText n = (text : List ℕ) × IsTextOf n text
 
 -- ---- the table
 
--- a request can be met: a notice has its text
+-- the words for a notice are right: those for a reference give one
+abbrev pub IsRightlyAsked : Notice → Type 0
+IsRightlyAsked (Reference m) = HasText (Reference m)
+IsRightlyAsked n = Unit {0}
+
+-- a request can be met
 abbrev pub IsOfTable : Option Request → Type 0
 IsOfTable None = ⊥
 IsOfTable (Some (Do c)) = Unit {0}
-IsOfTable (Some (Tell n)) = HasText n
+IsOfTable (Some (Tell n)) = IsRightlyAsked n
 
 -- the words are of the table
 abbrev pub AreOfTable : List (List ℕ) → Type 0

@@ -2,8 +2,10 @@ pub mod Asked
 pub mod Commands
 pub mod Forms
 pub mod Lines
+pub mod Loading
 pub mod Makings
 pub mod Minting
+pub mod Numbers
 pub mod Schemas
 pub mod Statuses
 pub mod Values

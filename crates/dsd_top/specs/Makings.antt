@@ -3,7 +3,7 @@ use Rattle.std.specs.Prelude.{◌≡◌, ℕ, ◌<◌, List, length}
 use Rattle.hub_laws.specs.Settled.{HoldsFromScratch}
 use Rattle.sc_events.specs.declared.inputs.Form.{Form as Input}
 use Rattle.sc_events.specs.declared.inputs.Form.TheVariants as input
-use Rattle.sc_report.specs.Reports.{report_of}
+use Rattle.sc_report.specs.Reports.{RanState, report_of}
 use Rattle.sc_script.specs.Leavings.{ran_of}
 use Rattle.rl_stream.specs.Nexts.{Decider, Decides}
 use Rattle.sc_script.specs.Runs.{Cause, bad, limit, config, not_built, goes, stops, Running}
@@ -15,12 +15,16 @@ use Rattle.dsd_top.specs.declared.forms.Form.TheVariants as form
 use Rattle.dsd_top.specs.declared.words.Making.{Making}
 use Rattle.dsd_top.specs.declared.words.Making.TheVariants.{Run, RunText, CanonicalForms, Printed, Written}
 
--- the input is a script, and this the report of its run in the form; where nothing is pending, each live connection
--- holds what is captured from scratch
-abbrev pub IsReported : Input → Form → List ℕ → List ℕ → Type 0
-IsReported input form bytes out =
+-- the input is a script, and such is what its run leaves; where nothing is pending, each live connection holds what is
+-- captured from scratch
+abbrev pub LeavesSuch : Input → List ℕ → (RanState → Type 0) → Type 0
+LeavesSuch input bytes Is =
     (N : Decider) → Decides N → (r : Running) × IsCourseOf N input bytes (goes r)
-    × ((k : ℕ) → HoldsFromScratch r.schema k r.steps) × (out ≡ in_form form (report_of (ran_of r.schema r.steps)))
+    × ((k : ℕ) → HoldsFromScratch r.schema k r.steps) × Is (ran_of r.schema r.steps)
+
+-- this is the report of the run of the script that the input is, in the form
+abbrev pub IsReported : Input → Form → List ℕ → List ℕ → Type 0
+IsReported input form bytes out = LeavesSuch input bytes (λ ran. out ≡ in_form form (report_of ran))
 
 -- the input stops as a script for this cause
 abbrev pub StopsFor : Input → List ℕ → Cause → Type 0

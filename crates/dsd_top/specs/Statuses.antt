@@ -7,9 +7,11 @@ use Rattle.ps_schema.specs.declared.Definition.{Definition}
 use Rattle.sc_events.specs.declared.inputs.Form.TheVariants as input
 use Rattle.sc_script.specs.declared.faults.ScriptFault.{ScriptFault}
 use Rattle.sc_script.specs.declared.faults.ScriptFault.TheVariants as stopped
+use Rattle.sc_script.specs.Runs as run
 use Rattle.dsd_top.specs.Asked.{Checking}
-use Rattle.dsd_top.specs.Commands.{made_by, IsOfTable, IsTextOf, HasText}
+use Rattle.dsd_top.specs.Commands.{made_by, IsOfTable, IsTextOf, HasText, IsRightlyAsked}
 use Rattle.dsd_top.specs.Forms.{verdict_by}
+use Rattle.dsd_top.specs.Loading.{StopsLoad}
 use Rattle.dsd_top.specs.Makings.{IsMadeOf, IsMalformedAt, IsTooLong, PassesLimit, IsUnschemedAt, IsUnbuiltAt}
 use Rattle.dsd_top.specs.Schemas.{Files, IsSchemaIn, IsBadFileAt}
 use Rattle.dsd_top.specs.Values.{IsBadAt, AreMade}
@@ -26,7 +28,7 @@ use Rattle.dsd_top.specs.declared.words.Making.TheVariants.{Run, RunText}
 use Rattle.dsd_top.specs.declared.words.Command.{Command}
 use Rattle.dsd_top.specs.declared.words.Command.TheVariants.{Make, Check}
 use Rattle.dsd_top.specs.declared.words.Notice.{Notice}
-use Rattle.dsd_top.specs.declared.words.Notice.TheVariants.{Usage, Version, Reference}
+use Rattle.dsd_top.specs.declared.words.Notice.TheVariants.{Usage, Version, Reference, Load}
 use Rattle.dsd_top.specs.declared.words.Request.{Request}
 use Rattle.dsd_top.specs.declared.words.Request.TheVariants.{Do, Tell}
 
@@ -52,6 +54,7 @@ abbrev pub statuses_told : Notice → List ℕ
 statuses_told Usage = 0 ∷ 4 ∷ []
 statuses_told Version = 0 ∷ 4 ∷ []
 statuses_told (Reference m) = 0 ∷ 2 ∷ 4 ∷ 5 ∷ []
+statuses_told (Load l) = 0 ∷ 1 ∷ 4 ∷ 5 ∷ 6 ∷ 7 ∷ 10 ∷ []
 
 -- those that come for what the words ask for, and where they ask for nothing
 abbrev pub statuses_of : Option Request → List ℕ
@@ -158,12 +161,25 @@ Stands o files left (fault.Limit w) = IfTold (made_by o) left (λ c bytes. IsOve
 Stands o files left (fault.BadConfig n) = IfTold (made_by o) left (λ c bytes. IsBadConfigAt files c bytes n)
 Stands o files left (fault.NotBuilt n) = IfTold (made_by o) left (λ c bytes. IsNotBuiltAt files c bytes n)
 
+-- what a notice runs stops for this cause
+abbrev pub StopsTelling : Notice → run.Cause → Type 0
+StopsTelling (Load l) c = StopsLoad l c
+StopsTelling n c = ⊥
+
 -- what a cause says of a notice
 abbrev pub IsToldFault : Notice → Fault → Type 0
-IsToldFault n fault.BadWords = HasText n → ⊥
+IsToldFault n (fault.BadInput k) = StopsTelling n (run.bad k)
+IsToldFault n fault.BadWords = IsRightlyAsked n → ⊥
+IsToldFault n fault.ReadFailed = ⊥
 IsToldFault n fault.WriteFailed = HasText n
 IsToldFault n fault.NoMemory = Unit {0}
-IsToldFault n f = ⊥
+IsToldFault n (fault.Limit w) = StopsTelling n (run.limit w)
+IsToldFault n (fault.BadConfig k) = StopsTelling n (run.config k)
+IsToldFault n (fault.NotBuilt k) = StopsTelling n (run.not_built k)
+
+-- a notice isn't told, for a cause of this status
+abbrev pub IsUntold : ℕ → Notice → Type 0
+IsUntold status n = (f : Fault) × (status_of f ≡ status) × IsToldFault n f
 
 abbrev pub from_script : ScriptFault → Fault
 from_script (stopped.Bad n) = fault.BadInput n

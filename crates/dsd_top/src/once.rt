@@ -3,12 +3,12 @@ ghost use Rattle.std.specs.Prelude.{◌≡◌, ◌≢◌, ◌≤◌, ◌⊎◌, 
 ghost use Rattle.std.specs.Prelude.{Contains, IfSome, IfErr, OnOk, IsErrOf};
 ghost use Rattle.out_ports.specs.Ports.{Rose};
 ghost use Rattle.dsd_top.specs.Commands.{texts, request_of, command_of, notice_of, AreOfTable};
-ghost use Rattle.dsd_top.specs.Commands.{HasText, is_serve as begins_with_serve};
+ghost use Rattle.dsd_top.specs.Commands.{IsRightlyAsked, is_serve as begins_with_serve};
 ghost use Rattle.dsd_top.specs.Statuses.{IsStatus, statuses_by, statuses_told, statuses_of};
 ghost use Rattle.dsd_top.specs.Statuses.{IfTold, file_of, IsAnswered, IsCut, IsShown};
 ghost use Rattle.dsd_top.specs.Statuses.{IsShownFront, IsBadInput, IsOver, IsBadConfig};
 ghost use Rattle.dsd_top.specs.Statuses.{IsNotBuilt, status_of, IsBehindInput, Stands};
-ghost use Rattle.dsd_top.specs.Statuses.{IsToldFault};
+ghost use Rattle.dsd_top.specs.Statuses.{IsToldFault, IsUntold};
 ghost use Rattle.dsd_top.specs.Lines.{Says, SaysFront};
 ghost use Rattle.dsd_top.specs.declared.faults.Fault.TheVariants as fault;
 ghost use Rattle.dsd_top.specs.declared.words.Request.TheVariants.{Do};
@@ -16,6 +16,7 @@ ghost use Rattle.dsd_top.specs.declared.words.Request.TheVariants.{Do};
 use crate::answers::{answer, ready};
 use crate::faults::Fault;
 use crate::lines::refuse;
+use crate::loading::load_line;
 use crate::minting::reference_line;
 use crate::words::{Command, Notice, Request, find_request, usage, version};
 use out_ports::ports::{Host, Sink, Source};
@@ -82,6 +83,10 @@ fn tell<O: Sink>(alloc: Global, notice: &Notice, out: &mut O) -> Result<(), Faul
             let line = reference_line(alloc, minting)?;
             write_all(out, &line)?;
         }
+        Notice::Load(loading) => {
+            let line = load_line(alloc, loading)?;
+            write_all(out, &line)?;
+        }
     }
     Ok(())
 }
@@ -89,10 +94,11 @@ fn tell<O: Sink>(alloc: Global, notice: &Notice, out: &mut O) -> Result<(), Faul
 /// Writes a notice, and answers the status.
 fn show<O: Sink, E: Sink>(alloc: Global, notice: &Notice, out: &mut O, diag: &mut E) -> u8
     ensures known { Contains (statuses_told notice.now) result }
-    ensures refused { result ≡ 2 → HasText notice.now → ⊥ }
-    ensures other_words { (HasText notice.now → ⊥) → Contains (2 ∷ 5 ∷ []) result }
+    ensures refused { result ≡ 2 → IsRightlyAsked notice.now → ⊥ }
+    ensures other_words { (IsRightlyAsked notice.now → ⊥) → Contains (2 ∷ 5 ∷ []) result }
     ensures done { result ≡ 0 → IsShown notice.now (O.held out.old) (O.held out.new) }
     ensures cut { result ≡ 4 → IsShownFront notice.now (O.held out.old) (O.held out.new) }
+    ensures untold { result ≢ 0 → IsUntold result notice.now }
     ensures unwritten { result ≢ 0 → result ≢ 4 → O.held out.new ≡ O.held out.old }
     ensures write_failed { result ≡ 4 → Rose (O.faults out.old) (O.faults out.new) }
     ensures silent { result ≡ 0 → E.held diag.new ≡ E.held diag.old }
@@ -155,11 +161,12 @@ pub fn dsd_once<I: Source, O: Sink, E: Sink, H: Host>(
     ensures unread_yet { result ≡ 7 → file_of (command_of (texts words.now)) ≢ None
         → input.new ≡ input.old }
 
-    // A notice is written.
+    // A notice is written, or isn't for a cause that stands of it.
     ensures shown { result ≡ 0 → IfSome (notice_of (texts words.now))
         (λ n. IsShown n (O.held out.old) (O.held out.new)) }
     ensures shown_front { result ≡ 4 → IfSome (notice_of (texts words.now))
         (λ n. IsShownFront n (O.held out.old) (O.held out.new)) }
+    ensures untold { result ≢ 0 → IfSome (notice_of (texts words.now)) (IsUntold result) }
 
     // What stands after it. The host is asked for a file, where a command reads one, and for
     // nothing else.

@@ -1,8 +1,11 @@
 //! The program's words, and what they ask for.
-ghost use Rattle.std.specs.Prelude.{◌≡◌};
+ghost use Rattle.std.specs.Prelude.{◌≡◌, ◌≤◌, ◌-◌, ◌^◌};
 ghost use Rattle.dsd_top.specs.Commands.{texts, request_of, named, named_with, named_before};
+ghost use Rattle.dsd_top.specs.Commands.{load_by};
+ghost use Rattle.dsd_top.specs.Numbers.{number_within};
 ghost use Rattle.dsd_top.specs.Commands.{usage, version, is_serve as begins_with_serve};
 
+use crate::numbers::number_within;
 use std::marker::Model;
 
 /// The answer to `--help`: the words, a line each.
@@ -16,6 +19,8 @@ const USAGE: &str = "usage: dsd WORD, from standard input to standard output
                 of each text value, whether it conforms to the schema's NAME
   mint OID KEY CAVEAT..
                 the signed reference, from no input
+  load START N
+                a run of a generated script: holdings, and the sum of what they capture
   --help        these lines
   --version     the version
 ";
@@ -25,6 +30,9 @@ const VERSION: &str = "dsd 0.1.0\n";
 
 /// The most caveats that `mint` takes.
 const CAVEATS: usize = 32;
+
+/// The most items of a load.
+const ITEMS: u64 = 20_000;
 
 /// What is made of the input alone.
 #[derive(Clone, Copy)]
@@ -84,6 +92,40 @@ impl<'a> Model for Minting<'a> {
     } };
 }
 
+/// Where the draws of a load begin, and how many items it has.
+#[derive(Drop)]
+pub struct Loading {
+    start: u64,
+    count: u32,
+}
+
+impl Model for Loading {
+    ghost use Rattle.std.specs.Prelude.{◌≤◌};
+    ghost use Rattle.dsd_top.specs.Asked.{Loading};
+
+    ghost Value = { Loading };
+
+    ghost view = { λ l. record { start = l.start; count = l.count } };
+
+    ghost invariant = { λ l. (1 ≤ l.count) × (l.count ≤ 20000) };
+}
+
+impl Loading {
+    pub fn start(&self) -> u64
+        ensures { result ≡ self.now.start }
+    {
+        self.start
+    }
+
+    pub fn count(&self) -> u32
+        ensures count { result ≡ self.now.count }
+        ensures some { 1 ≤ result }
+        ensures few { result ≤ 20000 }
+    {
+        self.count
+    }
+}
+
 /// A text that is told with no input.
 #[derive(Drop)]
 pub enum Notice<'a> {
@@ -93,6 +135,8 @@ pub enum Notice<'a> {
     Version,
     /// A signed reference.
     Reference(Minting<'a>),
+    /// What a load leaves.
+    Load(Loading),
 }
 
 /// What the words ask for.
@@ -165,7 +209,20 @@ fn find_before<'a>(
             caveats: rest,
         })));
     }
+    if word == "load" && rest.is_empty() {
+        return find_load(first, second);
+    }
     None
+}
+
+/// What `load` asks for, by its two numbers.
+fn find_load<'a>(start: &str, count: &str) -> Option<Request<'a>>
+    ensures { result ≡ load_by
+        (number_within 0 (2 ^ 64 - 1) start.now) (number_within 1 20000 count.now) }
+{
+    let start = number_within(start, 0, u64::MAX)?;
+    let count = number_within(count, 1, ITEMS)? as u32;
+    Some(Request::Tell(Notice::Load(Loading { start, count })))
 }
 
 /// What the words ask for, where they are of the table. Whether those of `mint` are a key and

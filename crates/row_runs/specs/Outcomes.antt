@@ -4,6 +4,7 @@ use Rattle.std.specs.Prelude.{All, IfSome}
 use Rattle.dsd_top.specs.Commands.{request_of, command_of, notice_of, AreOfTable, IsTextOf, is_serve}
 use Rattle.dsd_top.specs.Schemas.{Files}
 use Rattle.dsd_top.specs.Statuses.{statuses_of, file_of, IsAnswerOf, IsBadInput, IsOver, IsBadConfig, IsNotBuilt}
+use Rattle.dsd_top.specs.Statuses.{IsUntold}
 use Rattle.dsd_top.specs.declared.words.Command.{Command}
 use Rattle.dsd_top.specs.declared.words.Notice.{Notice}
 use Rattle.out_ports.specs.Ports.{Rose}
@@ -59,6 +60,7 @@ pub record IsRun (words : List (List ℕ)) (before now : Streams) (status : ℕ)
   pub cut : status ≡ 4 → IfSome (command_of words) (λ c. IsFrontOfAnswer (Some before.host.files) c before.input.left
       now.out.held)
   pub shown_front : status ≡ 4 → IfSome (notice_of words) (λ n. IsFrontOfText n now.out.held)
+  pub untold : status ≢ 0 → IfSome (notice_of words) (IsUntold status)
   pub unwritten : status ≢ 0 → status ≢ 4 → now.out.held ≡ []
   -- the input ended, or wasn't read
   pub ended : status ≢ 3 → status ≢ 5 → (status ≡ 7 → file_of (command_of words) ≡ None)

@@ -49,6 +49,7 @@ returns c =
           (command_of words) (λ k. cut_held old new empty files k input) (told.cut e);
       shown_front = λ e. if_some (λ (n : Notice). IsShownFront n (Some old) (Some new)) (λ n. IsFrontOfText n new)
           (notice_of words) (λ n. text_front_held old new empty n) (told.shown_front e);
+      untold = told.untold;
       unwritten = λ e f. ap (λ (o : Option (List ℕ)). unwrap_or o []) (told.unwritten e f) ∙ empty;
       ended = told.ended;
       unread = told.unread;
