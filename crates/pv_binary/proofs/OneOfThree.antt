@@ -11,6 +11,7 @@ use Rattle.pv_binary.specs.Reading.{value_at}
 use Rattle.pv_binary.specs.Fronts.{Front, truncated, Open, FaultAt, too_deep, bad_tag, bad_atom, repeated, Stands}
 use Rattle.pv_binary.specs.Reads.{BeginsWith, Stops}
 use Rattle.pv_binary.specs.OneOfThree.{AreBytes, IsOneOfThree, ExcludeOneAnother, AreUnique, OneOfThreeHolds}
+use Rattle.pv_binary.specs.OneOfThree.{ReadingTells}
 use Rattle.pv_binary.proofs.Varints.{IsBytes}
 use Rattle.pv_binary.proofs.Whole.{found_law, only_law, same_read}
 use Rattle.pv_binary.proofs.Cuts.{never_cut}
@@ -85,3 +86,12 @@ module _ (bytes : List ℕ) (all : IsBytes bytes) where
 
 pub one_holds : (bytes : List ℕ) → AreBytes bytes → OneOfThreeHolds bytes
 one_holds bytes h = let all = are_below bytes h in (some bytes all, exclude bytes all, unique bytes all)
+
+pub reading_tells : (bytes : List ℕ) → AreBytes bytes → ReadingTells bytes
+reading_tells bytes h =
+    let all = are_below bytes h in
+    record {
+      value = has_read bytes all;
+      front = λ path s. front_answered bytes path all s;
+      fault = λ f s. fault_answered bytes f all s;
+    }

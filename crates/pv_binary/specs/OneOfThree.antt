@@ -1,11 +1,12 @@
 -- Each list of bytes begins with a value, or is a front of one, or has one fault at one place. Values are spelled as in
 -- the Preserves binary specification; the faults are the project's own.
-use Rattle.std.specs.Prelude.{◌≡◌, ℕ, ◌<◌, ◌⊎◌, List}
+use Rattle.std.specs.Prelude.{◌≡◌, ℕ, ◌<◌, ◌⊎◌, List, length, drop, Ok, Err}
 use Rattle.std.specs.List.{All}
 use Rattle.pv_value.specs.Plain.{Plain}
 use Rattle.pv_read.specs.Results.{Fault}
 use Rattle.pv_binary.specs.Reads.{BeginsWith}
-use Rattle.pv_binary.specs.Fronts.{Front, Stands}
+use Rattle.pv_binary.specs.Fronts.{Front, truncated, Stands}
+use Rattle.pv_binary.specs.Reading.{value_at}
 use Rattle.pv_binary.specs.declared.faults.BinKind.{BinKind}
 
 abbrev pub AreBytes : List ℕ → Type 0
@@ -39,3 +40,9 @@ pub record AreUnique (bytes : List ℕ) : Type 0 where
 
 abbrev pub OneOfThreeHolds : List ℕ → Type 0
 OneOfThreeHolds bytes = IsOneOfThree bytes × ExcludeOneAnother bytes × AreUnique bytes
+
+-- what reading gives of each of the three
+pub record ReadingTells (bytes : List ℕ) : Type 0 where
+  pub value : (n : ℕ) (v : Plain) → BeginsWith bytes n v → value_at (length bytes) 64 bytes ≡ Ok (v, drop n bytes)
+  pub front : (path : List ℕ) → Front bytes path → value_at (length bytes) 64 bytes ≡ Err (truncated bytes path)
+  pub fault : (f : Fault BinKind) → Stands bytes f → value_at (length bytes) 64 bytes ≡ Err f

@@ -4,7 +4,7 @@ ghost use Rattle.pv_value.specs.Plain.{Plain};
 ghost use Rattle.pv_value.specs.WellFormed.{IsWellFormed};
 ghost use Rattle.pv_binary.specs.Written.{written};
 ghost use Rattle.pv_binary.specs.Spells.{Spells};
-ghost use Rattle.pv_binary.specs.OneOfThree.{AreBytes, OneOfThreeHolds};
+ghost use Rattle.pv_binary.specs.OneOfThree.{AreBytes, OneOfThreeHolds, ReadingTells};
 
 /// What is written spells the value, and no spelling of a value begins another.
 pub fn spellings_are_unique()
@@ -17,4 +17,9 @@ pub fn spellings_are_unique()
 /// the three.
 pub fn one_of_three()
     ensures { (bytes : List ℕ) → AreBytes bytes → OneOfThreeHolds bytes }
+{}
+
+/// What the definition of reading gives, of a value, of a front and of a fault.
+pub fn reading_tells()
+    ensures { (bytes : List ℕ) → AreBytes bytes → ReadingTells bytes }
 {}

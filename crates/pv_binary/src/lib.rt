@@ -10,6 +10,6 @@ pub mod tags;
 mod writing;
 
 pub use faults::{BinFault, BinKind};
-pub use laws::{one_of_three, spellings_are_unique};
+pub use laws::{one_of_three, reading_tells, spellings_are_unique};
 pub use reading::read;
 pub use writing::{write, write_into};

@@ -1,5 +1,6 @@
 pub mod Alike
 pub mod Behind
+pub mod Exact
 pub mod One
 pub mod Powers
 pub mod Stopping

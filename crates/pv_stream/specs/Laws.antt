@@ -1,17 +1,19 @@
 -- Laws of the values of a stream.
-use Rattle.std.specs.Prelude.{◌≡◌, ℕ, List, ◌++◌, true, false, Result, Ok, Err}
+use Rattle.std.specs.Prelude.{◌≡◌, ◌⊎◌, ℕ, List, ◌++◌, true, false, Result, Ok, Err}
 use Rattle.pv_value.specs.Plain.{Plain}
 use Rattle.pv_read.specs.Leading.{LeadsOver}
 use Rattle.pv_read.specs.Results.{Fault}
 use Rattle.pv_binary.specs.Reading.{value_at}
 use Rattle.pv_binary.specs.declared.faults.BinKind.{BinKind}
 use Rattle.pv_binary.specs.declared.faults.BinKind.TheVariants as kind
-use Rattle.pv_binary.specs.Reads.{Leads}
-use Rattle.pv_binary.specs.OneOfThree.{AreBytes}
+use Rattle.pv_binary.specs.Reads.{Leads, BeginsWith}
+use Rattle.pv_binary.specs.Fronts.{Stands}
+use Rattle.pv_binary.specs.OneOfThree.{AreBytes, IsFront}
 use Rattle.pv_stream.specs.Feeds.{FeedState, no_bytes, with_bytes}
 use Rattle.pv_stream.specs.Nexts.{IsNext, is_value, is_end}
 use Rattle.pv_stream.specs.Courses.{Course, AreValuesOf, Deed, AreDone, pieces_of, values_of}
-use Rattle.pv_stream.specs.Scans.{Behind, past_value}
+use Rattle.pv_stream.specs.Scans.{Behind, past_value, scan_of}
+use Rattle.pv_stream.specs.declared.stops.Scan.TheVariants as scan
 use Rattle.pv_stream.specs.declared.nexts.Next.{Next}
 
 -- the values of a stream are one course
@@ -58,3 +60,20 @@ ScanIsReading = (total deep : ℕ) (bytes : List ℕ)
 abbrev pub ScanTellsNoRepeat : Type 0
 ScanTellsNoRepeat = (total deep : ℕ) (bytes : List ℕ) (f : Fault BinKind) → past_value total deep bytes ≡ Err f
     → f.kind ≡ kind.Duplicate → ⊥
+
+-- ---- what a scan tells, by what stands in the bytes
+
+-- elements repeat, at the end of their set or dictionary
+abbrev pub HasRepeat : List ℕ → Type 0
+HasRepeat bytes = (place : ℕ) × Stands bytes (record { kind = kind.Duplicate; place = place })
+
+-- a value, a front and a fault are told as what they are, and what is told is so but where elements repeat
+pub record ScanIsExact (bytes : List ℕ) : Type 0 where
+  pub value : (n : ℕ) (v : Plain) → BeginsWith bytes n v → scan_of bytes ≡ scan.Whole n
+  pub front : IsFront bytes → scan_of bytes ≡ scan.Part
+  pub fault : (f : Fault BinKind) → Stands bytes f → (f.kind ≡ kind.Duplicate → ⊥)
+      → scan_of bytes ≡ scan.Fault f.kind f.place
+  pub is_value : (n : ℕ) → scan_of bytes ≡ scan.Whole n → ((v : Plain) × BeginsWith bytes n v) ⊎ HasRepeat bytes
+  pub is_front : scan_of bytes ≡ scan.Part → IsFront bytes ⊎ HasRepeat bytes
+  pub is_fault : (k : BinKind) (place : ℕ) → scan_of bytes ≡ scan.Fault k place
+      → Stands bytes (record { kind = k; place = place }) ⊎ HasRepeat bytes

@@ -59,6 +59,10 @@ abbrev pub scanned : ℕ → Behind → Scan
 scanned total (Ok rest) = scan.Whole (total - length rest)
 scanned total (Err f) = stopped f.kind f.place
 
+-- what a scan tells of the bytes
+abbrev pub scan_of : List ℕ → Scan
+scan_of bytes = scanned (length bytes) (past_value (length bytes) 64 bytes)
+
 -- ---- the code's answers
 
 -- what is passed, or the stop, is what passing gives

@@ -10,7 +10,7 @@ mod stops;
 mod walks;
 
 pub use feeds::Feed;
-pub use laws::{any_pieces, one_course, one_next, scan_is_reading};
+pub use laws::{any_pieces, one_course, one_next, scan_is_exact, scan_is_reading};
 pub use nexts::{Found, Next, first_in};
 pub use scans::scan;
 pub use stops::Scan;

@@ -3,7 +3,7 @@ ghost use Rattle.std.specs.Prelude.{◌≡◌, length, IsTrue};
 ghost use Rattle.pv_binary.specs.Reading.{is_compound};
 ghost use Rattle.pv_binary.specs.Tags.{tag_of};
 ghost use Rattle.pv_stream.specs.Scans.{past, past_end, past_entry, past_compound, past_value};
-ghost use Rattle.pv_stream.specs.Scans.{scanned, stopped, Tells};
+ghost use Rattle.pv_stream.specs.Scans.{scan_of, stopped, Tells};
 
 use crate::passing::past_atom;
 use crate::stops::{Scan, Stop};
@@ -14,7 +14,7 @@ use pv_read::READ_DEPTH;
 
 /// What stands first in the bytes. It doesn't look for elements that repeat.
 pub fn scan(bytes: &[u8]) -> Scan
-    ensures { result ≡ scanned (length bytes.now) (past_value (length bytes.now) 64 bytes.now) }
+    ensures { result ≡ scan_of bytes.now }
 {
     match pass(bytes, bytes.len(), READ_DEPTH) {
         Ok(rest) => Scan::Whole(bytes.len().saturating_sub(rest.len())),
