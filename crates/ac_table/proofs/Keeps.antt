@@ -34,7 +34,7 @@ changed_here : {X : Type 0} (a : ℕ) (w : Option X) (old new : List (ℕ × X))
 changed_here a w old new ch =
     let here : is_at (nat_cmp a) a ≡ true = grind (arith, is_at_same a a) in ch a ∙ rw here refl
 
-some_still : {X : Type 0} (a q : ℕ) (x : X) (old new : List (ℕ × X)) → ChangesAt a (Some x) old new
+pub some_still : {X : Type 0} (a q : ℕ) (x : X) (old new : List (ℕ × X)) → ChangesAt a (Some x) old new
     → IsSome (value_at q old) → IsSome (value_at q new)
 some_still a q x old new ch o = rw (ch q) (split (is_at (nat_cmp a) q))
   where
@@ -111,6 +111,23 @@ busy_same a s t seats new busy k re is b = split (is_at (nat_cmp a) b) refl
     split false other = rw (re.changes b, other) (k b)
 
 -- ---- one seat changes
+
+-- one seat has the handles of the actor's rows as they are now, and the rows of another are as before
+pub owned_reseated : (a b : ℕ) (t u : Seat) (seats new : List (ℕ × Seat)) (rows after : List Row) → IsOwned seats rows
+    → ChangesAt a (Some t) seats new → t.own.keys ≡ handles (rows_of a after)
+    → ((a == b) ≡ false → rows_of b after ≡ rows_of b rows) → value_at b new ≡ Some u
+    → u.own.keys ≡ handles (rows_of b after)
+owned_reseated a b t u seats new rows after k ch own others is = split (is_at (nat_cmp a) b) refl
+  where
+    split : (c : Bool) → is_at (nat_cmp a) b ≡ c → u.own.keys ≡ handles (rows_of b after)
+    split true same =
+        let number : a ≡ b = same_number a b same in
+        let seat : Some t ≡ Some u = sym (ch b ∙ rw same refl) ∙ is in
+        let u_is : t ≡ u = grind (arith, seat) in
+        subst (λ (n : ℕ). u.own.keys ≡ handles (rows_of n after)) number (rw (sym u_is) own)
+    split false other =
+        let apart : (a == b) ≡ false = grind (arith, is_at_same a b, other) in
+        k b u (sym (ch b ∙ rw other refl) ∙ is) ∙ ap handles (sym (others apart))
 
 owned_same : (a b : ℕ) (s t u : Seat) (seats new : List (ℕ × Seat)) (rows : List Row) → IsOwned seats rows
     → IsReseated a s t seats new → t.own.keys ≡ s.own.keys → value_at b new ≡ Some u

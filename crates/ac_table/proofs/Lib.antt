@@ -2,9 +2,16 @@ pub mod Becomes
 pub mod Changes
 pub mod Counting
 pub mod Finding
+pub mod Freeing
 pub mod Keeps
 pub mod Lowest
+pub mod Placing
 pub mod Removing
+pub mod Searching
+pub mod Sets
+pub mod Standing
+pub mod Stopping
 pub mod Taking
 pub mod Totals
+pub mod Trees
 pub mod Weighing

@@ -66,7 +66,7 @@ lowest_none (e ∷ es) none s =
     behind q true is = let clash : true ≡ false = sym (waits_behind q e es s is) ∙ none q in absurd cc
     behind q false is = is
 
-no_keys : (ks : List ℕ) → (0 < length ks → false ≡ true) → ks ≡ []
+pub no_keys : (ks : List ℕ) → (0 < length ks → false ≡ true) → ks ≡ []
 no_keys [] rises = refl
 no_keys (k ∷ ks) rises = let clash : false ≡ true = rises (omega arith) in absurd cc
 

@@ -9,7 +9,8 @@ abbrev pub actor_fault : ℕ → TableState → Option TableFault
 actor_fault a t = if is_live a t then None else Some NoActor
 
 abbrev pub facet_fault : ℕ → ℕ → TableState → Option TableFault
-facet_fault a facet t = if is_live a t then (if has_facet facet then None else Some NoFacet) else Some NoActor
+facet_fault a facet t =
+    if is_live a t then (if has_facet a facet t then None else Some NoFacet) else Some NoActor
 
 abbrev pub row_fault : ℕ → TableState → Option TableFault
 row_fault h t = if is_some (find_row h t.rows) then None else Some NoRow

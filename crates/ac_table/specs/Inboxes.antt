@@ -1,5 +1,5 @@
 -- What an inbox keeps of the batches that wait.
-use Rattle.std.specs.Prelude.{◌≡◌, ℕ, ◌==◌, Bool, nat_lt, List, length, unwrap_or, if◌then◌else◌}
+use Rattle.std.specs.Prelude.{◌≡◌, ℕ, ◌+◌, ◌==◌, Bool, nat_lt, List, length, unwrap_or, if◌then◌else◌}
 use Rattle.ac_table.specs.Maps.{value_at}
 use Rattle.ac_table.specs.Sums.{Load, nothing, both, sums_of, load_of_batch, load_if_from}
 use Rattle.ac_table.specs.Tables.{Batch}
@@ -16,6 +16,10 @@ AddsAt a l less more = (q : ℕ) → sent_by q more ≡ both (sent_by q less) (i
 pub record IsLoaded (bs : List Batch) (total : Load) (senders : List (ℕ × Load)) : Type 0 where
   pub all : total ≡ sums_of load_of_batch bs
   pub each : (a : ℕ) → sent_by a senders ≡ sums_of (load_if_from a) bs
+
+-- a number of batches changes as the length of an inbox does
+abbrev pub CountsOn : List Batch → List Batch → ℕ → ℕ → Type 0
+CountsOn old new n m = m + length old ≡ n + length new
 
 -- whether a batch waits
 abbrev pub is_busy : List Batch → Bool

@@ -1,13 +1,17 @@
--- How a table is kept: rows by handle; each live actor with the handles of its rows, what they weigh, and its inbox; the
--- actors for which a batch waits.
-use Rattle.std.specs.Prelude.{◌≡◌, ℕ, Bool, false, List, map, Option, Some, None, IsSome, ◌<◌}
+-- How a table is kept: rows by handle; each live actor with the handles of its rows, what they weigh, its inbox and its
+-- facets; the actors for which a batch waits; and how many batches do.
+use Rattle.std.specs.Prelude.{◌≡◌, ℕ, ◌+◌, length, [], ◌∷◌, Bool, false, List, map, Option, Some, None}
+use Rattle.std.specs.Prelude.{IsSome, ◌<◌, ◌==◌, not, filter}
+use Rattle.std.specs.Prelude.{◌&&◌}
 use Rattle.std.specs.List.{AllByRecursion}
 use Rattle.std.specs.Map.{values_of}
 use Rattle.pv_value.specs.Weight.{weight}
 use Rattle.ac_table.specs.Inboxes.{is_busy}
 pub use Rattle.ac_table.specs.Maps.{value_at, is_key, KeysAscend, ChangesAt, SetChangesAt}
+use Rattle.ac_table.specs.Facets.{Tree, AreBelow}
+use Rattle.ac_table.specs.Placed.{tree_in, has_at}
 use Rattle.ac_table.specs.Sums.{sum_of}
-use Rattle.ac_table.specs.Tables.{Row, Actor, TableState, handles, rows_of, rows_of_others}
+use Rattle.ac_table.specs.Tables.{Row, Actor, TableState, handles, rows_of, find_row, tree_of, stands_in}
 use Rattle.ac_table.specs.declared.table.Seat.{Seat}
 
 abbrev pub by_handle : Row → ℕ × Row
@@ -22,8 +26,13 @@ abbrev pub waits_at : Option Seat → Bool
 waits_at None = false
 waits_at (Some s) = is_busy s.inbox
 
+-- and its tree of facets
+abbrev pub tree_seen : ℕ × Seat → ℕ × Tree
+tree_seen e = (e.0, tree_in e.1.facets)
+
 abbrev pub state_of : ℕ → List (ℕ × Row) → List (ℕ × Seat) → TableState
-state_of next rows seats = record { next = next; rows = values_of rows; actors = map seen seats }
+state_of next rows seats =
+    record { next = next; rows = values_of rows; actors = map seen seats; trees = map tree_seen seats }
 
 -- each live actor has the handles of its rows
 abbrev pub IsOwned : List (ℕ × Seat) → List Row → Type 0
@@ -41,9 +50,16 @@ IsWeighed seats rows = (a : ℕ) (s : Seat) → value_at a seats ≡ Some s → 
 abbrev pub IsBusy : List ℕ → List (ℕ × Seat) → Type 0
 IsBusy busy seats = (a : ℕ) → is_key a busy ≡ waits_at (value_at a seats)
 
--- rows are taken out by these handles: where they are those of an actor, so are the rows
+-- rows are taken out by these handles: where they are those of the rows that pass a test, so are the rows
 abbrev pub Takes : List ℕ → List Row → List Row → List Row → Type 0
-Takes ks old new taken = (a : ℕ) → ks ≡ handles (rows_of a old) → (new ≡ rows_of_others a old) × (taken ≡ rows_of a old)
+Takes ks old new taken = (p : Row → Bool) → ks ≡ handles (filter p old)
+    → (new ≡ filter (λ r. not (p r)) old) × (taken ≡ filter p old)
+
+-- what goes where a facet stops
+pub record AreStopping (a f : ℕ) (facets hs told : List ℕ) (t : TableState) : Type 0 where
+  pub below : AreBelow f (tree_of a t) facets
+  pub rows : hs ≡ handles (filter (stands_in a facets) t.rows)
+  pub same : told ≡ hs
 
 pub record IsKept (next : ℕ) (rows : List (ℕ × Row)) (seats : List (ℕ × Seat)) (busy : List ℕ) : Type 0 where
   pub keyed : rows ≡ map by_handle (values_of rows)
@@ -54,3 +70,25 @@ pub record IsKept (next : ℕ) (rows : List (ℕ × Row)) (seats : List (ℕ × 
   pub owned : IsOwned seats (values_of rows)
   pub weighed : IsWeighed seats (values_of rows)
   pub busy_is : IsBusy busy seats
+
+-- whether a row is an actor's, in a facet
+abbrev pub stands_at : ℕ → ℕ → Option Row → Bool
+stands_at a f None = false
+stands_at a f (Some r) = r.owner == a && r.facet == f
+
+-- each facet of a live actor has the actor's rows in it, and no row is in a facet that isn't there
+abbrev pub AreStanding : List (ℕ × Seat) → List Row → Type 0
+AreStanding seats rows = (a : ℕ) (s : Seat) → value_at a seats ≡ Some s
+    → (f h : ℕ) → has_at f h s.facets ≡ stands_at a f (find_row h rows)
+
+-- how many batches wait at the seats
+abbrev pub waiting_at : List (ℕ × Seat) → ℕ
+waiting_at [] = 0
+waiting_at (e ∷ es) = length e.1.inbox + waiting_at es
+
+-- and what is kept beside it: how many batches wait
+pub record IsWhole (next : ℕ) (rows : List (ℕ × Row)) (seats : List (ℕ × Seat)) (busy : List ℕ) (waiting : ℕ)
+    : Type 0 where
+  pub kept : IsKept next rows seats busy
+  pub counted : waiting ≡ waiting_at seats
+  pub standing : AreStanding seats (values_of rows)

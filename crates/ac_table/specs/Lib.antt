@@ -1,7 +1,9 @@
+pub mod Facets
 pub mod Faults
 pub mod Inboxes
 pub mod Kept
 pub mod Lemmas
 pub mod Maps
+pub mod Placed
 pub mod Sums
 pub mod Tables

@@ -5,6 +5,7 @@
 #![tactic(auto)]
 
 mod batches;
+mod facets;
 mod handles;
 mod inbox;
 mod keeping;

@@ -1,20 +1,27 @@
 //! The table, as ordered maps.
 ghost use Rattle.std.specs.Prelude.{◌≡◌, ◌<◌, ◌≤◌, ◌^◌, ◌-◌, false, min, IfOk, OnOk, OnErr, Err};
-ghost use Rattle.std.specs.Prelude.{option_copied, MatchOption, None, Some, IfNone, ◌≢◌};
+ghost use Rattle.std.specs.Prelude.{option_copied, MatchOption, None, Some, IfNone, ◌≢◌, []};
+ghost use Rattle.std.specs.Prelude.{vec_capacity, true};
 ghost use Rattle.ac_table.specs.declared.TableFault.TheVariants.{NoMemory as no_memory};
 ghost use Rattle.ac_table.specs.Faults.{actor_fault, facet_fault, row_fault, Faults, ExactFaults};
 ghost use Rattle.ac_table.specs.Sums.{top, top_load, load_for, load_sent, load_below, weight_owned};
 ghost use Rattle.ac_table.specs.Tables.{opening, is_live, find_row, rows_of};
-ghost use Rattle.ac_table.specs.Tables.{first_batch};
+ghost use Rattle.ac_table.specs.Tables.{first_batch, has_facet, tree_of, faceted, IsStopped};
+ghost use Rattle.ac_table.specs.Facets.{IsLeastFree, IsTree};
+ghost use Rattle.ac_table.specs.Kept.{AreStopping};
+ghost use Rattle.std.specs.BTreeSet.{btree_set_len};
+ghost use Rattle.std.specs.List.Sorted.{IsStrictlySortedBy};
+ghost use Rattle.std.specs.Ordering.{nat_cmp};
 ghost use Rattle.ac_table.specs.Tables.{lowest, waiting, joined, asserted, retracted, ended};
 ghost use Rattle.ac_table.specs.Tables.{pushed};
 ghost use Rattle.ac_table.specs.Tables.{popped, IsTable};
 
 use crate::TableFault;
 use crate::batches::{Batch, Row};
+use crate::facets::Facets;
 use crate::handles::NextHandle;
 use crate::inbox::Inbox;
-use crate::keeping::{pop_busy, push_busy, put_row, take_rows};
+use crate::keeping::{disown, list, pop_busy, push_busy, put_row, take_off_all, take_rows};
 use crate::loads::Load;
 use crate::sum::Sum;
 use pv_value::{NoMemory, Value, weight};
@@ -22,15 +29,26 @@ use std::alloc::Global;
 use std::collections::{BTreeMap, BTreeSet};
 use std::marker::Model;
 
-/// A live actor: the handles of its rows, what they weigh, and what waits for it.
+/// A live actor: the handles of its rows, what they weigh, what waits for it, and its facets.
 #[derive(Drop)]
 struct Seat {
     own: BTreeSet<u64>,
     row_weight: Sum,
     inbox: Inbox,
+    facets: Facets,
 }
 
-/// Live actors with their inboxes, and rows.
+/// What goes where a facet stops: facets, the handles of their rows, which are to be told, and room
+/// for these rows.
+#[derive(Drop)]
+struct Stopping {
+    facets: BTreeSet<u32>,
+    handles: BTreeSet<u64>,
+    told: Vec<u64>,
+    room: Vec<Row>,
+}
+
+/// Live actors with their inboxes and facets, and rows.
 #[derive(Drop)]
 pub struct Table {
     alloc: Global,
@@ -39,6 +57,8 @@ pub struct Table {
     seats: BTreeMap<u32, Seat>,
     /// The actors for which a batch waits.
     busy: BTreeSet<u32>,
+    /// How many batches wait.
+    waiting: u64,
 }
 
 impl Model for Table {
@@ -50,11 +70,12 @@ impl Model for Table {
 
     ghost coded = { Prim.hlevel (codes, plain_code) };
 
-    ghost use Rattle.ac_table.specs.Kept.{state_of, IsKept};
+    ghost use Rattle.ac_table.specs.Kept.{state_of, IsWhole};
 
     ghost view = { λ t. state_of t.next t.rows.entries t.seats.entries };
 
-    ghost invariant = { λ t. IsKept t.next t.rows.entries t.seats.entries t.busy.keys };
+    ghost invariant = { λ t. IsWhole t.next t.rows.entries t.seats.entries t.busy.keys
+        t.waiting };
 }
 
 impl Table {
@@ -68,6 +89,7 @@ impl Table {
             rows: BTreeMap::new(alloc),
             seats: BTreeMap::new(alloc),
             busy: BTreeSet::new(alloc),
+            waiting: 0,
         }
     }
 
@@ -81,6 +103,16 @@ impl Table {
         ensures { option_copied result ≡ find_row handle self.now.rows }
     {
         self.rows.get(&handle)
+    }
+
+    /// Whether a live actor has a facet.
+    pub fn has_facet(&self, actor: u32, facet: u32) -> bool
+        ensures { result ≡ has_facet actor facet self.now }
+    {
+        match self.seats.get(&actor) {
+            Some(seat) => seat.facets.has(facet),
+            None => false,
+        }
     }
 
     /// The handle that the next row gets.
@@ -151,11 +183,7 @@ impl Table {
     pub fn batches(&self) -> u64
         ensures { result ≡ min (waiting self.now) (2 ^ 64 - 1) }
     {
-        let mut waiting: u64 = 0;
-        for seat in self.seats.values() {
-            waiting = waiting.saturating_add(seat.inbox.len() as u64);
-        }
-        waiting
+        self.waiting
     }
 
     /// What is true of every table.
@@ -165,19 +193,121 @@ impl Table {
         let _ = &self.next;
     }
 
+    /// What is true of an actor's facets.
+    pub fn keeps_its_tree(&self, actor: u32)
+        ensures { IsTree (tree_of actor self.now) }
+    {
+        match self.seats.get(&actor) {
+            Some(seat) => seat.facets.keeps_its_tree(),
+            None => {}
+        }
+    }
+
     /// Makes an actor live that isn't, as one is whose number was never used.
     pub fn add_actor(&mut self, actor: u32) -> Result<(), NoMemory>
         requires { is_live actor self.old ≡ false }
         ensures joined { OnOk result (self.new ≡ joined actor self.old) }
         ensures unchanged { OnErr result (self.new ≡ self.old) }
     {
+        let facets = Facets::new(self.alloc)?;
         let seat = Seat {
             own: BTreeSet::new(self.alloc),
             row_weight: Sum::none(),
             inbox: Inbox::new(self.alloc),
+            facets,
         };
         self.seats.insert(actor, seat)?;
         Ok(())
+    }
+
+    /// One more facet of an actor, right below another; answers its number, the least from 1 that
+    /// none has. Where none of 32 bits is free memory is said to be wanting.
+    pub fn add_facet(&mut self, actor: u32, parent: u32) -> Result<u32, TableFault>
+        ensures fault { Faults (facet_fault actor parent self.old) self.old self.new result }
+        ensures made { IfOk result (λ n. self.new ≡ faceted actor parent n self.old) }
+        ensures least { IfOk result (λ n. IsLeastFree n (tree_of actor self.old)) }
+    {
+        if !self.live(actor) {
+            return Err(TableFault::NoActor);
+        }
+        if !self.has_facet(actor, parent) {
+            return Err(TableFault::NoFacet);
+        }
+        let Some(seat) = self.seats.get_mut(&actor) else {
+            return Err(TableFault::NoActor);
+        };
+        let number = seat.facets.add(self.alloc, parent)?;
+        Ok(number)
+    }
+
+    /// What goes where a facet of a live actor stops.
+    fn stopping(&self, actor: u32, facet: u32) -> Result<Stopping, NoMemory>
+        requires { has_facet actor facet self.now ≡ true }
+        ensures stopping { IfOk result (λ s. AreStopping actor facet s.facets.keys s.handles.keys
+            s.told.items self.now) }
+        ensures ascending { IfOk result (λ s. IsStrictlySortedBy nat_cmp s.told.items) }
+        ensures empty { IfOk result (λ s. s.room.items ≡ []) }
+        ensures room { IfOk result (λ s. btree_set_len s.handles ≤ vec_capacity s.room) }
+    {
+        let Some(seat) = self.seats.get(&actor) else {
+            return Err(NoMemory);
+        };
+        let facets = seat.facets.all_below(self.alloc, facet)?;
+        let handles = seat.facets.rows_in(self.alloc, &facets)?;
+        let told = list(self.alloc, &handles)?;
+        let room = Vec::with_capacity(self.alloc, handles.len())?;
+        Ok(Stopping {
+            facets,
+            handles,
+            told,
+            room,
+        })
+    }
+
+    /// These facets of a live actor go, with exactly their rows.
+    fn stop(&mut self, actor: u32, facet: u32, stopping: Stopping) -> Result<Vec<u64>, NoMemory>
+        requires there { has_facet actor facet self.old ≡ true }
+        requires stopping { AreStopping actor facet stopping.facets.keys stopping.handles.keys
+            stopping.told.items self.old }
+        requires empty { stopping.room.items ≡ [] }
+        requires room { btree_set_len stopping.handles ≤ vec_capacity stopping.room }
+        ensures stopped { IfOk result (λ handles. IsStopped actor facet self.old self.new
+            handles.items) }
+        ensures told { IfOk result (λ handles. handles.items ≡ stopping.told.items) }
+    {
+        let Stopping {
+            facets,
+            handles,
+            told,
+            room,
+        } = stopping;
+        let Some(seat) = self.seats.get_mut(&actor) else {
+            return Err(NoMemory);
+        };
+        seat.facets.remove(facet, &facets)?;
+        disown(&mut seat.own, &handles);
+        let taken = take_rows(&mut self.rows, handles, room);
+        take_off_all(&mut seat.row_weight, &taken);
+        Ok(told)
+    }
+
+    /// Stops an actor's facet and all that are below it: they go, with exactly their rows. Answers
+    /// the handles of these rows, ascending.
+    pub fn stop_facet(&mut self, actor: u32, facet: u32) -> Result<Vec<u64>, TableFault>
+        ensures fault { Faults (facet_fault actor facet self.old) self.old self.new result }
+        ensures stopped { IfOk result (λ handles. IsStopped actor facet self.old self.new
+            handles.items) }
+        ensures ascending { IfOk result (λ handles. IsStrictlySortedBy nat_cmp handles.items) }
+    {
+        if !self.live(actor) {
+            return Err(TableFault::NoActor);
+        }
+        if !self.has_facet(actor, facet) {
+            return Err(TableFault::NoFacet);
+        }
+        let stopping = self.stopping(actor, facet)?;
+        let handles = self.stop(actor, facet, stopping)?;
+        Ok(handles)
     }
 
     /// One more row of the owner, at the object `to.1` of the actor `to.0`; answers its handle.
@@ -197,7 +327,7 @@ impl Table {
         if !self.live(owner) {
             return Err(TableFault::NoActor);
         }
-        if facet != 0 {
+        if !self.has_facet(owner, facet) {
             return Err(TableFault::NoFacet);
         }
         let handle = self.next.get();
@@ -217,7 +347,7 @@ impl Table {
             entity: to.1,
             value,
         };
-        put_row(&mut self.rows, &mut seat.own, row)?;
+        put_row(&mut self.rows, &mut seat.own, &mut seat.facets, row)?;
         seat.row_weight.add(weight);
         self.next.advance();
         Ok(handle)
@@ -238,6 +368,7 @@ impl Table {
             return Ok(row);
         };
         seat.own.remove(&handle);
+        seat.facets.remove_row(row.facet, handle);
         seat.row_weight.take_off(weight(&row.value));
         Ok(row)
     }
@@ -256,6 +387,7 @@ impl Table {
             return Err(TableFault::NoActor);
         };
         self.busy.remove(&actor);
+        self.waiting -= seat.inbox.len() as u64;
         Ok(take_rows(&mut self.rows, seat.own, room))
     }
 
@@ -267,7 +399,13 @@ impl Table {
         let Some(seat) = self.seats.get_mut(&actor) else {
             return Err(TableFault::NoActor);
         };
-        push_busy(&mut self.busy, actor, &mut seat.inbox, batch)?;
+        push_busy(
+            &mut self.busy,
+            &mut self.waiting,
+            actor,
+            &mut seat.inbox,
+            batch,
+        )?;
         Ok(())
     }
 
@@ -282,6 +420,7 @@ impl Table {
         let Some(seat) = self.seats.get_mut(&actor) else {
             return Err(TableFault::NoActor);
         };
-        Ok(pop_busy(&mut self.busy, actor, &mut seat.inbox))
+        let batch = pop_busy(&mut self.busy, &mut self.waiting, actor, &mut seat.inbox);
+        Ok(batch)
     }
 }

@@ -130,7 +130,7 @@ others_keep a h (x ∷ xs) r is other = grind (arith, nat_tests, is, others_keep
 -- the plan after the rows rs of the actor a went, in order, with none of them left
 abbrev pub emptied : ℕ → List Row → Plan → Plan
 emptied a rs p = record {
-  table = record { next = p.table.next; rows = rows_of_others a p.table.rows; actors = p.table.actors };
+  table = record p.table { rows = rows_of_others a p.table.rows };
   out = retractions rs p.out;
 }
 
@@ -138,7 +138,7 @@ emptied_moves : (a : ℕ) (t : TableState) (rs : List Row) (p : Plan) → rows_o
     → Moves a t (emptied a rs p)
 emptied_moves a t [] p is m =
     subst (λ (rows : List Row). Moves a t (record {
-      table = record { next = p.table.next; rows = rows; actors = p.table.actors };
+      table = record p.table { rows = rows };
       out = p.out;
     })) (sym (none_own a p.table.rows is)) m
 emptied_moves a t (r ∷ rs) p is m =
@@ -147,7 +147,7 @@ emptied_moves a t (r ∷ rs) p is m =
     let less : Moves a t (drop_row r p) =
     rw own at (subst (λ o. Moves a t (drop_own a o p)) k.found (dropped_moves a t p m r.handle)) in
     subst (λ (rows : List Row). Moves a t (record {
-      table = record { next = p.table.next; rows = rows; actors = p.table.actors };
+      table = record p.table { rows = rows };
       out = retractions (r ∷ rs) p.out;
     })) k.others (emptied_moves a t rs (drop_row r p) k.rest less)
 

@@ -63,7 +63,7 @@ live_from_numbers a xs ys same = in_numbers a xs ∙ ap (list_any (λ k. k == a)
 
 -- a table stays one where the actors' numbers stay
 pub table_from_numbers : (t : TableState) (xs : List Actor) → map (λ x. x.number) xs ≡ map (λ x. x.number) t.actors
-    → IsTable t → IsTable (record { next = t.next; rows = t.rows; actors = xs })
+    → IsTable t → IsTable (record t { actors = xs })
 table_from_numbers t xs same k = record {
   rows_ascend = k.rows_ascend;
   rows_below_next = k.rows_below_next;

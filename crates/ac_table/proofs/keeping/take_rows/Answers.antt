@@ -8,7 +8,7 @@ loop-handle-init c = record {
   keyed = c.requires.keyed;
   ordered = c.requires.ordered;
   room = grind (arith, c.requires.room, c.requires.empty);
-  taking = λ a own. record { left_is = own; all = rw c.requires.empty refl; others = refl };
+  taking = λ p own. record { left_is = own; all = rw c.requires.empty refl; rest = refl };
 }
 
 pub loop-handle-preserved-in-Some-remove : goal.loop-handle-preserved-in-Some-remove

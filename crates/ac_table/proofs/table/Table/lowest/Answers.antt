@@ -6,6 +6,6 @@ use Rattle.ac_table.proofs.table.Table.lowest.Goals as goal
 pub returns : goal.returns
 returns c = let i = c.self.inside in
     c.copied.ensures
-    ∙ lowest_from i.busy i.seats.entries c.first.result c.self.invariant.seats_ascend c.self.invariant.busy_is
+    ∙ lowest_from i.busy i.seats.entries c.first.result c.self.invariant.kept.seats_ascend c.self.invariant.kept.busy_is
     c.first.ensures.variant.1 c.first.ensures.member c.first.ensures.least
     ∙ ap lowest c.self.view_is

@@ -6,7 +6,10 @@ use Rattle.ac_table.specs.Kept.{state_of, waits_at}
 use Rattle.ac_table.specs.Tables.{Batch, first_batch}
 use Rattle.ac_table.specs.declared.table.Seat.{Seat}
 use Rattle.ac_table.proofs.Becomes.{popped_is, same_is}
+use Rattle.ac_table.proofs.Counting.{counted_set, counted_within}
 use Rattle.ac_table.proofs.Finding.{fault_from, no_fault, front_of, first_batch-seen}
+use Rattle.ac_table.proofs.Standing.{standing_same}
+use Rattle.std.specs.Map.{values_of}
 use Rattle.ac_table.proofs.Keeps.{reseated_from, kept_reseated, busy_set}
 use Rattle.ac_table.proofs.table.Table.pop_batch.Goals as goal
 
@@ -18,19 +21,37 @@ returns-in_default-clause-fault c = let i = c.self.inside in (
       ∙ c.self.view_is,
 )
 
-pub pop_busy-requires : goal.pop_busy-requires
-pop_busy-requires c = c.self.invariant.busy_is c.args.actor ∙ ap waits_at (sym c.in-Some.ensures.value)
+pub pop_busy-batch-requires-clause-busy : goal.pop_busy-batch-requires-clause-busy
+pop_busy-batch-requires-clause-busy c =
+    c.self.invariant.kept.busy_is c.args.actor ∙ ap waits_at (sym c.in-Some.ensures.value)
+
+pub pop_busy-batch-requires-clause-counted : goal.pop_busy-batch-requires-clause-counted
+pop_busy-batch-requires-clause-counted c = let i = c.self.inside in
+    counted_within c.args.actor i.waiting c.in-Some.seat.now i.seats.entries c.self.invariant.counted
+    (sym c.in-Some.ensures.value)
 
 pub invariant_of-self-2 : goal.invariant_of-self-2
 invariant_of-self-2 c = let i = c.self.inside in
-    let k = c.self.invariant in
+    let k = c.self.invariant.kept in
     let s = c.in-Some.seat.now in
-    let t : Seat = record { own = s.own; row_weight = s.row_weight; inbox = c.pop_busy.new.inbox } in
+    let t : Seat = record {
+      own = s.own;
+      row_weight = s.row_weight;
+      inbox = c.pop_busy-batch.new.inbox;
+      facets = s.facets;
+    } in
     let new = c.get_mut.follows.lender t in
     let re = reseated_from c.args.actor s t i.seats new (sym c.in-Some.ensures.value) (c.get_mut.follows.holds t) in
-    kept_reseated c.args.actor i.next s t i.rows.entries i.seats.entries new.entries i.busy.keys
-    c.pop_busy.new.busy.keys k re refl refl (busy_set c.args.actor (is_busy t.inbox) (Some t) i.seats.entries
-    new.entries i.busy.keys c.pop_busy.new.busy.keys k.busy_is re.changes c.pop_busy.ensures.busy refl)
+    record {
+      kept = kept_reseated c.args.actor i.next s t i.rows.entries i.seats.entries new.entries i.busy.keys
+          c.pop_busy-batch.new.busy.keys k re refl refl (busy_set c.args.actor (is_busy t.inbox) (Some t)
+          i.seats.entries new.entries i.busy.keys c.pop_busy-batch.new.busy.keys k.busy_is re.changes
+          c.pop_busy-batch.ensures.busy refl);
+      counted = counted_set c.args.actor i.waiting c.pop_busy-batch.new.waiting s t i.seats.entries new.entries
+          c.self.invariant.counted re.was (c.get_mut.follows.holds t).0 c.pop_busy-batch.ensures.counted;
+      standing = standing_same c.args.actor s t i.seats.entries new.entries (values_of i.rows.entries)
+          c.self.invariant.standing re (λ f h. refl);
+    }
 
 pub returns-clause-fault : goal.returns-clause-fault
 returns-clause-fault c = let i = c.self.inside in
@@ -39,18 +60,23 @@ returns-clause-fault c = let i = c.self.inside in
 
 pub returns-clause-batch : goal.returns-clause-batch
 returns-clause-batch c = let i = c.self.inside in
-    c.pop_busy.ensures.batch ∙ ap front_of c.in-Some.ensures.value
+    c.pop_busy-batch.ensures.batch ∙ ap front_of c.in-Some.ensures.value
     ∙ sym (first_batch-seen c.args.actor i.next i.rows.entries i.seats.entries)
     ∙ ap (first_batch c.args.actor) c.self.view_is
 
 pub returns-clause-popped : goal.returns-clause-popped
 returns-clause-popped c = let i = c.self.inside in
     let s = c.in-Some.seat.now in
-    let t : Seat = record { own = s.own; row_weight = s.row_weight; inbox = c.pop_busy.new.inbox } in
+    let t : Seat = record {
+      own = s.own;
+      row_weight = s.row_weight;
+      inbox = c.pop_busy-batch.new.inbox;
+      facets = s.facets;
+    } in
     let new = c.get_mut.follows.lender t in
     let w = c.get_mut.follows.holds t in
     popped_is c.args.actor i.next s t i.rows.entries i.seats.entries new.entries _ c.self.view_is
-    (sym c.in-Some.ensures.value) c.pop_busy.ensures.rest w.0
+    (sym c.in-Some.ensures.value) c.pop_busy-batch.ensures.rest refl w.0
 
 if_none : {X : Type 0} (r : Option X) (P : Type 0) → (r ≡ None → P) → IfNone r P
 if_none None P holds = holds refl
@@ -64,11 +90,16 @@ none_taken (b ∷ bs) none = absurd cc
 pub returns-clause-none : goal.returns-clause-none
 returns-clause-none c = let i = c.self.inside in
     let s = c.in-Some.seat.now in
-    let t : Seat = record { own = s.own; row_weight = s.row_weight; inbox = c.pop_busy.new.inbox } in
+    let t : Seat = record {
+      own = s.own;
+      row_weight = s.row_weight;
+      inbox = c.pop_busy-batch.new.inbox;
+      facets = s.facets;
+    } in
     let new = c.get_mut.follows.lender t in
     let w = c.get_mut.follows.holds t in
-    if_none c.pop_busy.result _ (λ none.
+    if_none c.pop_busy-batch.result _ (λ none.
     let same : t.inbox ≡ s.inbox =
-    c.pop_busy.ensures.rest ∙ none_taken s.inbox (sym c.pop_busy.ensures.batch ∙ none) in
+    c.pop_busy-batch.ensures.rest ∙ none_taken s.inbox (sym c.pop_busy-batch.ensures.batch ∙ none) in
     same_is c.args.actor i.next s t i.rows.entries i.seats.entries new.entries _ c.self.view_is
-    (sym c.in-Some.ensures.value) same w.0)
+    (sym c.in-Some.ensures.value) same refl w.0)

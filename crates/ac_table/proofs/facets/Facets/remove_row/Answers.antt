@@ -1,0 +1,43 @@
+use Rattle.std.proofs.Common.{◌∙◌, sym, ap, refl, subst, ℕ, List, map, true, false}
+use Rattle.ac_table.specs.Placed.{facet_seen, tree_in, HasRow, FacetState}
+use Rattle.ac_table.specs.declared.facets.Facet.{Facet}
+use Rattle.ac_table.proofs.Placing.{refaceted_from, placed_same, same_tree, keeps_links, has_row}
+use Rattle.std.specs.BTreeMap.{BTreeMap}
+use Rattle.ac_table.proofs.Placing.{no_row}
+use Rattle.ac_table.proofs.facets.Facets.remove_row.Goals as goal
+
+pub returns-in_default-clause-gone : goal.returns-in_default-clause-gone
+returns-in_default-clause-gone c = let i = c.self.inside in
+    subst (λ (fs : List (ℕ × FacetState)). HasRow c.args.facet c.args.handle false fs (map facet_seen
+    c.get_mut.follows.lender-at-none.entries)) c.self.view_is
+    (subst (λ (m : BTreeMap ℕ Facet). HasRow c.args.facet c.args.handle false (map facet_seen i.all.entries)
+    (map facet_seen m.entries)) (sym c.get_mut.follows.holds-at-none)
+    (no_row c.args.facet c.args.handle i.all.entries (sym c.in_default.ensures.value)))
+
+pub invariant_of-self-2 : goal.invariant_of-self-2
+invariant_of-self-2 c = let i = c.self.inside in
+    let x = c.in-Some.it.now in
+    let y : Facet = record { parent = x.parent; below = x.below; rows = c.remove.new.self } in
+    let new = c.get_mut.follows.lender y in
+    let re = refaceted_from c.args.facet x y i.all new (sym c.in-Some.ensures.value) (c.get_mut.follows.holds y) in
+    placed_same i.all.entries new.entries i.free.keys i.end c.self.invariant
+    (same_tree c.args.facet x y i.all.entries new.entries re refl)
+    (keeps_links (λ k. true) c.args.facet x y i.all.entries new.entries re refl (λ k s have. have)) re.ascends
+
+pub returns-clause-tree : goal.returns-clause-tree
+returns-clause-tree c = let i = c.self.inside in
+    let x = c.in-Some.it.now in
+    let y : Facet = record { parent = x.parent; below = x.below; rows = c.remove.new.self } in
+    let new = c.get_mut.follows.lender y in
+    let re = refaceted_from c.args.facet x y i.all new (sym c.in-Some.ensures.value) (c.get_mut.follows.holds y) in
+    same_tree c.args.facet x y i.all.entries new.entries re refl ∙ ap tree_in c.self.view_is
+
+pub returns-clause-gone : goal.returns-clause-gone
+returns-clause-gone c = let i = c.self.inside in
+    let x = c.in-Some.it.now in
+    let y : Facet = record { parent = x.parent; below = x.below; rows = c.remove.new.self } in
+    let new = c.get_mut.follows.lender y in
+    let re = refaceted_from c.args.facet x y i.all new (sym c.in-Some.ensures.value) (c.get_mut.follows.holds y) in
+    subst (λ (fs : List (ℕ × FacetState)). HasRow c.args.facet c.args.handle false fs (map facet_seen new.entries))
+    c.self.view_is
+    (has_row c.args.facet c.args.handle false x y i.all.entries new.entries re c.remove.ensures.updates.0)

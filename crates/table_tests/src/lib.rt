@@ -1,0 +1,5 @@
+//! Tests of the table of actors: trees of facets, which no program makes yet.
+#![tactic(auto)]
+
+#[cfg(test)]
+mod facets;
