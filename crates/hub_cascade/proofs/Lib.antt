@@ -1,0 +1,10 @@
+pub mod Ends
+pub mod Over
+pub mod Told
+pub mod Endings
+pub mod Taking
+pub mod TurnsOut
+pub mod Fewer
+pub mod Uncounted
+pub mod Retracting
+pub mod Retractions
