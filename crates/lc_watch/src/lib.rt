@@ -1,0 +1,17 @@
+//! Behaviours of watchers: what a watcher asserts of the captures that it is told.
+//!
+//! A behaviour has a name, and `specs/Behaviours.antt` has the table of all. [`Watcher`] keeps a
+//! function that answers the table; [`Table`] is one.
+#![tactic(auto)]
+
+mod behaviours;
+mod laws;
+mod tables;
+#[cfg(test)]
+mod tests;
+mod watchers;
+
+pub use behaviours::{Behaves, Behaviour};
+pub use laws::eight_at_most;
+pub use tables::Table;
+pub use watchers::Watcher;
