@@ -5,7 +5,8 @@ use Rattle.std.specs.List.{AllByRecursion}
 use Rattle.std.specs.Map.{keys_of}
 use Rattle.ac_table.specs.Tables.{is_live}
 use Rattle.ac_world.specs.Worlds.{WorldState, gone, actor_of, binding}
-use Rattle.sr_caveat.specs.Patterns.{caveats}
+use Rattle.ps_schema.specs.declared.Definition.{Definition}
+use Rattle.sr_caveat.specs.Patterns.{Caveat, caveats}
 use Rattle.lc_guard.specs.Knowing.{all_known}
 use Rattle.gk_sturdy.specs.declared.bound.Binding.{Binding}
 use Rattle.hub_machine.specs.declared.faults.Fault.{Fault}
@@ -76,6 +77,13 @@ module _ (n : ℕ) (b : Binding) (c : Setting) (s : State) (at : IsAt c s) where
   by_known known is =
       ap (λ k. if k then bound_by n (step (state_of c) (Bind b)).reply (with_step (Bind b) c) else stops (bad n))
       (ap (λ ds. all_known ds (caveats b.cap.caveats)) (sym at.schema) ∙ is)
+
+  -- what was asked of the guards' names tells of the state's schema
+  pub as_asked : (ds : List Definition) (cs : List Caveat) (answer known : Bool) → ds ≡ s.world.schema
+      → cs ≡ b.cap.caveats → answer ≡ all_known ds (caveats cs) → answer ≡ known
+      → all_known s.world.schema (caveats b.cap.caveats) ≡ known
+  as_asked ds cs answer known schema behind asked is =
+      (λ i. all_known (sym schema i) (caveats (sym behind i))) ∙ sym asked ∙ is
 
   pub unknown : all_known s.world.schema (caveats b.cap.caveats) ≡ false → binds n b c ≡ stops (bad n)
   unknown is = by_known false is

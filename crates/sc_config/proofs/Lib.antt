@@ -1,5 +1,3 @@
 pub mod Binding
-pub mod FaultsPassed
-pub mod OneCourse
 pub mod Parts
 pub mod TextCourses

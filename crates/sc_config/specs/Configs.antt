@@ -1,23 +1,18 @@
 -- What stands of a text as a configuration: the state that its schema and its bindings make, or the first cause for
 -- which it is refused. It is read as a script in text is, and its events are a schema, first if at all, and bindings.
-use Rattle.std.specs.Prelude.{◌≡◌, ℕ, Bool, List, Option, Some, None}
+use Rattle.std.specs.Prelude.{◌≡◌, ℕ, List, Option, Some, None}
 use Rattle.std.specs.List.{AllByRecursion}
-use Rattle.pv_value.specs.Plain.{Plain}
-use Rattle.ps_schema.specs.declared.Definition.{Definition}
 use Rattle.hub_machine.specs.State.{State, opening}
 use Rattle.hub_machine.specs.declared.steps.Step.{Step}
 use Rattle.hub_machine.specs.declared.steps.Step.TheVariants.{Bind}
 use Rattle.hub_laws.specs.Laws.{AreAllowed}
 use Rattle.sc_events.specs.declared.inputs.Form.TheVariants.{Text}
-use Rattle.sc_events.specs.Readings.{AreReadAs}
-use Rattle.sc_schema.specs.Firsts.{first_text, IsVerdict}
+use Rattle.sc_schema.specs.Courses.{IsCourseOfValues}
 use Rattle.sc_config.specs.declared.faults.ConfigFault.{ConfigFault}
-use Rattle.sc_config.specs.Courses.{Setting, Cause, Course, set, stops, course_of, state_of, cause_in}
+use Rattle.sc_config.specs.Courses.{Setting, Cause, Course, goes, stops, doing, state_of, cause_in}
 
 abbrev pub IsCourseOf : List ℕ → Course → Type 0
-IsCourseOf text course =
-    (vs : List Plain) × (whole : Bool) × AreReadAs Text text vs whole
-    × (o : Option (List Definition)) × IsVerdict (first_text vs) o × (course ≡ course_of o vs whole)
+IsCourseOf text course = IsCourseOfValues doing Text text course
 
 abbrev pub IsBinding : Step → Type 0
 IsBinding (Bind b) = Unit {0}
@@ -26,7 +21,7 @@ IsBinding e = ⊥
 -- the text sets this state, by steps that bind, each of which met its condition
 abbrev pub IsConfigured : List ℕ → State → Type 0
 IsConfigured text s =
-    (c : Setting) × IsCourseOf text (set c) × AreAllowed (opening c.schema) c.steps
+    (c : Setting) × IsCourseOf text (goes c) × AreAllowed (opening c.schema) c.steps
     × AllByRecursion IsBinding c.steps × (s ≡ state_of c)
 
 -- the text is refused for the cause that a fault tells; where memory ran out, nothing is said

@@ -1,10 +1,11 @@
 -- What is promised of each part of a configuration, from where it is. What is promised of a text speaks of none of it.
-use Rattle.std.specs.Prelude.{◌≡◌, Option, Some, None}
+use Rattle.std.specs.Prelude.{◌≡◌}
 use Rattle.std.specs.List.{AllByRecursion}
 use Rattle.hub_machine.specs.State.{State, opening}
 use Rattle.hub_laws.specs.Laws.{AreAllowed}
+use Rattle.sc_schema.specs.Courses.{GoesTo, StopsFor}
 use Rattle.sc_config.specs.declared.faults.ConfigFault.{ConfigFault}
-use Rattle.sc_config.specs.Courses.{Setting, Cause, Course, set, stops, state_of, cause_in}
+use Rattle.sc_config.specs.Courses.{Setting, Course, state_of, cause_in}
 use Rattle.sc_config.specs.Configs.{IsBinding}
 
 -- the steps bind, and each met its condition; the state is theirs, and guards judge by the schema in it
@@ -15,12 +16,7 @@ pub record IsAt (c : Setting) (s : State) : Type 0 where
   pub schema : s.world.schema ≡ c.schema
 
 abbrev pub HasSet : Course → State → Type 0
-HasSet (set c) s = IsAt c s
-HasSet (stops cause) s = ⊥
-
-abbrev pub StopsFor : Course → Option Cause → Type 0
-StopsFor course None = Unit {0}
-StopsFor course (Some cause) = course ≡ stops cause
+HasSet course s = GoesTo (λ c. IsAt c s) course
 
 abbrev pub IsStopped : Course → ConfigFault → Type 0
 IsStopped course f = StopsFor course (cause_in f)

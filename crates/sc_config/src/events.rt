@@ -2,7 +2,8 @@
 ghost use Rattle.std.specs.Prelude.{◌≡◌, IfOk, IfErr};
 ghost use Rattle.sr_caveat.specs.Caps.{IsSound};
 ghost use Rattle.sc_events.specs.Events.{event_of, IsSoundEvent};
-ghost use Rattle.sc_config.specs.Courses.{binds, after_event, after_value};
+ghost use Rattle.sc_schema.specs.Courses.{after_value};
+ghost use Rattle.sc_config.specs.Courses.{binds, after_event, doing};
 ghost use Rattle.sc_config.specs.Keeping.{SetsAs, StopsAs};
 
 use crate::faults::ConfigFault;
@@ -62,8 +63,8 @@ pub(crate) fn with_value<S: Space + Drop, J: Judge + Drop>(
     place: u64,
     value: &Value,
 ) -> Result<Hub<S, J>, ConfigFault>
-    ensures set { IfOk result (SetsAs hub (after_value place (event_of value.now))) }
-    ensures stop { IfErr result (StopsAs hub (after_value place (event_of value.now))) }
+    ensures set { IfOk result (SetsAs hub (after_value doing place (event_of value.now))) }
+    ensures stop { IfErr result (StopsAs hub (after_value doing place (event_of value.now))) }
 {
     match event_of(alloc, value)? {
         Some(event) => with_event(alloc, hub, place, event),

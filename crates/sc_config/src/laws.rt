@@ -8,8 +8,8 @@ ghost use Rattle.sc_config.specs.Configs.{IsCourseOf};
 use sc_events::one_reading;
 use sc_schema::one_first_schema;
 
-/// A text has one course as a configuration: it sets one schema and one list of steps, or is
-/// refused for one cause. It has some where each text is a schema or is refused.
+/// A text has at most one course as a configuration: it sets one schema and one list of steps, or
+/// is refused for one cause. It has some where each text is a schema or is refused.
 pub fn one_configuration()
     ensures some { (text : List ℕ) → AreBytes text → ((t : List ℕ) → HasVerdict t)
         → (c : Course) × IsCourseOf text c }

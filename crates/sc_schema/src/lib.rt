@@ -1,6 +1,8 @@
 //! The schema by which guards judge: the first value of a script or of a configuration may give it.
 //!
-//! What a first value gives, and which schema that is, stands in `specs/Firsts.antt`.
+//! What a first value gives, and which schema that is, stands in `specs/Firsts.antt`. How the
+//! values of either are judged one after another stands in `specs/Courses.antt`, and has no code of
+//! its own.
 #![tactic(auto)]
 
 mod firsts;

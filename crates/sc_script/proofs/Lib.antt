@@ -1,7 +1,6 @@
 pub mod Coming
 pub mod Courses
 pub mod EventCourses
-pub mod FaultsPassed
 pub mod InputCourses
 pub mod Nexts
 pub mod NoPackets

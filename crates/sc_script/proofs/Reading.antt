@@ -2,8 +2,9 @@
 use Rattle.std.proofs.Common.{◌≡◌, ℕ, refl, sym, ap, ◌∙◌, subst, Option, Some, None, true, false, cond}
 use Rattle.rl_stream.specs.Streams.{StreamState}
 use Rattle.hub_machine.specs.State.{is_there}
+use Rattle.sc_schema.specs.Courses.{StopsFor}
 use Rattle.sc_script.specs.Runs.{Running, Cause, Course, goes, stops, goes_on, with_stream, read_where}
-use Rattle.sc_script.specs.Keeping.{ReadsOn, RunState, IsAt, HasRun, StopsFor}
+use Rattle.sc_script.specs.Keeping.{ReadsOn, RunState, IsAt, HasRun}
 
 -- what stops a first part stops the whole
 pub stops_first : (later : Running → Course) (c : Course) (o : Option Cause) → StopsFor c o

@@ -11,8 +11,9 @@ use Rattle.hub_machine.specs.Replays.{sent_to}
 use Rattle.hub_laws.specs.Laws.{AreAllowed}
 use Rattle.hub_outs.specs.Outs.{OutsState, sent_of, kept}
 use Rattle.sc_events.specs.declared.inputs.Form.{Form}
+use Rattle.sc_schema.specs.Courses.{GoesTo, StopsFor}
 use Rattle.sc_script.specs.declared.faults.ScriptFault.{ScriptFault}
-use Rattle.sc_script.specs.Runs.{Running, Cause, Course, goes, stops, state_of, sent_size, cause_in}
+use Rattle.sc_script.specs.Runs.{Running, Course, goes, state_of, sent_size, cause_in}
 use Rattle.sc_script.specs.Scripts.{IsCourseOf}
 
 pub record RunState : Type 0 where
@@ -37,13 +38,7 @@ pub record IsAt (r : Running) (s : RunState) : Type 0 where
   pub streams : s.streams ≡ r.streams
 
 abbrev pub HasRun : Course → RunState → Type 0
-HasRun (goes r) s = IsAt r s
-HasRun (stops c) s = ⊥
-
--- the course stops for the cause that a fault tells; where memory ran out, nothing is said
-abbrev pub StopsFor : Course → Option Cause → Type 0
-StopsFor course None = Unit {0}
-StopsFor course (Some c) = course ≡ stops c
+HasRun course s = GoesTo (λ r. IsAt r s) course
 
 abbrev pub IsStopped : Course → ScriptFault → Type 0
 IsStopped course f = StopsFor course (cause_in f)

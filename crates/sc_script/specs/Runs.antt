@@ -1,8 +1,7 @@
 -- The run of a script: the steps that its values make, one event after another, or the first cause that stops it.
-use Rattle.std.specs.Prelude.{◌≡◌, ◌≢◌, ℕ, zero, suc, ◌+◌, ◌-◌, List, [], ◌∷◌, ◌++◌, length, Bool, true, false, ◌&&◌}
+use Rattle.std.specs.Prelude.{ℕ, zero, suc, ◌+◌, ◌-◌, List, [], ◌∷◌, ◌++◌, length, Bool, true, false, ◌&&◌}
 use Rattle.std.specs.Prelude.{◌||◌, ◌==◌, nat_lt, nat_le, Option, Some, None, unwrap_or, if◌then◌else◌}
 use Rattle.std.specs.List.{flat_map}
-use Rattle.pv_value.specs.Plain.{Plain}
 use Rattle.pv_binary.specs.Written.{written}
 use Rattle.ps_schema.specs.declared.Definition.{Definition}
 use Rattle.sr_caveat.specs.Patterns.{caveats}
@@ -24,10 +23,11 @@ use Rattle.hub_machine.specs.declared.steps.Step.{Step}
 use Rattle.hub_machine.specs.declared.steps.Step.TheVariants as step
 use Rattle.hub_machine.specs.declared.steps.Reply.{Reply}
 use Rattle.hub_machine.specs.declared.steps.Reply.TheVariants as reply
-use Rattle.sc_events.specs.Events.{event_of}
 use Rattle.sc_events.specs.declared.events.ScriptEvent.{ScriptEvent}
 use Rattle.sc_events.specs.declared.events.ScriptEvent.TheVariants.{Bind, Open, Bytes, Close, Turn, Drain, LongDrain}
 use Rattle.sc_events.specs.declared.events.ScriptEvent.TheVariants.{Schema, Unbuilt}
+use Rattle.sc_schema.specs.Courses.{CourseOf, Doing}
+pub use Rattle.sc_schema.specs.Courses.{goes, stops, goes_on}
 use Rattle.sc_script.specs.declared.faults.ScriptFault.{ScriptFault}
 use Rattle.sc_script.specs.declared.faults.ScriptFault.TheVariants as script
 
@@ -48,14 +48,8 @@ pub data Cause : Type 0 where
   config : (n : ℕ) → Cause
   not_built : (n : ℕ) → Cause
 
-pub data Course : Type 0 where
-  goes : (r : Running) → Course
-  stops : (c : Cause) → Course
-
--- one part after another
-abbrev pub goes_on : (Running → Course) → Course → Course
-goes_on more (goes r) = more r
-goes_on more (stops c) = stops c
+abbrev pub Course : Type 0
+Course = CourseOf Running Cause
 
 abbrev pub beginning : List Definition → Running
 beginning ds = record { schema = ds; steps = []; streams = [] }
@@ -191,23 +185,8 @@ after_event N n LongDrain r = stops (limit 3)
 after_event N n (Schema text) r = if n == 0 then goes r else stops (bad n)
 after_event N n Unbuilt r = stops (not_built n)
 
-abbrev pub after_value : Decider → ℕ → Option ScriptEvent → Running → Course
-after_value N n None r = stops (bad n)
-after_value N n (Some e) r = after_event N n e r
-
--- the values from number n on
-abbrev pub after_values : Decider → ℕ → List Plain → Running → Course
-after_values N n [] r = goes r
-after_values N n (v ∷ vs) r = goes_on (after_values N (n + 1) vs) (after_value N n (event_of v) r)
-
--- behind the values comes the end of the input, or what is no value
-abbrev pub ended : Bool → ℕ → Running → Course
-ended whole n r = if whole then goes r else stops (bad n)
-
--- the course of all values, where the first one, if it gives a schema, gives this one
-abbrev pub course_of : Decider → Option (List Definition) → List Plain → Bool → Course
-course_of N None vs whole = stops (config 0)
-course_of N (Some ds) vs whole = goes_on (ended whole (length vs)) (after_values N 0 vs (beginning ds))
+abbrev pub doing : Decider → Doing Running Cause
+doing N = record { beginning = beginning; after_event = after_event N; bad = bad; no_schema = config 0 }
 
 -- ---- faults
 

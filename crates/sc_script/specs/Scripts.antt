@@ -1,30 +1,22 @@
 -- What stands of an input as a script: a run of all its values, or the first cause that stops it. The length of the
 -- input is looked at first, and whether a text is UTF-8; then its values in order, each done before the next is judged.
 -- The first one may give the schema by which guards judge.
-use Rattle.std.specs.Prelude.{◌≡◌, ℕ, ◌<◌, ◌≤◌, ◌⊎◌, Bool, List, length, Option, Some, None}
-use Rattle.pv_value.specs.Plain.{Plain}
-use Rattle.ps_schema.specs.declared.Definition.{Definition}
+use Rattle.std.specs.Prelude.{◌≡◌, ℕ, ◌<◌, ◌≤◌, ◌⊎◌, List, length, Option, Some, None}
 use Rattle.rl_stream.specs.Nexts.{Decider, Decides}
 use Rattle.hub_machine.specs.State.{opening}
 use Rattle.hub_laws.specs.Laws.{AreAllowed}
 use Rattle.sc_report.specs.Reports.{RanState}
 use Rattle.sc_events.specs.declared.inputs.Form.{Form}
-use Rattle.sc_events.specs.Readings.{AreReadAs}
-use Rattle.sc_schema.specs.Firsts.{first_text, IsVerdict}
+use Rattle.sc_schema.specs.Courses.{IsCourseOfValues}
 use Rattle.sc_script.specs.declared.faults.ScriptFault.{ScriptFault}
-use Rattle.sc_script.specs.Runs.{Cause, limit, Course, goes, stops, course_of, Running, cause_in}
+use Rattle.sc_script.specs.Runs.{Cause, limit, Course, goes, stops, doing, Running, cause_in}
 use Rattle.sc_script.specs.Leavings.{ran_of}
-
-abbrev pub IsCourseOfValues : Decider → Form → List ℕ → Course → Type 0
-IsCourseOfValues N form bytes c =
-    (vs : List Plain) × (whole : Bool) × AreReadAs form bytes vs whole
-    × (o : Option (List Definition)) × IsVerdict (first_text vs) o × (c ≡ course_of N o vs whole)
 
 -- no more than 67,108,864 bytes
 abbrev pub IsCourseOf : Decider → Form → List ℕ → Course → Type 0
 IsCourseOf N form bytes c =
     ((67108864 < length bytes) × (c ≡ stops (limit 1)))
-    ⊎ ((length bytes ≤ 67108864) × IsCourseOfValues N form bytes c)
+    ⊎ ((length bytes ≤ 67108864) × IsCourseOfValues (doing N) form bytes c)
 
 -- the input stops for the cause that a fault tells; where memory ran out, nothing is said
 abbrev pub StopsWith : Form → List ℕ → Option Cause → Type 0

@@ -10,8 +10,8 @@ ghost use Rattle.sc_script.specs.Scripts.{IsCourseOf};
 use sc_events::one_reading;
 use sc_schema::one_first_schema;
 
-/// An input has one course: it runs through one list of steps, or stops for one cause. It has some
-/// where each text is a schema or is refused.
+/// An input has at most one course: it runs through one list of steps, or stops for one cause. It
+/// has some where each text is a schema or is refused.
 pub fn one_course()
     ensures some { (N : Decider) (form : Form) (bytes : List ℕ) → AreBytes bytes
         → ((text : List ℕ) → HasVerdict text) → (c : Course) × IsCourseOf N form bytes c }

@@ -11,7 +11,8 @@ ghost use Rattle.sc_script.specs.declared.faults.ScriptFault.TheVariants as faul
 ghost use Rattle.sc_script.specs.Runs.{Running, Course, goes, beginning, stepped, turned, drained};
 ghost use Rattle.sc_script.specs.Runs.{with_stream, with_no_packet, packets_read, bytes_come};
 ghost use Rattle.sc_script.specs.Runs.{binds, was_opened, may_turn, with_packet};
-ghost use Rattle.sc_script.specs.Runs.{after_event, after_value};
+ghost use Rattle.sc_schema.specs.Courses.{after_value};
+ghost use Rattle.sc_script.specs.Runs.{after_event, doing};
 ghost use Rattle.sc_script.specs.Keeping.{size_of, noted, IsAt, RunsAs, StopsAs, ReadsOn};
 
 use crate::faults::ScriptFault;
@@ -389,9 +390,9 @@ impl<S: Space + Drop, J: Judge + Drop> Run<S, J> {
         value: &Value,
     ) -> Result<Run<S, J>, ScriptFault>
         ensures run { IfOk result
-            (RunsAs self (λ N. after_value N place (event_of value.now))) }
+            (RunsAs self (λ N. after_value (doing N) place (event_of value.now))) }
         ensures stop { IfErr result
-            (StopsAs self (λ N. after_value N place (event_of value.now))) }
+            (StopsAs self (λ N. after_value (doing N) place (event_of value.now))) }
     {
         match event_of(alloc, value)? {
             Some(event) => self.event(alloc, place, event),

@@ -3,7 +3,7 @@ use Rattle.std.proofs.Common.{◌<◌, [], ◌∷◌, Err, ap, ◌∙◌, arith}
 use Rattle.std.proofs.lemmas.List.Elements.{All-from_get_or}
 use Rattle.hub_machine.specs.State.{opening}
 use Rattle.sc_events.specs.declared.inputs.Form.TheVariants.{Text}
-use Rattle.sc_config.proofs.FaultsPassed.{err_so}
+use Rattle.sc_schema.specs.Lemmas.FaultsPassed.{err_so}
 use Rattle.sc_config.proofs.TextCourses.{none_there, none_read, first_at_fault, first_stops, first_done, begun}
 use Rattle.sc_config.proofs.TextCourses.{one_done, one_stops, all_done, cut_off, is_few}
 use Rattle.sc_config.proofs.configs.configured.Goals as goal

@@ -3,7 +3,8 @@
 use Rattle.std.proofs.Common.{◌≡◌, Some, sym, ap, ◌∙◌}
 use Rattle.sc_events.specs.Events.{event_of}
 use Rattle.sc_events.specs.Lemmas.Sound.{sound_event}
-use Rattle.sc_config.specs.Courses.{after_event, after_value}
+use Rattle.sc_schema.specs.Courses.{after_value}
+use Rattle.sc_config.specs.Courses.{after_event, doing}
 use Rattle.sc_config.proofs.Parts.{sets_so, stops_so}
 use Rattle.sc_config.proofs.events.with_value.Goals as goal
 
@@ -15,12 +16,12 @@ pub returns-in-Some-clause-set : goal.returns-in-Some-clause-set
 returns-in-Some-clause-set g c =
     let n = c.args.place in
     let is : Some c.in-Some.event ≡ event_of c.args.value.now = sym c.in-Some.is ∙ c.in_ok-event.ensures in
-    sets_so c.args.hub (after_event n c.in-Some.event) (after_value n (event_of c.args.value.now))
-    (λ d. ap (λ o. after_value n o d) is) c.with_event.result c.with_event.ensures.set
+    sets_so c.args.hub (after_event n c.in-Some.event) (after_value doing n (event_of c.args.value.now))
+    (λ d. ap (λ o. after_value doing n o d) is) c.with_event.result c.with_event.ensures.set
 
 pub returns-in-Some-clause-stop : goal.returns-in-Some-clause-stop
 returns-in-Some-clause-stop g c =
     let n = c.args.place in
     let is : Some c.in-Some.event ≡ event_of c.args.value.now = sym c.in-Some.is ∙ c.in_ok-event.ensures in
-    stops_so c.args.hub (after_event n c.in-Some.event) (after_value n (event_of c.args.value.now))
-    (λ d. ap (λ o. after_value n o d) is) c.with_event.result c.with_event.ensures.stop
+    stops_so c.args.hub (after_event n c.in-Some.event) (after_value doing n (event_of c.args.value.now))
+    (λ d. ap (λ o. after_value doing n o d) is) c.with_event.result c.with_event.ensures.stop

@@ -4,7 +4,7 @@ use Rattle.std.proofs.lemmas.List.Elements.{All-from_get_or}
 use Rattle.ps_schema.specs.declared.Definition.{Definition}
 use Rattle.sc_script.specs.Runs.{beginning}
 use Rattle.sc_script.specs.Keeping.{IsAt}
-use Rattle.sc_script.proofs.FaultsPassed.{err_so}
+use Rattle.sc_schema.specs.Lemmas.FaultsPassed.{err_so}
 use Rattle.sc_script.proofs.InputCourses.{none_there, none_read, first_at_fault, first_stops, first_done}
 use Rattle.sc_script.proofs.InputCourses.{one_done, one_stops, all_done, cut_off, is_few}
 use Rattle.sc_script.proofs.scripts.run_of.Goals as goal

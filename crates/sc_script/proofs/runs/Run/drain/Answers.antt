@@ -1,7 +1,7 @@
 use Rattle.std.proofs.Common.{◌≡◌, ◌+◌, ◌-◌, suc, arith, sym, ap, ◌∙◌}
 use Rattle.sc_script.specs.Runs.{turned, drained}
 use Rattle.sc_script.proofs.Courses.{course_ends, part_goes, part_stops, turn_first, drain_ends, lowest_of}
-use Rattle.sc_script.proofs.FaultsPassed.{err_so}
+use Rattle.sc_schema.specs.Lemmas.FaultsPassed.{err_so}
 use Rattle.sc_script.proofs.runs.Run.drain.Goals as goal
 
 pub returns-clause-run : goal.returns-clause-run

@@ -2,7 +2,7 @@ use Rattle.std.proofs.Common.{sym, ap, ◌∙◌}
 use Rattle.hub_machine.specs.State.{is_there}
 use Rattle.sc_script.specs.Runs.{with_stream}
 use Rattle.sc_script.specs.Keeping.{RunState}
-use Rattle.sc_script.proofs.FaultsPassed.{err_so}
+use Rattle.sc_schema.specs.Lemmas.FaultsPassed.{err_so}
 use Rattle.sc_script.proofs.Reading.{stops_first, reads_more, reads_no_more}
 use Rattle.sc_script.proofs.runs.Run.packet.Goals as goal
 

@@ -1,7 +1,7 @@
 use Rattle.std.proofs.Common.{◌≡◌, ℕ, suc, ◌≤◌, length, refl, sym, ap, ◌∙◌, arith, subst, IfSome}
 use Rattle.rl_stream.specs.Streams.{StreamState, read_off}
 use Rattle.sc_script.specs.Runs.{packets_read}
-use Rattle.sc_script.proofs.FaultsPassed.{err_so}
+use Rattle.sc_schema.specs.Lemmas.FaultsPassed.{err_so}
 use Rattle.sc_script.proofs.PacketsRead.{whole_size, whole_is_less, no_packet_runs, no_packet_stops, packet_reads}
 use Rattle.sc_script.proofs.PacketsRead.{packet_runs, packet_stops}
 use Rattle.sc_script.proofs.runs.Run.read_packets.Goals as goal

@@ -3,7 +3,7 @@ use Rattle.hub_machine.specs.Machine.{step}
 use Rattle.hub_machine.specs.declared.steps.Reply.TheVariants.{Sent}
 use Rattle.sc_script.specs.Runs.{stepped}
 use Rattle.sc_script.specs.Keeping.{size_of}
-use Rattle.sc_script.proofs.FaultsPassed.{err_so}
+use Rattle.sc_schema.specs.Lemmas.FaultsPassed.{err_so}
 use Rattle.sc_script.proofs.Stepping.{quiet, goes_quietly, goes_noted, stops_sending, stops_for}
 use Rattle.sc_script.proofs.runs.Run.step.Goals as goal
 
