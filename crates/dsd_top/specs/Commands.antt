@@ -93,6 +93,8 @@ usage = lines_of (
     ∷ codes "                the signed reference, from no input"
     ∷ codes "  load START N"
     ∷ codes "                a run of a generated script: holdings, and the sum of what they capture"
+    ∷ codes "  serve ADDR CONFIG WORKERS CONNECTIONS"
+    ∷ codes "                serves so many links at the address, from no input"
     ∷ codes "  --help        these lines"
     ∷ codes "  --version     the version"
     ∷ []

@@ -53,7 +53,7 @@ fn verdict(conforms: bool) -> &'static str
 }
 
 /// Appends what is made of the value, and lets go of it.
-pub fn push_last(alloc: Global, out: &mut Vec<u8>, value: Value, each: Each) -> Result<(), NoMemory>
+pub fn push_made(alloc: Global, out: &mut Vec<u8>, value: Value, each: Each) -> Result<(), NoMemory>
     requires { IsKnown each }
     ensures { OnOk result (out.new.items ≡ out.old.items ++ made_of each.entry value) }
 {

@@ -118,7 +118,8 @@ fn show<O: Sink, E: Sink>(alloc: Global, notice: &Notice, out: &mut O, diag: &mu
 /// none of the table's, 3 where the input or a file failed, 4 where the output failed, 5 for want
 /// of memory, 6 where a limit is passed, 7 where a file is refused, or what a script says of its
 /// schema, 10 where the input goes past what is built.
-/// At every status but 0 one line on `diag` says why; a fault of `diag` changes nothing else.
+/// At every status but 0 one line on `diag` says why, or a front of it where a put fails; a fault
+/// of `diag` changes nothing else.
 pub fn dsd_once<I: Source, O: Sink, E: Sink, H: Host>(
     alloc: Global,
     words: &[String],

@@ -4,7 +4,7 @@ ghost use Rattle.dsd_top.specs.declared.values.InputFault.TheVariants as fault;
 ghost use Rattle.dsd_top.specs.Forms.{made_of, IsKnown};
 ghost use Rattle.dsd_top.specs.Values.{AreMade, IsInputFaultOf};
 
-use crate::forms::{Each, push_last};
+use crate::forms::{Each, push_made};
 use pv_value::NoMemory;
 use sc_events::{Form as Input, INPUT_BYTES, NextFault, Values};
 use std::alloc::Global;
@@ -51,7 +51,7 @@ pub fn values_to_end(
     let mut place = 0;
     loop {
         match values.next(alloc) {
-            Ok(Some(value)) => push_last(alloc, &mut out, value, each)?,
+            Ok(Some(value)) => push_made(alloc, &mut out, value, each)?,
             Ok(None) => return Ok(out),
             Err(NextFault::Bad) => return Err(InputFault::Bad(place)),
             Err(NextFault::NoMemory) => return Err(InputFault::NoMemory),

@@ -21,6 +21,8 @@ const USAGE: &str = "usage: dsd WORD, from standard input to standard output
                 the signed reference, from no input
   load START N
                 a run of a generated script: holdings, and the sum of what they capture
+  serve ADDR CONFIG WORKERS CONNECTIONS
+                serves so many links at the address, from no input
   --help        these lines
   --version     the version
 ";

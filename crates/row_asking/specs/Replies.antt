@@ -4,6 +4,7 @@ use Rattle.pv_value.specs.Plain.{Plain, plains, sequence, symbol}
 use Rattle.pv_words.specs.Words.{labelled, number}
 use Rattle.rl_packet.specs.Packets.{packet_value}
 use Rattle.rl_packet.specs.declared.holding.Holding.{Holding}
+use Rattle.sc_report.specs.Reports.{holding_value}
 use Rattle.hub_machine.specs.Faults.{error_of}
 use Rattle.hub_machine.specs.declared.steps.Reply.{Reply}
 use Rattle.hub_machine.specs.declared.steps.Reply.TheVariants.{Worn, Barred, Halted, Full, Opened, Gone, Refused, Idle}
@@ -27,9 +28,6 @@ abbrev pub actor_value : Option ℕ → Plain
 actor_value None = symbol (codes "none")
 actor_value (Some a) = number a
 
--- <holds oid handle value>, and a sequence of such
-abbrev pub holding_value : Holding → Plain
-holding_value h = labelled (codes "holds") (number h.oid ∷ number h.handle ∷ h.value ∷ [])
-
+-- a sequence of `<holds oid handle value>`
 abbrev pub holdings_value : List Holding → Plain
 holdings_value hs = sequence (plains (map holding_value hs))

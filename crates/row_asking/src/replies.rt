@@ -2,12 +2,13 @@
 ghost use Rattle.std.specs.Prelude.{◌≡◌, [], ◌∷◌, IfOk};
 ghost use Rattle.pv_value.specs.Plain.{symbol};
 ghost use Rattle.pv_words.specs.Words.{labelled as labelled_value};
-ghost use Rattle.row_asking.specs.Replies.{reply_value, actor_value, holding_value, holdings_value};
+ghost use Rattle.row_asking.specs.Replies.{reply_value, actor_value, holdings_value};
 
 use hub_machine::Reply;
-use pv_value::{Items, NoMemory, Text, Value};
+use pv_value::{NoMemory, Text, Value};
 use pv_words::{labelled, number};
 use rl_packet::{Holding, packet_value};
+use sc_report::holdings;
 use std::alloc::Global;
 
 /// A reply: a word, or a record of a number or of a packet.
@@ -58,22 +59,8 @@ pub fn actor_value(alloc: Global, actor: Option<u32>) -> Result<Value, NoMemory>
 }
 
 /// `[<holds oid handle value> ..]`
-pub fn holdings_value(alloc: Global, holdings: &[Holding]) -> Result<Value, NoMemory>
-    ensures { IfOk result (λ v. v ≡ holdings_value holdings.now) }
+pub fn holdings_value(alloc: Global, held: &[Holding]) -> Result<Value, NoMemory>
+    ensures { IfOk result (λ v. v ≡ holdings_value held.now) }
 {
-    let mut items = Vec::new(alloc);
-    for holding in holdings {
-        items.push(holding_value(alloc, holding)?)?;
-    }
-    Ok(Value::sequence(Items::from_vec(alloc, items)?))
-}
-
-fn holding_value(alloc: Global, holding: &Holding) -> Result<Value, NoMemory>
-    ensures { IfOk result (λ v. v ≡ holding_value holding.now) }
-{
-    let mut fields = Vec::new(alloc);
-    fields.push(number(holding.oid))?;
-    fields.push(number(holding.handle))?;
-    fields.push(holding.value.copy()?)?;
-    labelled(alloc, "holds", fields)
+    Ok(Value::sequence(holdings(alloc, held)?))
 }

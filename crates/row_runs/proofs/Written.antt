@@ -7,7 +7,7 @@ use Rattle.dsd_top.specs.Schemas.{Files}
 use Rattle.dsd_top.specs.Statuses.{IsAnswerOf, IsAnswered, IsCut, IsShown, IsShownFront}
 use Rattle.dsd_top.specs.declared.words.Command.{Command}
 use Rattle.dsd_top.specs.declared.words.Notice.{Notice}
-use Rattle.row_runs.specs.Outcomes.{IsFrontOf, IsFrontOfAnswer, IsFrontOfText}
+use Rattle.row_runs.specs.Outcomes.{IsSomeFront, IsFrontOfAnswer, IsFrontOfText}
 
 pub if_some : {A : Type 0} (P Q : A → Type 0) (o : Option A) → ((a : A) → P a → Q a) → IfSome o P → IfSome o Q
 if_some P Q None f h = h
@@ -18,7 +18,7 @@ pub all_held : (old new bytes : List ℕ) → old ≡ [] → Appends (Some old) 
 all_held old new bytes empty is =
     ap (λ (o : Option (List ℕ)). unwrap_or o []) is ∙ ap (λ (held : List ℕ). held ++ bytes) empty
 
-pub front_held : (old new bytes : List ℕ) → old ≡ [] → AppendsFront (Some old) (Some new) bytes → IsFrontOf bytes new
+pub front_held : (old new bytes : List ℕ) → old ≡ [] → AppendsFront (Some old) (Some new) bytes → IsSomeFront bytes new
 front_held old new bytes empty h = (h.0, h.1, all_held old new (take h.0 bytes) empty h.2)
 
 module _ (old new : List ℕ) (empty : old ≡ []) where

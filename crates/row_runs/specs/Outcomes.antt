@@ -4,7 +4,8 @@ use Rattle.std.specs.Prelude.{All, IfSome}
 use Rattle.dsd_top.specs.Commands.{request_of, command_of, notice_of, AreOfTable, IsTextOf, is_serve}
 use Rattle.dsd_top.specs.Schemas.{Files}
 use Rattle.dsd_top.specs.Statuses.{statuses_of, file_of, IsAnswerOf, IsBadInput, IsOver, IsBadConfig, IsNotBuilt}
-use Rattle.dsd_top.specs.Statuses.{IsUntold}
+use Rattle.dsd_top.specs.Statuses.{IsUntold, Stands}
+use Rattle.dsd_top.specs.Lines.{Says, SaysFront}
 use Rattle.dsd_top.specs.declared.words.Command.{Command}
 use Rattle.dsd_top.specs.declared.words.Notice.{Notice}
 use Rattle.out_ports.specs.Ports.{Rose}
@@ -15,16 +16,16 @@ use Rattle.out_ports.specs.MemSink.{ToldSink, sink_of}
 use Rattle.row_files.specs.Rows.{RowTold, AreRowsIn}
 
 -- a front of these bytes
-abbrev pub IsFrontOf : List ℕ → List ℕ → Type 0
-IsFrontOf bytes out = (n : ℕ) × (n ≤ length bytes) × (out ≡ take n bytes)
+abbrev pub IsSomeFront : List ℕ → List ℕ → Type 0
+IsSomeFront bytes out = (n : ℕ) × (n ≤ length bytes) × (out ≡ take n bytes)
 
 -- a front of what the command makes of the input, where these are the files
 abbrev pub IsFrontOfAnswer : Files → Command → List ℕ → List ℕ → Type 0
-IsFrontOfAnswer files c input output = (whole : List ℕ) × IsAnswerOf files c input whole × IsFrontOf whole output
+IsFrontOfAnswer files c input output = (whole : List ℕ) × IsAnswerOf files c input whole × IsSomeFront whole output
 
 -- a front of the notice's text
 abbrev pub IsFrontOfText : Notice → List ℕ → Type 0
-IsFrontOfText n output = (whole : List ℕ) × IsTextOf n whole × IsFrontOf whole output
+IsFrontOfText n output = (whole : List ℕ) × IsTextOf n whole × IsSomeFront whole output
 
 -- the input, the output and standard error, and the host, in memory
 pub record Streams : Type 0 where
@@ -75,6 +76,13 @@ pub record IsRun (words : List (List ℕ)) (before now : Streams) (status : ℕ)
   -- the host was asked for a file, where a command reads one, and for nothing else
   pub unasked : file_of (command_of words) ≡ None → now.host ≡ before.host
   pub same_files : now.host.files ≡ before.host.files
+  -- standard error has a front of the line of a cause that stands, and all of it where no put has failed
+  pub silent : status ≡ 0 → now.diag.held ≡ before.diag.held
+  pub said : status ≢ 0 → SaysFront (Stands (request_of words) (Some before.host.files) (Some before.input.left)) status
+      (Some before.diag.held) (Some now.diag.held)
+  pub said_all : status ≢ 0 → (Rose before.diag.calls.faults now.diag.calls.faults → ⊥)
+      → Says (Stands (request_of words) (Some before.host.files) (Some before.input.left)) status
+      (Some before.diag.held) (Some now.diag.held)
 
 -- a status, a line on standard error and an output come of a row
 abbrev pub IsOutcome : RowTold → ℕ → List ℕ → List ℕ → Type 0

@@ -5,4 +5,4 @@ mod ran;
 mod reports;
 
 pub use ran::{Connection, Ran};
-pub use reports::report;
+pub use reports::{holdings, report};

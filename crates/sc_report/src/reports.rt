@@ -21,7 +21,8 @@ fn holding_value(alloc: Global, holding: &Holding) -> Result<Value, NoMemory>
     labelled(alloc, "holds", fields)
 }
 
-fn holdings(alloc: Global, held: &[Holding]) -> Result<Items, NoMemory>
+/// `[<holds oid handle value> ..]`
+pub fn holdings(alloc: Global, held: &[Holding]) -> Result<Items, NoMemory>
     ensures { IfOk result (λ items. items ≡ map holding_told held.now) }
 {
     let mut values = Vec::new(alloc);

@@ -28,7 +28,7 @@ loop-value-preserved c =
       short = l.invariant.short;
       made = made_more c.args.input (made_of c.args.each) c.args.bytes.now l.place l.values l.out.items l.invariant.made
           c.next.new.self c.in-Ok-Some.value (λ vs s. next c.args.input c.args.bytes.now vs s) _
-          c.in_ok-push_last-in-Ok-Some.ensures;
+          c.in_ok-push_made-in-Ok-Some.ensures;
     }
 
 pub returns-in-Ok-None-clause-made : goal.returns-in-Ok-None-clause-made

@@ -1,9 +1,11 @@
 use Rattle.std.proofs.Common.{◌≡◌, ℕ, List, Option, Some, [], unwrap_or, ap, ◌∙◌, subst, refl}
-use Rattle.dsd_top.specs.Commands.{texts, command_of, notice_of, IsTextOf}
+use Rattle.dsd_top.specs.Commands.{texts, request_of, command_of, notice_of, IsTextOf}
+use Rattle.dsd_top.specs.Lines.{Says, SaysFront}
 use Rattle.dsd_top.specs.Schemas.{Files}
-use Rattle.dsd_top.specs.Statuses.{IsAnswerOf, IsAnswered, IsCut, IsShown, IsShownFront}
+use Rattle.dsd_top.specs.Statuses.{IsAnswerOf, IsAnswered, IsCut, IsShown, IsShownFront, Stands}
 use Rattle.dsd_top.specs.declared.words.Command.{Command}
 use Rattle.dsd_top.specs.declared.words.Notice.{Notice}
+use Rattle.out_ports.specs.Ports.{Rose}
 use Rattle.out_ports.specs.MemHost.{ToldHost}
 use Rattle.out_ports.specs.MemSink.{ToldSink}
 use Rattle.out_ports.specs.MemSource.{ToldSource}
@@ -23,6 +25,8 @@ returns c =
     let old = c.args.out.now.held in
     let new = c.dsd_once.new.out.held in
     let empty = ap (λ (s : ToldSink). s.held) c.requires.out in
+    let line = c.dsd_once.new.diag in
+    let IsCause = Stands (request_of words) files (Some input) in
     let told = c.dsd_once.ensures in
     let now : Streams = record {
       input = c.dsd_once.new.input;
@@ -59,6 +63,13 @@ returns c =
           (ap (λ (s : ToldSink). s.calls.faults) c.requires.out) (told.write_failed e);
       unasked = told.unasked;
       same_files = ap (λ (o : Files). unwrap_or o []) told.same_host.0;
+      silent = λ e. ap (λ (o : Option (List ℕ)). unwrap_or o []) (told.silent e)
+          ∙ ap (λ (s : ToldSink). s.held) c.requires.diag;
+      said = λ e. subst (λ (s : ToldSink). SaysFront IsCause c.dsd_once.result (Some s.held) (Some line.held))
+          c.requires.diag (told.said e);
+      said_all = λ e n. subst (λ (s : ToldSink). Says IsCause c.dsd_once.result (Some s.held) (Some line.held))
+          c.requires.diag
+          (told.said_all e (λ r. n (subst (λ (s : ToldSink). Rose s.calls.faults line.calls.faults) c.requires.diag r)));
     } in
     let Over : ToldSource → Type 0 = λ i. IsRun words (over i c.args.host) now c.dsd_once.result in
     let On : ToldHost → Type 0 = λ h. IsRun words (over given.input h) now c.dsd_once.result in
