@@ -161,12 +161,14 @@ impl<'g, S: Space + Drop, J: Judge + Drop, R: Source + Drop, W: Sink + Drop> Des
 
     ghost deeds = { λ s. deeds_of (pairs_by (view s.pass)) s.full (is_spent (view s.pass)) };
 
-    ghost is_first = { λ number job. (job.connection ≡ number) × (is_reading job.half ≡ true)
+    ghost is_first = { λ number job. (job.connection ≡ number) × (is_reading job.half ≡ false)
         × (own_pairs (view job.seat.pass) ≡ []) };
 
-    ghost is_second = { λ number job. (job.connection ≡ number) × (is_reading job.half ≡ false)
+    ghost is_second = { λ number job. (job.connection ≡ number) × (is_reading job.half ≡ true)
         × (own_pairs (view job.seat.pass) ≡ []) };
 
+    /// The writer is the first job. Where the reader doesn't start, the close of the connection ends
+    /// the writer, which finishes the link. A reader alone would wait for a peer that waits for it.
     #[tactic(auto, using(crate::proofs::Adding::one_opened, crate::proofs::Adding::none_opened, crate::proofs::Adding::none_closed))]
     fn welcome<Rt: Wait>(
         &mut self,
@@ -180,7 +182,7 @@ impl<'g, S: Space + Drop, J: Judge + Drop, R: Source + Drop, W: Sink + Drop> Des
         };
         let reader = Session::new(self.alloc, number, Half::Reads(reads), self.seat());
         let writer = Session::new(self.alloc, number, Half::Writes(writes), self.seat());
-        Ok(Some((number, reader, writer)))
+        Ok(Some((number, writer, reader)))
     }
 
     #[tactic(auto, using(crate::proofs::Adding::one_closed, crate::proofs::Adding::still_opened))]

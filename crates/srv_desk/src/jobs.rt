@@ -2,10 +2,11 @@
 ghost use Rattle.std.specs.Prelude.{◌≡◌, ◌≤◌, ◌^◌};
 
 use ds_space::Space;
+use hub_core::Step;
 use out_ports::ports::{Run, Sink, Source};
 use sr_pass::Judge;
 use srv_session::{Seated, Served};
-use srv_turns::{serve_reader, serve_worker, serve_writer};
+use srv_turns::{ReaderEnd, Turns, serve_reader, serve_worker, serve_writer};
 use std::alloc::Global;
 use std::sync::Wait;
 use turn_gate::Replayed;
@@ -19,6 +20,9 @@ pub enum Half<R, W> {
 
 /// A job that serves one half of the link of a connection: it commits what the peer sends, or puts
 /// what the connection is sent.
+///
+/// A reader that ends for want of memory commits nothing more, so the job closes the connection:
+/// else its writer would wait for ever, and with it the server.
 #[derive(Drop)]
 pub struct Session<'g, T: Replayed, R, W> {
     connection: u32,
@@ -60,7 +64,10 @@ impl<'g, S: Space + Drop, J: Judge + Drop, R: Source + Drop, W: Sink + Drop> Run
         } = self;
         match half {
             Half::Reads(mut reads) => {
-                serve_reader(rt, alloc, connection, &mut reads, &mut seat);
+                let end = serve_reader(rt, alloc, connection, &mut reads, &mut seat);
+                if end == ReaderEnd::NoMemory {
+                    let _ = seat.commit(rt, Step::Close(connection));
+                }
             }
             Half::Writes(mut writes) => {
                 serve_writer(rt, alloc, connection, &mut writes, &mut seat);
