@@ -1,1 +1,5 @@
-pub mod Refusing
+pub mod Accepting
+pub mod Asking
+pub mod Causing
+pub mod Choosing
+pub mod Sending

@@ -1,20 +1,17 @@
--- Words that begin with "serve" are none of the table's.
-use Rattle.std.proofs.Common.{◌≡◌, None, rules}
-use Rattle.dsd_top.specs.Commands.{texts, request_of}
-use Rattle.dsd_serve.proofs.Refusing.{refused_known, refused_front, refused_whole}
+-- Words that serve, and all others, which are handed on.
+use Rattle.std.proofs.Common.{arith, inl, inr, refl}
+use Rattle.dsd_serve.proofs.Choosing.{of_both, also}
 use Rattle.dsd_serve.proofs.mains.dsd_main.Goals as goal
 
-pub returns-then-is_serve-clause-of_request : goal.returns-then-is_serve-clause-of_request
-returns-then-is_serve-clause-of_request g c =
-    let none : request_of (texts c.args.words.now) ≡ None = search rules in
-    refused_known _ _ none c.refuse.ensures.status
+pub returns-then-is_serve-clause-known : goal.returns-then-is_serve-clause-known
+returns-then-is_serve-clause-known g c = of_both _ c.serve_words.ensures.known
 
-pub returns-then-is_serve-clause-said : goal.returns-then-is_serve-clause-said
-returns-then-is_serve-clause-said g c =
-    let none : request_of (texts c.args.words.now) ≡ None = search rules in
-    λ e. refused_front _ _ none c.refuse.ensures.status _ _ _ _ c.refuse.ensures.said
+pub returns-then-is_serve-clause-read_failed : goal.returns-then-is_serve-clause-read_failed
+returns-then-is_serve-clause-read_failed g c = λ e.
+    inr (inr (c.serve_words.ensures.found (λ two. omega (arith, e, two))), refl, c.serve_words.ensures.read_failed e)
 
-pub returns-then-is_serve-clause-said_all : goal.returns-then-is_serve-clause-said_all
-returns-then-is_serve-clause-said_all g c =
-    let none : request_of (texts c.args.words.now) ≡ None = search rules in
-    λ e quiet. refused_whole _ _ none c.refuse.ensures.status _ _ _ _ (c.refuse.ensures.said_all quiet)
+pub returns-clause-other_words : goal.returns-clause-other_words
+returns-clause-other_words g c = λ none. c.dsd_once.ensures.other_words (λ there. none (inl there))
+
+pub returns-clause-read_failed : goal.returns-clause-read_failed
+returns-clause-read_failed g c = λ e. also _ (c.dsd_once.ensures.read_failed e)

@@ -1,0 +1,36 @@
+-- The counted index goes to other threads, and the host gave nothing before the links are served.
+use denote.Param.Send.{sendable}
+use Rattle.std.proofs.Common.{◌≤◌, ◌∙◌, arith, rules}
+use Rattle.dsd_serve.specs.Serving.{rest_in}
+use Rattle.dsd_serve.proofs.Accepting.{accepts}
+use Rattle.dsd_serve.proofs.Sending.{skeleton_send}
+use Rattle.dsd_serve.proofs.serving.serve_and_tell.Goals as goal
+
+pub serve-requires-send-S : goal.serve-requires-send-S
+serve-requires-send-S g c = search (skeleton_send, sendable) depth 20
+
+pub returns-in_err-write_tally-clause-cut : goal.returns-in_err-write_tally-clause-cut
+returns-in_err-write_tally-clause-cut g c = λ e.
+    let t = c.in_ok-tally.tally in let before = c.hub_in.ensures.same_host in let listened = c.listen.ensures.same in
+    let faults : g.H.Listen.faults c.args.host.now ≤ g.H.Listen.faults c.listen.new.host =
+    (let a = c.hub_in.ensures.lasting in let b = c.listen.ensures.lasting in omega (arith, a.2, b.2)) in (
+      t.served,
+      rest_in t,
+      accepts t c.args.serving.now.connections _ _ _ _ _ _ _ _ _ _ (search rules) (listened.1 ∙ before.2)
+          (listened.2 ∙ before.3) faults
+          c.in_ok-tally.ensures.ends c.in_ok-tally.ensures.links c.in_ok-tally.ensures.failed,
+      c.in_err-write_tally.ensures.cut (search rules),
+    )
+
+pub returns-clause-done : goal.returns-clause-done
+returns-clause-done g c =
+    let t = c.in_ok-tally.tally in let before = c.hub_in.ensures.same_host in let listened = c.listen.ensures.same in
+    let faults : g.H.Listen.faults c.args.host.now ≤ g.H.Listen.faults c.listen.new.host =
+    (let a = c.hub_in.ensures.lasting in let b = c.listen.ensures.lasting in omega (arith, a.2, b.2)) in (
+      t.served,
+      rest_in t,
+      accepts t c.args.serving.now.connections _ _ _ _ _ _ _ _ _ _ (search rules) (listened.1 ∙ before.2)
+          (listened.2 ∙ before.3) faults
+          c.in_ok-tally.ensures.ends c.in_ok-tally.ensures.links c.in_ok-tally.ensures.failed,
+      c.in_ok-write_tally.ensures.written,
+    )
