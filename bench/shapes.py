@@ -191,7 +191,8 @@ KINDS = {
     "all": Kind(
         "beside an observation of everything, and other observations among the facts", observations,
         lambda others: {"an observation": [observation(0, 0)], "a fact that nobody else wants": [fact(0, 0)]},
-        beside=(observing("<bind <_>>", 0),)),
+        # as many as may be wanted by their weight
+        (10, 1_000, 10_000, 25_000), beside=(observing("<bind <_>>", 0),)),
     "heavy": Kind(
         "a fact beside shapes that differ in the last constant's place alone", heavy, with_heavy,
         tuple(HEAVY)),
