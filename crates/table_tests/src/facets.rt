@@ -60,7 +60,7 @@ fn stops(
 }
 
 #[test]
-fn a_stop_takes_what_is_below_and_no_more(rt: HostRuntime) -> Result<(), Fail> {
+fn a_stop_takes_what_is_below_in_the_first_branch(rt: HostRuntime) -> Result<(), Fail> {
     let alloc = rt.alloc();
     assert!(rt;
         stops(
@@ -89,6 +89,12 @@ fn a_stop_takes_what_is_below_and_no_more(rt: HostRuntime) -> Result<(), Fail> {
             &[0, 1, 2, 4, 5, 6]
         )?
     );
+    Ok(())
+}
+
+#[test]
+fn a_stop_takes_what_is_below_in_the_other_branch(rt: HostRuntime) -> Result<(), Fail> {
+    let alloc = rt.alloc();
     assert!(rt;
         stops(
             alloc,
@@ -116,6 +122,12 @@ fn a_stop_takes_what_is_below_and_no_more(rt: HostRuntime) -> Result<(), Fail> {
             &[0, 1, 2, 3, 4, 5]
         )?
     );
+    Ok(())
+}
+
+#[test]
+fn a_stop_of_the_root_takes_all(rt: HostRuntime) -> Result<(), Fail> {
+    let alloc = rt.alloc();
     assert!(rt;
         stops(
             alloc,
