@@ -11,10 +11,10 @@ use Rattle.ac_table.specs.Tables.{Row, Actor, Batch, placed, with_inbox}
 use Rattle.ac_table.specs.Facets.{Tree}
 use Rattle.ac_table.specs.Kept.{by_handle, seen, tree_seen, value_at, KeysAscend}
 use Rattle.ac_table.specs.Placed.{tree_in}
-use Rattle.ac_table.specs.declared.table.Seat.{Seat}
-use Rattle.ac_table.proofs.Finding.{is_at_same}
+use Rattle.ac_table.specs.declared.table.LiveActor.{LiveActor}
+use Rattle.ac_table.specs.Lemmas.Entries.{is_at_same}
 
-pub seen-set_value : (a : ℕ) (f : List Batch → List Batch) (s t : Seat) (es : List (ℕ × Seat))
+pub seen-set_value : (a : ℕ) (f : List Batch → List Batch) (s t : LiveActor) (es : List (ℕ × LiveActor))
     → value_at a es ≡ Some s → t.inbox ≡ f s.inbox
     → map seen (set_value (is_at (nat_cmp a)) es t) ≡ with_inbox a f (map seen es)
 seen-set_value a f s t [] at is = refl
@@ -36,26 +36,26 @@ pub with_inbox-same : (a : ℕ) (xs : List Actor) → with_inbox a (λ bs. bs) x
 with_inbox-same a [] = refl
 with_inbox-same a (x ∷ xs) = grind (arith, with_inbox-same a xs)
 
-pub seen-set_same : (a : ℕ) (s t : Seat) (es : List (ℕ × Seat))
+pub seen-set_same : (a : ℕ) (s t : LiveActor) (es : List (ℕ × LiveActor))
     → value_at a es ≡ Some s → t.inbox ≡ s.inbox
     → map seen (set_value (is_at (nat_cmp a)) es t) ≡ map seen es
 seen-set_same a s t es at is = seen-set_value a (λ bs. bs) s t es at is ∙ with_inbox-same a (map seen es)
 
-pub seen-insert : (a : ℕ) (s : Seat) (es : List (ℕ × Seat)) → value_at a es ≡ None
+pub seen-insert : (a : ℕ) (s : LiveActor) (es : List (ℕ × LiveActor)) → value_at a es ≡ None
     → map seen (insert_entry nat_cmp es a s) ≡ placed (seen (a, s)) (map seen es)
 seen-insert a s [] none = refl
 seen-insert a s (e ∷ es) none = grind (arith, is_at_same a e.0, seen-insert a s es)
 
 -- none of the numbers is below this one, or at it
-abbrev pub AreAbove : ℕ → List (ℕ × Seat) → Type 0
+abbrev pub AreAbove : ℕ → List (ℕ × LiveActor) → Type 0
 AreAbove a es = AllByRecursion (λ k. nat_cmp a k ≡ Less) (keys_of es)
 
-without-above : (a : ℕ) (es : List (ℕ × Seat)) → AreAbove a es
+without-above : (a : ℕ) (es : List (ℕ × LiveActor)) → AreAbove a es
     → filter (λ x. not (x.number == a)) (map seen es) ≡ map seen es
 without-above a [] above = refl
 without-above a (e ∷ es) above = grind (arith, above.0, without-above a es above.1)
 
-pub seen-remove : (a : ℕ) (es : List (ℕ × Seat)) → KeysAscend es
+pub seen-remove : (a : ℕ) (es : List (ℕ × LiveActor)) → KeysAscend es
     → map seen (remove_entry (is_at (nat_cmp a)) es) ≡ filter (λ x. not (x.number == a)) (map seen es)
 seen-remove a [] s = refl
 seen-remove a (e ∷ es) s =
@@ -71,12 +71,12 @@ values-push es r = map-append (λ e. e.1) es (by_handle r ∷ [])
 
 -- ---- the trees of facets
 
-pub trees-insert : (a : ℕ) (s : Seat) (es : List (ℕ × Seat))
+pub trees-insert : (a : ℕ) (s : LiveActor) (es : List (ℕ × LiveActor))
     → map tree_seen (insert_entry nat_cmp es a s) ≡ insert_entry nat_cmp (map tree_seen es) a (tree_in s.facets)
 trees-insert a s [] = refl
 trees-insert a s (e ∷ es) = grind (arith, trees-insert a s es)
 
-pub trees-remove : (a : ℕ) (es : List (ℕ × Seat))
+pub trees-remove : (a : ℕ) (es : List (ℕ × LiveActor))
     → map tree_seen (remove_entry (is_at (nat_cmp a)) es) ≡ remove_entry (is_at (nat_cmp a)) (map tree_seen es)
 trees-remove a [] = refl
 trees-remove a (e ∷ es) = by (is_at (nat_cmp a) e.0) (trees-remove a es)
@@ -88,7 +88,7 @@ trees-remove a (e ∷ es) = by (is_at (nat_cmp a) e.0) (trees-remove a es)
     by true rest = refl
     by false rest = ap (λ t. tree_seen e ∷ t) rest
 
-pub trees-set : (a : ℕ) (t : Seat) (es : List (ℕ × Seat))
+pub trees-set : (a : ℕ) (t : LiveActor) (es : List (ℕ × LiveActor))
     → map tree_seen (set_value (is_at (nat_cmp a)) es t)
     ≡ set_value (is_at (nat_cmp a)) (map tree_seen es) (tree_in t.facets)
 trees-set a t [] = refl
@@ -103,11 +103,12 @@ trees-set a t (e ∷ es) = by (is_at (nat_cmp a) e.0) (trees-set a t es)
     by true rest = refl
     by false rest = ap (λ t. tree_seen e ∷ t) rest
 
-abbrev pub tree_at : Option Seat → Tree
+abbrev pub tree_at : Option LiveActor → Tree
 tree_at None = []
 tree_at (Some s) = tree_in s.facets
 
-pub tree-seen : (a : ℕ) (es : List (ℕ × Seat)) → unwrap_or (value_at a (map tree_seen es)) [] ≡ tree_at (value_at a es)
+pub tree-seen : (a : ℕ) (es : List (ℕ × LiveActor))
+    → unwrap_or (value_at a (map tree_seen es)) [] ≡ tree_at (value_at a es)
 tree-seen a [] = refl
 tree-seen a (e ∷ es) = by (is_at (nat_cmp a) e.0) (tree-seen a es)
   where
@@ -117,7 +118,7 @@ tree-seen a (e ∷ es) = by (is_at (nat_cmp a) e.0) (tree-seen a es)
     by true rest = refl
     by false rest = rest
 
-pub trees-same : (a : ℕ) (s t : Seat) (es : List (ℕ × Seat)) → value_at a es ≡ Some s
+pub trees-same : (a : ℕ) (s t : LiveActor) (es : List (ℕ × LiveActor)) → value_at a es ≡ Some s
     → tree_in t.facets ≡ tree_in s.facets → map tree_seen (set_value (is_at (nat_cmp a)) es t) ≡ map tree_seen es
 trees-same a s t [] at same = refl
 trees-same a s t (e ∷ es) at same = by (is_at (nat_cmp a) e.0) refl (trees-same a s t es)
@@ -129,6 +130,6 @@ trees-same a s t (e ∷ es) at same = by (is_at (nat_cmp a) e.0) refl (trees-sam
     by true here later =
         let e_is : Some e.1 ≡ Some s = sym (rw here refl) ∙ at in
         let s_is : e.1 ≡ s = grind (arith, e_is) in
-        let tree : tree_in t.facets ≡ tree_in e.1.facets = same ∙ ap (λ (v : Seat). tree_in v.facets) (sym s_is) in
+        let tree : tree_in t.facets ≡ tree_in e.1.facets = same ∙ ap (λ (v : LiveActor). tree_in v.facets) (sym s_is) in
         rw here (ap (λ (t : Tree). (e.0, t) ∷ map tree_seen es) tree)
     by false other later = rw other (ap (λ t. tree_seen e ∷ t) (later (rw other at at) same))

@@ -7,15 +7,15 @@ use Rattle.std.specs.Ordering.{nat_cmp}
 use Rattle.ac_table.specs.Inboxes.{CountsOn}
 use Rattle.ac_table.specs.Kept.{seen, value_at, waiting_at}
 use Rattle.ac_table.specs.Tables.{waiting_in}
-use Rattle.ac_table.specs.declared.table.Seat.{Seat}
-use Rattle.ac_table.proofs.Finding.{is_at_same}
+use Rattle.ac_table.specs.declared.table.LiveActor.{LiveActor}
+use Rattle.ac_table.specs.Lemmas.Entries.{is_at_same}
 
-pub waiting-seen : (seats : List (ℕ × Seat)) → waiting_at seats ≡ waiting_in (map seen seats)
+pub waiting-seen : (actors : List (ℕ × LiveActor)) → waiting_at actors ≡ waiting_in (map seen actors)
 waiting-seen [] = refl
 waiting-seen (e ∷ es) = ap (λ (n : ℕ). length e.1.inbox + n) (waiting-seen es)
 
--- one seat changes
-waiting-set : (a : ℕ) (s t : Seat) (es : List (ℕ × Seat)) → value_at a es ≡ Some s
+-- one live actor changes
+waiting-set : (a : ℕ) (s t : LiveActor) (es : List (ℕ × LiveActor)) → value_at a es ≡ Some s
     → waiting_at (set_value (is_at (nat_cmp a)) es t) + length s.inbox ≡ waiting_at es + length t.inbox
 waiting-set a s t [] at = absurd cc
 waiting-set a s t (e ∷ es) at = split (is_at (nat_cmp a) e.0) refl (waiting-set a s t es)
@@ -33,27 +33,27 @@ waiting-set a s t (e ∷ es) at = split (is_at (nat_cmp a) e.0) refl (waiting-se
         let rest = later (rw other at at) in
         rw other (omega (arith, rest))
 
-pub counted_set : (a n m : ℕ) (s t : Seat) (seats new : List (ℕ × Seat)) → n ≡ waiting_at seats
-    → value_at a seats ≡ Some s → new ≡ set_value (is_at (nat_cmp a)) seats t → CountsOn s.inbox t.inbox n m
+pub counted_set : (a n m : ℕ) (s t : LiveActor) (actors new : List (ℕ × LiveActor)) → n ≡ waiting_at actors
+    → value_at a actors ≡ Some s → new ≡ set_value (is_at (nat_cmp a)) actors t → CountsOn s.inbox t.inbox n m
     → m ≡ waiting_at new
-counted_set a n m s t seats new k was is counts =
-    let all = waiting-set a s t seats was in
+counted_set a n m s t actors new k was is counts =
+    let all = waiting-set a s t actors was in
     rw is (omega (arith, k, all, counts))
 
-pub counted_same : (a n : ℕ) (s t : Seat) (seats new : List (ℕ × Seat)) → n ≡ waiting_at seats
-    → value_at a seats ≡ Some s → new ≡ set_value (is_at (nat_cmp a)) seats t → t.inbox ≡ s.inbox
+pub counted_same : (a n : ℕ) (s t : LiveActor) (actors new : List (ℕ × LiveActor)) → n ≡ waiting_at actors
+    → value_at a actors ≡ Some s → new ≡ set_value (is_at (nat_cmp a)) actors t → t.inbox ≡ s.inbox
     → n ≡ waiting_at new
-counted_same a n s t seats new k was is same =
-    counted_set a n n s t seats new k was is (rw same refl)
+counted_same a n s t actors new k was is same =
+    counted_set a n n s t actors new k was is (rw same refl)
 
 -- one comes, for which none waits
-pub waiting-insert : (a : ℕ) (s : Seat) (es : List (ℕ × Seat)) → value_at a es ≡ None → s.inbox ≡ []
+pub waiting-insert : (a : ℕ) (s : LiveActor) (es : List (ℕ × LiveActor)) → value_at a es ≡ None → s.inbox ≡ []
     → waiting_at (insert_entry nat_cmp es a s) ≡ waiting_at es
 waiting-insert a s [] none empty = rw empty refl
 waiting-insert a s (e ∷ es) none empty = grind (arith, empty, is_at_same a e.0, waiting-insert a s es)
 
 -- one goes
-waiting-remove : (a : ℕ) (s : Seat) (es : List (ℕ × Seat)) → value_at a es ≡ Some s
+waiting-remove : (a : ℕ) (s : LiveActor) (es : List (ℕ × LiveActor)) → value_at a es ≡ Some s
     → waiting_at (remove_entry (is_at (nat_cmp a)) es) + length s.inbox ≡ waiting_at es
 waiting-remove a s [] at = absurd cc
 waiting-remove a s (e ∷ es) at = split (is_at (nat_cmp a) e.0) refl (waiting-remove a s es)
@@ -70,14 +70,14 @@ waiting-remove a s (e ∷ es) at = split (is_at (nat_cmp a) e.0) refl (waiting-r
         let rest = later (rw other at at) in
         rw other (omega (arith, rest))
 
-pub counted_ended : (a n m : ℕ) (s : Seat) (seats new : List (ℕ × Seat)) → n ≡ waiting_at seats
-    → value_at a seats ≡ Some s → new ≡ remove_entry (is_at (nat_cmp a)) seats → m + length s.inbox ≡ n
+pub counted_ended : (a n m : ℕ) (s : LiveActor) (actors new : List (ℕ × LiveActor)) → n ≡ waiting_at actors
+    → value_at a actors ≡ Some s → new ≡ remove_entry (is_at (nat_cmp a)) actors → m + length s.inbox ≡ n
     → m ≡ waiting_at new
-counted_ended a n m s seats new k was is less =
-    let all = waiting-remove a s seats was in
+counted_ended a n m s actors new k was is less =
+    let all = waiting-remove a s actors was in
     rw is (omega (arith, k, all, less))
 
 -- no inbox has more than all have
-pub counted_within : (a n : ℕ) (s : Seat) (es : List (ℕ × Seat)) → n ≡ waiting_at es → value_at a es ≡ Some s
+pub counted_within : (a n : ℕ) (s : LiveActor) (es : List (ℕ × LiveActor)) → n ≡ waiting_at es → value_at a es ≡ Some s
     → length s.inbox ≤ n
 counted_within a n s es is at = omega (arith, is, waiting-remove a s es at)

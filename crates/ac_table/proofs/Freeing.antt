@@ -12,9 +12,9 @@ use Rattle.ac_table.specs.Maps.{value_at, is_key, KeysAscend, ChangesAt, SetChan
 use Rattle.ac_table.specs.Placed.{FacetState, facet_seen, tree_in, bare, KeepsLinks, LinksAt, IsPlaced}
 use Rattle.ac_table.specs.Placed.{IsLinked}
 use Rattle.ac_table.specs.declared.facets.Facet.{Facet}
-use Rattle.ac_table.proofs.Finding.{is_at_same}
+use Rattle.ac_table.specs.Lemmas.Entries.{is_at_same, lookup-filter}
 use Rattle.ac_table.proofs.Placing.{facet-seen, present, above-seen, facet_same}
-use Rattle.ac_table.proofs.Trees.{lookup-filter, tree_added, tree_less, root_there}
+use Rattle.ac_table.proofs.Trees.{tree_added, tree_less, root_there}
 
 is_free : (n end : ℕ) (free b : Bool) → free ≡ (nat_lt n end && not b) → free ≡ true → (n < end) × (b ≡ false)
 is_free n end free true is have =

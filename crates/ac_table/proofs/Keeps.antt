@@ -15,16 +15,17 @@ use Rattle.ac_table.specs.Kept.{sum_of_rows}
 use Rattle.ac_table.specs.Tables.{Row, Batch, IsTable, handles, rows_of, rows_of_others, find_row, without_row}
 use Rattle.ac_table.specs.Kept.{by_handle, value_at, is_key, waits_at, KeysAscend, IsOwned, IsBusy, IsKept, seen}
 use Rattle.ac_table.specs.Kept.{state_of, ChangesAt, SetChangesAt}
-use Rattle.ac_table.proofs.Weighing.{same_number, weighed_reseated, sum_of_rows-push, less_weight}
-use Rattle.ac_table.specs.declared.table.Seat.{Seat}
+use Rattle.ac_table.proofs.Weighing.{same_number, weighed_renewed, sum_of_rows-push, less_weight}
+use Rattle.ac_table.specs.declared.table.LiveActor.{LiveActor}
 use Rattle.ac_table.proofs.Changes.{values-push}
-use Rattle.ac_table.proofs.Finding.{is_at_same, is_live-seen}
+use Rattle.ac_table.specs.Lemmas.Entries.{is_at_same}
+use Rattle.ac_table.proofs.Finding.{is_live-seen}
 use Rattle.ac_table.specs.Lemmas.Lists.{all_weaker, all_push, all_filter}
 use Rattle.ac_table.proofs.Removing.{Ascend, ascend_from, values_from, keyed_from, rows_of-without_other}
 use Rattle.ac_table.proofs.Removing.{handles-without}
 
--- the seat s of an actor became t
-pub record IsReseated (a : ℕ) (s t : Seat) (old new : List (ℕ × Seat)) : Type 0 where
+-- the live actor s became t
+pub record IsRenewed (a : ℕ) (s t : LiveActor) (old new : List (ℕ × LiveActor)) : Type 0 where
   pub was : value_at a old ≡ Some s
   pub changes : ChangesAt a (Some t) old new
   pub ascend : KeysAscend new
@@ -42,117 +43,120 @@ some_still a q x old new ch o = rw (ch q) (split (is_at (nat_cmp a) q))
     split true = refl
     split false = o
 
-pub no_rows : (a : ℕ) (seats : List (ℕ × Seat)) (rows : List Row)
-    → AllByRecursion (λ r. IsSome (value_at r.owner seats)) rows
-    → value_at a seats ≡ None → rows_of a rows ≡ []
-no_rows a seats [] live none = refl
-no_rows a seats (r ∷ rs) live none = split (r.owner == a) refl (no_rows a seats rs live.1 none)
+pub no_rows : (a : ℕ) (actors : List (ℕ × LiveActor)) (rows : List Row)
+    → AllByRecursion (λ r. IsSome (value_at r.owner actors)) rows
+    → value_at a actors ≡ None → rows_of a rows ≡ []
+no_rows a actors [] live none = refl
+no_rows a actors (r ∷ rs) live none = split (r.owner == a) refl (no_rows a actors rs live.1 none)
   where
     split : (b : Bool) → (r.owner == a) ≡ b → rows_of a rs ≡ [] → rows_of a (r ∷ rs) ≡ []
     split true own later =
         let same : r.owner ≡ a = grind (arith, own) in
-        let clash : is_some (value_at a seats) ≡ true = subst (λ (n : ℕ). IsSome (value_at n seats)) same live.0 in
-        absurd (let no_seat : is_some (value_at a seats) ≡ false = ap is_some none in cc)
+        let clash : is_some (value_at a actors) ≡ true = subst (λ (n : ℕ). IsSome (value_at n actors)) same live.0 in
+        absurd (let none_there : is_some (value_at a actors) ≡ false = ap is_some none in cc)
     split false other later = rw other later
 
-pub kept_joined : (a next : ℕ) (s : Seat) (rows : List (ℕ × Row)) (seats new : List (ℕ × Seat)) (busy : List ℕ)
-    → IsKept next rows seats busy → value_at a seats ≡ None → s.own.keys ≡ [] → s.row_weight ≡ 0 → s.inbox ≡ []
-    → ChangesAt a (Some s) seats new → KeysAscend new → IsKept next rows new busy
-kept_joined a next s rows seats new busy k none own weighs empty ch ascend = record {
+pub kept_joined : (a next : ℕ) (s : LiveActor) (rows : List (ℕ × Row)) (actors new : List (ℕ × LiveActor))
+    (busy : List ℕ)
+    → IsKept next rows actors busy → value_at a actors ≡ None → s.own.keys ≡ [] → s.row_weight ≡ 0 → s.inbox ≡ []
+    → ChangesAt a (Some s) actors new → KeysAscend new → IsKept next rows new busy
+kept_joined a next s rows actors new busy k none own weighs empty ch ascend = record {
   keyed = k.keyed;
   rows_ascend = k.rows_ascend;
   below = k.below;
-  owners = all_weaker _ _ (λ r o. some_still a r.owner s seats new ch o) (values_of rows) k.owners;
-  seats_ascend = ascend;
+  owners = all_weaker _ _ (λ r o. some_still a r.owner s actors new ch o) (values_of rows) k.owners;
+  actors_ascend = ascend;
   owned = λ b t is. owned b t (is_at (nat_cmp a) b) refl is;
-  weighed = weighed_reseated a s seats new (values_of rows) (values_of rows) k.weighed ch
-      (weighs ∙ ap sum_of_rows (sym (no_rows a seats (values_of rows) k.owners none)))
+  weighed = weighed_renewed a s actors new (values_of rows) (values_of rows) k.weighed ch
+      (weighs ∙ ap sum_of_rows (sym (no_rows a actors (values_of rows) k.owners none)))
       (λ b apart. refl);
   busy_is = λ b. waits b (is_at (nat_cmp a) b) refl;
 }
   where
-    owned : (b : ℕ) (t : Seat) (c : Bool) → is_at (nat_cmp a) b ≡ c → value_at b new ≡ Some t
+    owned : (b : ℕ) (t : LiveActor) (c : Bool) → is_at (nat_cmp a) b ≡ c → value_at b new ≡ Some t
         → t.own.keys ≡ handles (rows_of b (values_of rows))
     owned b t true same is =
         let number : a ≡ b = same_number a b same in
-        let seat : Some s ≡ Some t = sym (ch b ∙ rw same refl) ∙ is in
-        let keys : t.own.keys ≡ [] = let t_is : s ≡ t = grind (arith, seat) in rw (sym t_is) own in
-        keys ∙ sym (rw (sym number) (ap handles (no_rows a seats (values_of rows) k.owners none)))
+        let both : Some s ≡ Some t = sym (ch b ∙ rw same refl) ∙ is in
+        let keys : t.own.keys ≡ [] = let t_is : s ≡ t = grind (arith, both) in rw (sym t_is) own in
+        keys ∙ sym (rw (sym number) (ap handles (no_rows a actors (values_of rows) k.owners none)))
     owned b t false other is = k.owned b t (sym (ch b ∙ rw other refl) ∙ is)
 
     waits : (b : ℕ) (c : Bool) → is_at (nat_cmp a) b ≡ c → is_key b busy ≡ waits_at (value_at b new)
     waits b true same =
         let number : a ≡ b = same_number a b same in
         let was : is_key b busy ≡ false = k.busy_is b
-        ∙ ap waits_at (subst (λ (n : ℕ). value_at n seats ≡ None) number none) in
+        ∙ ap waits_at (subst (λ (n : ℕ). value_at n actors ≡ None) number none) in
         let is : waits_at (value_at b new) ≡ false = rw (ch b, same) (rw empty refl) in
         was ∙ sym is
     waits b false other = rw (ch b, other) (k.busy_is b)
 
 -- ---- the busy ones
 
-pub busy_set : (a : ℕ) (w : Bool) (t : Option Seat) (seats new : List (ℕ × Seat)) (busy more : List ℕ)
-    → IsBusy busy seats → ChangesAt a t seats new → SetChangesAt a w busy more → w ≡ waits_at t → IsBusy more new
-busy_set a w t seats new busy more k ch set is b = split (is_at (nat_cmp a) b) refl
+pub busy_set : (a : ℕ) (w : Bool) (t : Option LiveActor) (actors new : List (ℕ × LiveActor)) (busy more : List ℕ)
+    → IsBusy busy actors → ChangesAt a t actors new → SetChangesAt a w busy more → w ≡ waits_at t → IsBusy more new
+busy_set a w t actors new busy more k ch set is b = split (is_at (nat_cmp a) b) refl
   where
     split : (c : Bool) → is_at (nat_cmp a) b ≡ c → is_key b more ≡ waits_at (value_at b new)
     split true same = rw (set b, ch b, same) is
     split false other = rw (set b, ch b, other) (k b)
 
-pub busy_same : (a : ℕ) (s t : Seat) (seats new : List (ℕ × Seat)) (busy : List ℕ) → IsBusy busy seats
-    → IsReseated a s t seats new → waits_at (Some t) ≡ waits_at (Some s) → IsBusy busy new
-busy_same a s t seats new busy k re is b = split (is_at (nat_cmp a) b) refl
+pub busy_same : (a : ℕ) (s t : LiveActor) (actors new : List (ℕ × LiveActor)) (busy : List ℕ) → IsBusy busy actors
+    → IsRenewed a s t actors new → waits_at (Some t) ≡ waits_at (Some s) → IsBusy busy new
+busy_same a s t actors new busy k re is b = split (is_at (nat_cmp a) b) refl
   where
     split : (c : Bool) → is_at (nat_cmp a) b ≡ c → is_key b busy ≡ waits_at (value_at b new)
     split true same =
         let number : a ≡ b = same_number a b same in
-        let was : value_at b seats ≡ Some s = subst (λ (n : ℕ). value_at n seats ≡ Some s) number re.was in
+        let was : value_at b actors ≡ Some s = subst (λ (n : ℕ). value_at n actors ≡ Some s) number re.was in
         rw (re.changes b, same) (k b ∙ ap waits_at was ∙ sym is)
     split false other = rw (re.changes b, other) (k b)
 
--- ---- one seat changes
+-- ---- one live actor changes
 
--- one seat has the handles of the actor's rows as they are now, and the rows of another are as before
-pub owned_reseated : (a b : ℕ) (t u : Seat) (seats new : List (ℕ × Seat)) (rows after : List Row) → IsOwned seats rows
-    → ChangesAt a (Some t) seats new → t.own.keys ≡ handles (rows_of a after)
+-- one live actor has the handles of its rows as they are now, and the rows of another are as before
+pub owned_renewed : (a b : ℕ) (t u : LiveActor) (actors new : List (ℕ × LiveActor)) (rows after : List Row)
+    → IsOwned actors rows
+    → ChangesAt a (Some t) actors new → t.own.keys ≡ handles (rows_of a after)
     → ((a == b) ≡ false → rows_of b after ≡ rows_of b rows) → value_at b new ≡ Some u
     → u.own.keys ≡ handles (rows_of b after)
-owned_reseated a b t u seats new rows after k ch own others is = split (is_at (nat_cmp a) b) refl
+owned_renewed a b t u actors new rows after k ch own others is = split (is_at (nat_cmp a) b) refl
   where
     split : (c : Bool) → is_at (nat_cmp a) b ≡ c → u.own.keys ≡ handles (rows_of b after)
     split true same =
         let number : a ≡ b = same_number a b same in
-        let seat : Some t ≡ Some u = sym (ch b ∙ rw same refl) ∙ is in
-        let u_is : t ≡ u = grind (arith, seat) in
+        let both : Some t ≡ Some u = sym (ch b ∙ rw same refl) ∙ is in
+        let u_is : t ≡ u = grind (arith, both) in
         subst (λ (n : ℕ). u.own.keys ≡ handles (rows_of n after)) number (rw (sym u_is) own)
     split false other =
         let apart : (a == b) ≡ false = grind (arith, is_at_same a b, other) in
         k b u (sym (ch b ∙ rw other refl) ∙ is) ∙ ap handles (sym (others apart))
 
-owned_same : (a b : ℕ) (s t u : Seat) (seats new : List (ℕ × Seat)) (rows : List Row) → IsOwned seats rows
-    → IsReseated a s t seats new → t.own.keys ≡ s.own.keys → value_at b new ≡ Some u
+owned_same : (a b : ℕ) (s t u : LiveActor) (actors new : List (ℕ × LiveActor)) (rows : List Row) → IsOwned actors rows
+    → IsRenewed a s t actors new → t.own.keys ≡ s.own.keys → value_at b new ≡ Some u
     → u.own.keys ≡ handles (rows_of b rows)
-owned_same a b s t u seats new rows k re own is = split (is_at (nat_cmp a) b) refl
+owned_same a b s t u actors new rows k re own is = split (is_at (nat_cmp a) b) refl
   where
     split : (c : Bool) → is_at (nat_cmp a) b ≡ c → u.own.keys ≡ handles (rows_of b rows)
     split true same =
         let number : a ≡ b = same_number a b same in
-        let seat : Some t ≡ Some u = sym (re.changes b ∙ rw same refl) ∙ is in
-        let u_is : t ≡ u = grind (arith, seat) in
+        let both : Some t ≡ Some u = sym (re.changes b ∙ rw same refl) ∙ is in
+        let u_is : t ≡ u = grind (arith, both) in
         subst (λ (n : ℕ). u.own.keys ≡ handles (rows_of n rows)) number (rw (sym u_is) (own ∙ k a s re.was))
     split false other = k b u (sym (re.changes b ∙ rw other refl) ∙ is)
 
-pub kept_reseated : (a next : ℕ) (s t : Seat) (rows : List (ℕ × Row)) (seats new : List (ℕ × Seat)) (busy more : List ℕ)
-    → IsKept next rows seats busy → IsReseated a s t seats new → t.own.keys ≡ s.own.keys → t.row_weight ≡ s.row_weight
+pub kept_renewed : (a next : ℕ) (s t : LiveActor) (rows : List (ℕ × Row)) (actors new : List (ℕ × LiveActor))
+    (busy more : List ℕ)
+    → IsKept next rows actors busy → IsRenewed a s t actors new → t.own.keys ≡ s.own.keys → t.row_weight ≡ s.row_weight
     → IsBusy more new → IsKept next rows new more
-kept_reseated a next s t rows seats new busy more k re own weighs waits = record {
+kept_renewed a next s t rows actors new busy more k re own weighs waits = record {
   keyed = k.keyed;
   rows_ascend = k.rows_ascend;
   below = k.below;
-  owners = all_weaker _ _ (λ r o. some_still a r.owner t seats new re.changes o) (values_of rows) k.owners;
-  seats_ascend = re.ascend;
-  owned = λ b u is. owned_same a b s t u seats new (values_of rows) k.owned re own is;
-  weighed = weighed_reseated a t seats new (values_of rows) (values_of rows) k.weighed re.changes
+  owners = all_weaker _ _ (λ r o. some_still a r.owner t actors new re.changes o) (values_of rows) k.owners;
+  actors_ascend = re.ascend;
+  owned = λ b u is. owned_same a b s t u actors new (values_of rows) k.owned re own is;
+  weighed = weighed_renewed a t actors new (values_of rows) (values_of rows) k.weighed re.changes
       (weighs ∙ k.weighed a s re.was) (λ b apart. refl);
   busy_is = waits;
 }
@@ -169,16 +173,16 @@ rows_of-push_other : (a : ℕ) (rows : List Row) (r : Row) → (r.owner == a) �
 rows_of-push_other a [] r other = rw other refl
 rows_of-push_other a (x ∷ xs) r other = grind (arith, rows_of-push_other a xs r other)
 
-owned_more : (b next : ℕ) (s t u : Seat) (row : Row) (seats new : List (ℕ × Seat)) (rows : List Row)
-    → IsOwned seats rows → IsReseated row.owner s t seats new → t.own.keys ≡ s.own.keys ++ row.handle ∷ []
+owned_more : (b next : ℕ) (s t u : LiveActor) (row : Row) (actors new : List (ℕ × LiveActor)) (rows : List Row)
+    → IsOwned actors rows → IsRenewed row.owner s t actors new → t.own.keys ≡ s.own.keys ++ row.handle ∷ []
     → value_at b new ≡ Some u → u.own.keys ≡ handles (rows_of b (rows ++ row ∷ []))
-owned_more b next s t u row seats new rows k re own is = split (is_at (nat_cmp row.owner) b) refl
+owned_more b next s t u row actors new rows k re own is = split (is_at (nat_cmp row.owner) b) refl
   where
     split : (c : Bool) → is_at (nat_cmp row.owner) b ≡ c → u.own.keys ≡ handles (rows_of b (rows ++ row ∷ []))
     split true same =
         let number : row.owner ≡ b = same_number row.owner b same in
-        let seat : Some t ≡ Some u = sym (re.changes b ∙ rw same refl) ∙ is in
-        let u_is : t ≡ u = grind (arith, seat) in
+        let both : Some t ≡ Some u = sym (re.changes b ∙ rw same refl) ∙ is in
+        let u_is : t ≡ u = grind (arith, both) in
         let all : handles (rows_of row.owner (rows ++ row ∷ [])) ≡ handles (rows_of row.owner rows) ++ row.handle ∷ [] =
         handles-push_own row.owner rows row (grind arith) in
         subst (λ (n : ℕ). u.own.keys ≡ handles (rows_of n (rows ++ row ∷ []))) number
@@ -187,13 +191,15 @@ owned_more b next s t u row seats new rows k re own is = split (is_at (nat_cmp r
         let apart : (row.owner == b) ≡ false = grind (arith, is_at_same row.owner b, other) in
         k b u (sym (re.changes b ∙ rw other refl) ∙ is) ∙ ap handles (sym (rows_of-push_other b rows row apart))
 
-pub kept_asserted : (next : ℕ) (s t : Seat) (row : Row) (rows more : List (ℕ × Row)) (seats new : List (ℕ × Seat))
-    (busy : List ℕ) → IsKept next rows seats busy → IsReseated row.owner s t seats new
+pub kept_asserted : (next : ℕ) (s t : LiveActor) (row : Row) (rows more : List (ℕ × Row))
+    (actors new : List (ℕ × LiveActor))
+    (busy : List ℕ) → IsKept next rows actors busy → IsRenewed row.owner s t actors new
     → t.own.keys ≡ s.own.keys ++ row.handle ∷ [] → t.row_weight ≡ s.row_weight + top (weight row.value)
-    → t.inbox ≡ s.inbox → row.handle ≡ next → more ≡ rows ++ by_handle row ∷ [] → KeysAscend more → IsKept (next + 1) more new busy
-kept_asserted next s t row rows more seats new busy k re own weighs same handle more_is ascend =
+    → t.inbox ≡ s.inbox → row.handle ≡ next → more ≡ rows ++ by_handle row ∷ [] → KeysAscend more
+    → IsKept (next + 1) more new busy
+kept_asserted next s t row rows more actors new busy k re own weighs same handle more_is ascend =
     let v : values_of more ≡ values_of rows ++ row ∷ [] = ap values_of more_is ∙ values-push rows row in
-    let here : IsSome (value_at row.owner new) = rw (changed_here row.owner (Some t) seats new re.changes) refl in
+    let here : IsSome (value_at row.owner new) = rw (changed_here row.owner (Some t) actors new re.changes) refl in
     let waits : waits_at (Some t) ≡ waits_at (Some s) = ap (λ (bs : List Batch). nat_lt 0 (length bs)) same in
     record {
       keyed = keyed_from more _ (more_is ∙ ap (λ (es : List (ℕ × Row)). es ++ by_handle row ∷ []) k.keyed
@@ -202,45 +208,45 @@ kept_asserted next s t row rows more seats new busy k re own weighs same handle 
       below = rw v (all_push _ (values_of rows) row
           (all_weaker _ _ (λ r l. omega (arith, l)) (values_of rows) k.below) (omega (arith, handle)));
       owners = rw v (all_push _ (values_of rows) row
-          (all_weaker _ _ (λ r o. some_still row.owner r.owner t seats new re.changes o) (values_of rows) k.owners)
+          (all_weaker _ _ (λ r o. some_still row.owner r.owner t actors new re.changes o) (values_of rows) k.owners)
           here);
-      seats_ascend = re.ascend;
-      owned = λ b u is. rw v (owned_more b next s t u row seats new (values_of rows) k.owned re own is);
-      weighed = rw v (weighed_reseated row.owner t seats new (values_of rows) (values_of rows ++ row ∷ []) k.weighed
+      actors_ascend = re.ascend;
+      owned = λ b u is. rw v (owned_more b next s t u row actors new (values_of rows) k.owned re own is);
+      weighed = rw v (weighed_renewed row.owner t actors new (values_of rows) (values_of rows ++ row ∷ []) k.weighed
           re.changes
           (weighs ∙ ap (λ (n : ℕ). n + top (weight row.value)) (k.weighed row.owner s re.was)
           ∙ sym (sum_of_rows-push row.owner (values_of rows) row (grind arith)))
           (λ b apart. rows_of-push_other b (values_of rows) row apart));
-      busy_is = busy_same row.owner s t seats new busy k.busy_is re waits;
+      busy_is = busy_same row.owner s t actors new busy k.busy_is re waits;
     }
 
 -- ---- one row less
 
-pub owner_lives : (h : ℕ) (seats : List (ℕ × Seat)) (rows : List Row) (r : Row)
-    → AllByRecursion (λ r. IsSome (value_at r.owner seats)) rows → find_row h rows ≡ Some r
-    → IsSome (value_at r.owner seats)
-owner_lives h seats [] r live is = absurd cc
-owner_lives h seats (x ∷ xs) r live is = split (x.handle == h) refl (owner_lives h seats xs r live.1)
+pub owner_lives : (h : ℕ) (actors : List (ℕ × LiveActor)) (rows : List Row) (r : Row)
+    → AllByRecursion (λ r. IsSome (value_at r.owner actors)) rows → find_row h rows ≡ Some r
+    → IsSome (value_at r.owner actors)
+owner_lives h actors [] r live is = absurd cc
+owner_lives h actors (x ∷ xs) r live is = split (x.handle == h) refl (owner_lives h actors xs r live.1)
   where
-    split : (b : Bool) → (x.handle == h) ≡ b → (find_row h xs ≡ Some r → IsSome (value_at r.owner seats))
-        → IsSome (value_at r.owner seats)
+    split : (b : Bool) → (x.handle == h) ≡ b → (find_row h xs ≡ Some r → IsSome (value_at r.owner actors))
+        → IsSome (value_at r.owner actors)
     split true here later =
         let x_is : Some x ≡ Some r = sym (rw here refl) ∙ is in
         let same : x ≡ r = grind (arith, x_is) in
-        subst (λ (y : Row). IsSome (value_at y.owner seats)) same live.0
+        subst (λ (y : Row). IsSome (value_at y.owner actors)) same live.0
     split false other later = later (rw other at is)
 
-owned_less : (b h : ℕ) (s t u : Seat) (row : Row) (seats new : List (ℕ × Seat)) (rows : List Row)
-    → IsOwned seats rows → IsReseated row.owner s t seats new → t.own.keys ≡ remove_key (is_at (nat_cmp h)) s.own.keys
+owned_less : (b h : ℕ) (s t u : LiveActor) (row : Row) (actors new : List (ℕ × LiveActor)) (rows : List Row)
+    → IsOwned actors rows → IsRenewed row.owner s t actors new → t.own.keys ≡ remove_key (is_at (nat_cmp h)) s.own.keys
     → Ascend rows → find_row h rows ≡ Some row → value_at b new ≡ Some u
     → u.own.keys ≡ handles (rows_of b (without_row h rows))
-owned_less b h s t u row seats new rows k re own ascend found is = split (is_at (nat_cmp row.owner) b) refl
+owned_less b h s t u row actors new rows k re own ascend found is = split (is_at (nat_cmp row.owner) b) refl
   where
     split : (c : Bool) → is_at (nat_cmp row.owner) b ≡ c → u.own.keys ≡ handles (rows_of b (without_row h rows))
     split true same =
         let number : row.owner ≡ b = same_number row.owner b same in
-        let seat : Some t ≡ Some u = sym (re.changes b ∙ rw same refl) ∙ is in
-        let u_is : t ≡ u = grind (arith, seat) in
+        let both : Some t ≡ Some u = sym (re.changes b ∙ rw same refl) ∙ is in
+        let u_is : t ≡ u = grind (arith, both) in
         let less = handles-without row.owner h rows row ascend found (grind arith) in
         subst (λ (n : ℕ). u.own.keys ≡ handles (rows_of n (without_row h rows))) number
         (rw (sym u_is) (own ∙ ap (remove_key (is_at (nat_cmp h))) (k row.owner s re.was) ∙ sym less))
@@ -249,12 +255,14 @@ owned_less b h s t u row seats new rows k re own ascend found is = split (is_at 
         k b u (sym (re.changes b ∙ rw other refl) ∙ is)
         ∙ ap handles (sym (rows_of-without_other b h rows row ascend found apart))
 
-pub kept_retracted : (h next : ℕ) (s t : Seat) (row : Row) (rows less : List (ℕ × Row)) (seats new : List (ℕ × Seat))
-    (busy : List ℕ) → IsKept next rows seats busy → IsReseated row.owner s t seats new
+pub kept_retracted : (h next : ℕ) (s t : LiveActor) (row : Row) (rows less : List (ℕ × Row))
+    (actors new : List (ℕ × LiveActor))
+    (busy : List ℕ) → IsKept next rows actors busy → IsRenewed row.owner s t actors new
     → t.own.keys ≡ remove_key (is_at (nat_cmp h)) s.own.keys → t.row_weight + top (weight row.value) ≡ s.row_weight
-    → t.inbox ≡ s.inbox → find_row h (values_of rows) ≡ Some row → less ≡ map by_handle (without_row h (values_of rows)) → KeysAscend less
+    → t.inbox ≡ s.inbox → find_row h (values_of rows) ≡ Some row
+    → less ≡ map by_handle (without_row h (values_of rows)) → KeysAscend less
     → IsKept next less new busy
-kept_retracted h next s t row rows less seats new busy k re own weighs same found less_is ascend =
+kept_retracted h next s t row rows less actors new busy k re own weighs same found less_is ascend =
     let v : values_of less ≡ without_row h (values_of rows) = values_from less _ less_is in
     let ascends = ascend_from rows k.keyed k.rows_ascend in
     let waits : waits_at (Some t) ≡ waits_at (Some s) = ap (λ (bs : List Batch). nat_lt 0 (length bs)) same in
@@ -262,17 +270,17 @@ kept_retracted h next s t row rows less seats new busy k re own weighs same foun
       keyed = keyed_from less _ less_is;
       rows_ascend = ascend;
       below = rw v (all_filter _ _ _ (λ r passed l. l) (values_of rows) k.below);
-      owners = rw v (all_filter _ _ _ (λ r passed o. some_still row.owner r.owner t seats new re.changes o)
+      owners = rw v (all_filter _ _ _ (λ r passed o. some_still row.owner r.owner t actors new re.changes o)
           (values_of rows) k.owners);
-      seats_ascend = re.ascend;
-      owned = λ b u is. rw v (owned_less b h s t u row seats new (values_of rows) k.owned re own
+      actors_ascend = re.ascend;
+      owned = λ b u is. rw v (owned_less b h s t u row actors new (values_of rows) k.owned re own
           ascends found is);
-      weighed = rw v (weighed_reseated row.owner t seats new (values_of rows) (without_row h (values_of rows)) k.weighed
+      weighed = rw v (weighed_renewed row.owner t actors new (values_of rows) (without_row h (values_of rows)) k.weighed
           re.changes
           (less_weight h row t.row_weight s.row_weight (values_of rows) ascends found weighs
           (k.weighed row.owner s re.was))
           (λ b apart. rows_of-without_other b h (values_of rows) row ascends found apart));
-      busy_is = busy_same row.owner s t seats new busy k.busy_is re waits;
+      busy_is = busy_same row.owner s t actors new busy k.busy_is re waits;
     }
 
 -- ---- an actor goes
@@ -281,34 +289,34 @@ rows_of-others : (a b : ℕ) (rows : List Row) → (a == b) ≡ false → rows_o
 rows_of-others a b [] apart = refl
 rows_of-others a b (r ∷ rs) apart = grind (arith, rows_of-others a b rs apart)
 
-pub kept_ended : (a next : ℕ) (rows less : List (ℕ × Row)) (seats new : List (ℕ × Seat)) (busy fewer : List ℕ)
-    → IsKept next rows seats busy → ChangesAt a None seats new → KeysAscend new → SetChangesAt a false busy fewer
+pub kept_ended : (a next : ℕ) (rows less : List (ℕ × Row)) (actors new : List (ℕ × LiveActor)) (busy fewer : List ℕ)
+    → IsKept next rows actors busy → ChangesAt a None actors new → KeysAscend new → SetChangesAt a false busy fewer
     → less ≡ map by_handle (values_of less) → values_of less ≡ rows_of_others a (values_of rows) → KeysAscend less
     → IsKept next less new fewer
-kept_ended a next rows less seats new busy fewer k ch new_ascend set keyed v ascend = record {
+kept_ended a next rows less actors new busy fewer k ch new_ascend set keyed v ascend = record {
   keyed = keyed;
   rows_ascend = ascend;
   below = rw v (all_filter _ _ _ (λ r passed l. l) (values_of rows) k.below);
   owners = rw v (all_filter _ _ _ (λ r passed o. still r passed o) (values_of rows) k.owners);
-  seats_ascend = new_ascend;
+  actors_ascend = new_ascend;
   owned = λ b u is. rw v (owned b u (is_at (nat_cmp a) b) refl is);
   weighed = λ b u is. rw v (weighed b u (is_at (nat_cmp a) b) refl is);
-  busy_is = busy_set a false None seats new busy fewer k.busy_is ch set refl;
+  busy_is = busy_set a false None actors new busy fewer k.busy_is ch set refl;
 }
   where
-    still : (r : Row) → not (r.owner == a) ≡ true → IsSome (value_at r.owner seats) → IsSome (value_at r.owner new)
+    still : (r : Row) → not (r.owner == a) ≡ true → IsSome (value_at r.owner actors) → IsSome (value_at r.owner new)
     still r passed o =
         let other : is_at (nat_cmp a) r.owner ≡ false = grind (arith, is_at_same a r.owner, passed) in
         rw (ch r.owner, other) o
 
-    owned : (b : ℕ) (u : Seat) (c : Bool) → is_at (nat_cmp a) b ≡ c → value_at b new ≡ Some u
+    owned : (b : ℕ) (u : LiveActor) (c : Bool) → is_at (nat_cmp a) b ≡ c → value_at b new ≡ Some u
         → u.own.keys ≡ handles (rows_of b (rows_of_others a (values_of rows)))
     owned b u true same is = let clash : None ≡ Some u = sym (ch b ∙ rw same refl) ∙ is in absurd cc
     owned b u false other is =
         let apart : (a == b) ≡ false = grind (arith, is_at_same a b, other) in
         k.owned b u (sym (ch b ∙ rw other refl) ∙ is) ∙ ap handles (sym (rows_of-others a b (values_of rows) apart))
 
-    weighed : (b : ℕ) (u : Seat) (c : Bool) → is_at (nat_cmp a) b ≡ c → value_at b new ≡ Some u
+    weighed : (b : ℕ) (u : LiveActor) (c : Bool) → is_at (nat_cmp a) b ≡ c → value_at b new ≡ Some u
         → u.row_weight ≡ sum_of_rows (rows_of b (rows_of_others a (values_of rows)))
     weighed b u true same is = let clash : None ≡ Some u = sym (ch b ∙ rw same refl) ∙ is in absurd cc
     weighed b u false other is =
@@ -318,9 +326,9 @@ kept_ended a next rows less seats new busy fewer k ch new_ascend set keyed v asc
 
 -- ---- what the maps' calls say
 
-pub reseated_from : (a : ℕ) (s t : Seat) (old new : BTreeMap ℕ Seat) → get nat_cmp old a ≡ Some s
-    → WritesThrough nat_cmp (nat_cmp a) old t new → IsReseated a s t old.entries new.entries
-reseated_from a s t old new was w = record {
+pub renewed_from : (a : ℕ) (s t : LiveActor) (old new : BTreeMap ℕ LiveActor) → get nat_cmp old a ≡ Some s
+    → WritesThrough nat_cmp (nat_cmp a) old t new → IsRenewed a s t old.entries new.entries
+renewed_from a s t old new was w = record {
   was = was;
   changes = (w.3 (ap is_some was)).0;
   ascend = w.4;
@@ -331,9 +339,9 @@ all_keys_below : (n : ℕ) (rows : List Row) → AllByRecursion (λ r. r.handle 
 all_keys_below n [] a = tt
 all_keys_below n (r ∷ rs) a = (a.0, all_keys_below n rs a.1)
 
-pub keys_below : (next : ℕ) (rows : List (ℕ × Row)) (seats : List (ℕ × Seat)) (busy : List ℕ)
-    → IsKept next rows seats busy → AllByRecursion (λ e. e.0 < next) rows
-keys_below next rows seats busy k =
+pub keys_below : (next : ℕ) (rows : List (ℕ × Row)) (actors : List (ℕ × LiveActor)) (busy : List ℕ)
+    → IsKept next rows actors busy → AllByRecursion (λ e. e.0 < next) rows
+keys_below next rows actors busy k =
     subst (λ (es : List (ℕ × Row)). AllByRecursion (λ e. e.0 < next) es) (sym k.keyed)
     (all_keys_below next (values_of rows) k.below)
 
@@ -347,21 +355,21 @@ handles_below a n (r ∷ rs) b = split (r.owner == a) refl (handles_below a n rs
     split true is rest = rw is (b.0, rest)
     split false is rest = rw is rest
 
-pub own_below : (a next : ℕ) (s : Seat) (rows : List (ℕ × Row)) (seats : List (ℕ × Seat)) (busy : List ℕ)
-    → IsKept next rows seats busy → value_at a seats ≡ Some s → AllByRecursion (λ h. h < next) s.own.keys
-own_below a next s rows seats busy k was = rw (k.owned a s was) (handles_below a next (values_of rows) k.below)
+pub own_below : (a next : ℕ) (s : LiveActor) (rows : List (ℕ × Row)) (actors : List (ℕ × LiveActor)) (busy : List ℕ)
+    → IsKept next rows actors busy → value_at a actors ≡ Some s → AllByRecursion (λ h. h < next) s.own.keys
+own_below a next s rows actors busy k was = rw (k.owned a s was) (handles_below a next (values_of rows) k.below)
 
 -- ---- what is true of every table
 
-numbers-seen : (seats : List (ℕ × Seat)) → keys_of seats ≡ map (λ x. x.number) (map seen seats)
+numbers-seen : (actors : List (ℕ × LiveActor)) → keys_of actors ≡ map (λ x. x.number) (map seen actors)
 numbers-seen [] = refl
 numbers-seen (e ∷ es) = ap (λ t. e.0 ∷ t) (numbers-seen es)
 
-pub is_table : (next : ℕ) (rows : List (ℕ × Row)) (seats : List (ℕ × Seat)) (busy : List ℕ)
-    → IsKept next rows seats busy → IsTable (state_of next rows seats)
-is_table next rows seats busy k = record {
+pub is_table : (next : ℕ) (rows : List (ℕ × Row)) (actors : List (ℕ × LiveActor)) (busy : List ℕ)
+    → IsKept next rows actors busy → IsTable (state_of next rows actors)
+is_table next rows actors busy k = record {
   rows_ascend = ascend_from rows k.keyed k.rows_ascend;
   rows_below_next = k.below;
-  actors_ascend = subst (IsStrictlySortedBy nat_cmp) (numbers-seen seats) k.seats_ascend;
-  owners_live = all_weaker _ _ (λ r o. is_live-seen r.owner next rows seats ∙ o) (values_of rows) k.owners;
+  actors_ascend = subst (IsStrictlySortedBy nat_cmp) (numbers-seen actors) k.actors_ascend;
+  owners_live = all_weaker _ _ (λ r o. is_live-seen r.owner next rows actors ∙ o) (values_of rows) k.owners;
 }

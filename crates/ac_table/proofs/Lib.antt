@@ -4,9 +4,12 @@ pub mod Counting
 pub mod Finding
 pub mod Freeing
 pub mod Keeps
+pub mod Least
 pub mod Lowest
 pub mod Placing
+pub mod Refaceting
 pub mod Removing
+pub mod Renewing
 pub mod Searching
 pub mod Sets
 pub mod Standing

@@ -9,11 +9,11 @@ use Rattle.std.specs.Ordering.{nat_cmp}
 use Rattle.std.proofs.lemmas.Map.Keys.{sorted_head, sorted_tail, le_from_not_gt}
 use Rattle.ac_table.specs.Tables.{lowest_in}
 use Rattle.ac_table.specs.Kept.{seen, value_at, is_key, waits_at, KeysAscend, IsBusy}
-use Rattle.ac_table.specs.declared.table.Seat.{Seat}
-use Rattle.ac_table.proofs.Finding.{is_at_same}
+use Rattle.ac_table.specs.declared.table.LiveActor.{LiveActor}
+use Rattle.ac_table.specs.Lemmas.Entries.{is_at_same}
 
 -- keys behind a lower one
-key_above : (a k : ℕ) (es : List (ℕ × Seat)) → AllByRecursion (λ q. nat_cmp a q ≡ Less) (keys_of es)
+key_above : (a k : ℕ) (es : List (ℕ × LiveActor)) → AllByRecursion (λ q. nat_cmp a q ≡ Less) (keys_of es)
     → waits_at (value_at k es) ≡ true → a < k
 key_above a k [] above waits = absurd cc
 key_above a k (e ∷ es) above waits = split (is_at (nat_cmp k) e.0) refl (key_above a k es above.1)
@@ -23,20 +23,21 @@ key_above a k (e ∷ es) above waits = split (is_at (nat_cmp k) e.0) refl (key_a
     split false other later = later (rw other at waits)
 
 -- what waits behind the first entry waits in all
-waits_behind : (q : ℕ) (e : ℕ × Seat) (es : List (ℕ × Seat)) → KeysAscend (e ∷ es) → waits_at (value_at q es) ≡ true
+waits_behind : (q : ℕ) (e : ℕ × LiveActor) (es : List (ℕ × LiveActor)) → KeysAscend (e ∷ es)
+    → waits_at (value_at q es) ≡ true
     → waits_at (value_at q (e ∷ es)) ≡ true
 waits_behind q e es s waits =
     let above : e.0 < q = key_above e.0 q es (sorted_head nat_cmp _ _ s) waits in
     let other : is_at (nat_cmp q) e.0 ≡ false = grind (arith, is_at_same q e.0, above) in
     rw other waits
 
-waits_first : (e : ℕ × Seat) (es : List (ℕ × Seat))
+waits_first : (e : ℕ × LiveActor) (es : List (ℕ × LiveActor))
     → waits_at (value_at e.0 (e ∷ es)) ≡ nat_lt 0 (length e.1.inbox)
 waits_first e es = let here : is_at (nat_cmp e.0) e.0 ≡ true = grind (arith, is_at_same e.0 e.0) in rw here refl
 
 -- a batch waits for this one, and for none below it
-pub lowest_found : (k : ℕ) (seats : List (ℕ × Seat)) → KeysAscend seats → waits_at (value_at k seats) ≡ true
-    → ((q : ℕ) → waits_at (value_at q seats) ≡ true → k ≤ q) → lowest_in (map seen seats) ≡ Some k
+pub lowest_found : (k : ℕ) (actors : List (ℕ × LiveActor)) → KeysAscend actors → waits_at (value_at k actors) ≡ true
+    → ((q : ℕ) → waits_at (value_at q actors) ≡ true → k ≤ q) → lowest_in (map seen actors) ≡ Some k
 lowest_found k [] s waits least = absurd cc
 lowest_found k (e ∷ es) s waits least =
     split (is_at (nat_cmp k) e.0) (nat_lt 0 (length e.1.inbox)) refl refl
@@ -55,8 +56,8 @@ lowest_found k (e ∷ es) s waits least =
     split false false other has later = rw has (later (rw other at waits))
 
 -- a batch waits for none
-pub lowest_none : (seats : List (ℕ × Seat)) → ((q : ℕ) → waits_at (value_at q seats) ≡ false)
-    → KeysAscend seats → lowest_in (map seen seats) ≡ None
+pub lowest_none : (actors : List (ℕ × LiveActor)) → ((q : ℕ) → waits_at (value_at q actors) ≡ false)
+    → KeysAscend actors → lowest_in (map seen actors) ≡ None
 lowest_none [] none s = refl
 lowest_none (e ∷ es) none s =
     let here : nat_lt 0 (length e.1.inbox) ≡ false = sym (waits_first e es) ∙ none e.0 in
@@ -70,13 +71,13 @@ pub no_keys : (ks : List ℕ) → (0 < length ks → false ≡ true) → ks ≡ 
 no_keys [] rises = refl
 no_keys (k ∷ ks) rises = let clash : false ≡ true = rises (omega arith) in absurd cc
 
-pub lowest_from : (busy : BTreeSet ℕ) (seats : List (ℕ × Seat)) (r : Option (Bor ℕ)) → KeysAscend seats
-    → IsBusy busy.keys seats → (0 < btree_set_len busy → IsSome r)
+pub lowest_from : (busy : BTreeSet ℕ) (actors : List (ℕ × LiveActor)) (r : Option (Bor ℕ)) → KeysAscend actors
+    → IsBusy busy.keys actors → (0 < btree_set_len busy → IsSome r)
     → IfSome r (λ k. IsTrue (contains nat_cmp busy k.now)) → IfSome r (λ k. IsLowerBound nat_cmp busy k.now)
-    → option_copied r ≡ lowest_in (map seen seats)
-lowest_from busy seats None s k some member least =
+    → option_copied r ≡ lowest_in (map seen actors)
+lowest_from busy actors None s k some member least =
     let none : busy.keys ≡ [] = no_keys busy.keys some in
-    sym (lowest_none seats (λ q. sym (k q) ∙ ap (is_key q) none) s)
-lowest_from busy seats (Some x) s k some member least =
-    sym (lowest_found x.now seats s (sym (k x.now) ∙ member)
+    sym (lowest_none actors (λ q. sym (k q) ∙ ap (is_key q) none) s)
+lowest_from busy actors (Some x) s k some member least =
+    sym (lowest_found x.now actors s (sym (k x.now) ∙ member)
     (λ q w. le_from_not_gt x.now q (least q (k q ∙ w))))

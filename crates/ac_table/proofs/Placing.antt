@@ -11,7 +11,7 @@ use Rattle.ac_table.specs.Maps.{value_at, is_key, KeysAscend, ChangesAt, SetChan
 use Rattle.ac_table.specs.Placed.{FacetState, facet_seen, tree_in, rows_of_facet, has_at, is_child, is_here}
 use Rattle.ac_table.specs.Placed.{WasAt, KeepsLinks, IsPlaced, HasRow, SameRows, LinksAt, IsLinked}
 use Rattle.ac_table.specs.declared.facets.Facet.{Facet}
-use Rattle.ac_table.proofs.Finding.{is_at_same}
+use Rattle.ac_table.specs.Lemmas.Entries.{is_at_same}
 
 abbrev pub seen_of : Option Facet → Option FacetState
 seen_of None = None
@@ -203,9 +203,13 @@ rows_seen : (o : Option Facet) → rows_of_facet (seen_of o) ≡ rows_in o
 rows_seen None = refl
 rows_seen (Some x) = refl
 
+pub rows-seen : (f : ℕ) (all : List (ℕ × Facet))
+    → rows_of_facet (value_at f (map facet_seen all)) ≡ rows_in (value_at f all)
+rows-seen f all = ap rows_of_facet (seen_at f all) ∙ rows_seen (value_at f all)
+
 pub has-seen : (f h : ℕ) (all : List (ℕ × Facet))
     → has_at f h (map facet_seen all) ≡ is_key h (rows_in (value_at f all))
-has-seen f h all = ap (λ o. is_key h (rows_of_facet o)) (seen_at f all) ∙ ap (is_key h) (rows_seen (value_at f all))
+has-seen f h all = ap (is_key h) (rows-seen f all)
 
 pub has_row : (f h : ℕ) (w : Bool) (x y : Facet) (old new : List (ℕ × Facet)) → IsRefaceted f x y old new
     → ((k : ℕ) → is_key k y.rows.keys ≡ cond (is_at (nat_cmp h) k) w (is_key k x.rows.keys))

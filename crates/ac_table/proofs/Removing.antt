@@ -10,7 +10,8 @@ use Rattle.std.specs.Set.{remove_key}
 use Rattle.std.proofs.lemmas.Map.Keys.{sorted_head, sorted_tail}
 use Rattle.ac_table.specs.Tables.{Row, handles, rows_of, without_row, find_row}
 use Rattle.ac_table.specs.Kept.{by_handle, value_at, KeysAscend}
-use Rattle.ac_table.proofs.Finding.{is_at_same, find_row-by_handle}
+use Rattle.ac_table.specs.Lemmas.Entries.{is_at_same}
+use Rattle.ac_table.proofs.Finding.{find_row-by_handle}
 
 abbrev pub Ascend : List Row → Type 0
 Ascend rows = IsStrictlySortedBy nat_cmp (handles rows)

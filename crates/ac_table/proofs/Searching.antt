@@ -12,7 +12,7 @@ use Rattle.std.proofs.lemmas.Map.Steps.{length-le_from_keys}
 use Rattle.ac_table.specs.Facets.{Tree, is_facet, above, climbed, IsBelow, IsTree, AreBelow}
 use Rattle.ac_table.specs.Maps.{is_key}
 use Rattle.ac_table.specs.Placed.{is_child}
-use Rattle.ac_table.proofs.Finding.{is_at_same}
+use Rattle.ac_table.specs.Lemmas.Entries.{is_at_same}
 use Rattle.ac_table.proofs.Trees.{all_found}
 
 -- what is found stands below, and what stands right below something that was looked at is found

@@ -12,7 +12,7 @@ use Rattle.std.specs.Ordering.{nat_cmp}
 use Rattle.std.proofs.lemmas.Bool.Decides.{nat_tests}
 use Rattle.std.proofs.lemmas.Map.Keys.{sorted_head, sorted_tail}
 use Rattle.ac_table.specs.Maps.{is_key, KeysAscend, SetChangesAt}
-use Rattle.ac_table.proofs.Finding.{is_at_same}
+use Rattle.ac_table.specs.Lemmas.Entries.{is_at_same}
 
 pub on_err : {X E : Type 0} (P : Type 0) (r : Result X E) → P → OnErr r P
 on_err P (Ok x) p = tt
@@ -168,7 +168,7 @@ behind x q (y ∷ ys) a is = split (is_at (nat_cmp q) y) refl (behind x q ys a.1
 no_circle : (x y : ℕ) → nat_cmp x y ≡ Less → nat_cmp y x ≡ Less → ⊥
 no_circle x y down up = grind arith
 
-first_has : (x : ℕ) (xs : List ℕ) → is_key x (x ∷ xs) ≡ true
+pub first_has : (x : ℕ) (xs : List ℕ) → is_key x (x ∷ xs) ≡ true
 first_has x xs = let here : is_at (nat_cmp x) x ≡ true = grind (arith, is_at_same x x) in rw here refl
 
 pub sorted_same : (xs ys : List ℕ) → IsStrictlySortedBy nat_cmp xs → IsStrictlySortedBy nat_cmp ys

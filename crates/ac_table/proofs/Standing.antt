@@ -10,12 +10,11 @@ use Rattle.std.proofs.lemmas.Map.Keys.{sorted_head, sorted_tail}
 use Rattle.ac_table.specs.Kept.{value_at, is_key, ChangesAt, AreStanding, stands_at}
 use Rattle.ac_table.specs.Placed.{FacetState, tree_in, has_at, rows_of_facet, SameRows, HasRow, is_here, bare}
 use Rattle.ac_table.specs.Tables.{Row, handles, rows_of_others, find_row, without_row}
-use Rattle.ac_table.specs.declared.table.Seat.{Seat}
-use Rattle.ac_table.proofs.Finding.{is_at_same}
-use Rattle.ac_table.proofs.Keeps.{IsReseated}
+use Rattle.ac_table.specs.declared.table.LiveActor.{LiveActor}
+use Rattle.ac_table.specs.Lemmas.Entries.{is_at_same, lookup-insert}
+use Rattle.ac_table.proofs.Keeps.{IsRenewed}
 use Rattle.ac_table.proofs.Placing.{parent_at, parent_in}
 use Rattle.ac_table.proofs.Removing.{Ascend, find_row-above}
-use Rattle.ac_table.proofs.Trees.{lookup-insert}
 use Rattle.ac_table.proofs.Weighing.{same_number}
 
 -- ---- finding a row among others
@@ -106,49 +105,50 @@ ascend_filter p (x ∷ xs) s = by (p x) refl (ascend_filter p xs (sorted_tail na
         (above_filter x.handle p xs (sorted_head nat_cmp _ _ s)) rest)
     by false is rest = rw is rest
 
--- ---- one seat changes
+-- ---- one live actor changes
 
 -- one actor's facets have its rows as they are now, and the rows of the others are as before
-pub standing_reseated : (a : ℕ) (t : Seat) (seats new : List (ℕ × Seat)) (rows after : List Row)
-    → AreStanding seats rows → ChangesAt a (Some t) seats new
+pub standing_renewed : (a : ℕ) (t : LiveActor) (actors new : List (ℕ × LiveActor)) (rows after : List Row)
+    → AreStanding actors rows → ChangesAt a (Some t) actors new
     → ((f h : ℕ) → has_at f h t.facets ≡ stands_at a f (find_row h after))
     → ((b f h : ℕ) → (a == b) ≡ false → stands_at b f (find_row h after) ≡ stands_at b f (find_row h rows))
     → AreStanding new after
-standing_reseated a t seats new rows after k ch own others b u is f h = split (is_at (nat_cmp a) b) refl
+standing_renewed a t actors new rows after k ch own others b u is f h = split (is_at (nat_cmp a) b) refl
   where
     split : (c : Bool) → is_at (nat_cmp a) b ≡ c → has_at f h u.facets ≡ stands_at b f (find_row h after)
     split true same =
         let number : a ≡ b = same_number a b same in
-        let seat : Some t ≡ Some u = sym (ch b ∙ rw same refl) ∙ is in
-        let u_is : t ≡ u = grind (arith, seat) in
+        let both : Some t ≡ Some u = sym (ch b ∙ rw same refl) ∙ is in
+        let u_is : t ≡ u = grind (arith, both) in
         subst (λ (n : ℕ). has_at f h u.facets ≡ stands_at n f (find_row h after)) number
-        (subst (λ (v : Seat). has_at f h v.facets ≡ stands_at a f (find_row h after)) u_is (own f h))
+        (subst (λ (v : LiveActor). has_at f h v.facets ≡ stands_at a f (find_row h after)) u_is (own f h))
     split false other =
         let apart : (a == b) ≡ false = grind (arith, is_at_same a b, other) in
         k b u (sym (ch b ∙ rw other refl) ∙ is) f h ∙ sym (others b f h apart)
 
-pub standing_same : (a : ℕ) (s t : Seat) (seats new : List (ℕ × Seat)) (rows : List Row) → AreStanding seats rows
-    → IsReseated a s t seats new → SameRows s.facets t.facets → AreStanding new rows
-standing_same a s t seats new rows k re same =
-    standing_reseated a t seats new rows rows k re.changes (λ f h. same f h ∙ k a s re.was f h) (λ b f h apart. refl)
+pub standing_same : (a : ℕ) (s t : LiveActor) (actors new : List (ℕ × LiveActor)) (rows : List Row)
+    → AreStanding actors rows
+    → IsRenewed a s t actors new → SameRows s.facets t.facets → AreStanding new rows
+standing_same a s t actors new rows k re same =
+    standing_renewed a t actors new rows rows k re.changes (λ f h. same f h ∙ k a s re.was f h) (λ b f h apart. refl)
 
 pub same_rows_from : (old new : List (ℕ × FacetState)) → new ≡ old → SameRows old new
 same_rows_from old new is f h = ap (has_at f h) is
 
 -- nobody's rows stand where he isn't live
-not_standing : (a f h : ℕ) (seats : List (ℕ × Seat)) (rows : List Row)
-    → AllByRecursion (λ r. IsSome (value_at r.owner seats)) rows → value_at a seats ≡ None
+not_standing : (a f h : ℕ) (actors : List (ℕ × LiveActor)) (rows : List Row)
+    → AllByRecursion (λ r. IsSome (value_at r.owner actors)) rows → value_at a actors ≡ None
     → stands_at a f (find_row h rows) ≡ false
-not_standing a f h seats [] live none = refl
-not_standing a f h seats (x ∷ xs) live none =
-    by (x.handle == h) (x.owner == a) refl refl (not_standing a f h seats xs live.1 none)
+not_standing a f h actors [] live none = refl
+not_standing a f h actors (x ∷ xs) live none =
+    by (x.handle == h) (x.owner == a) refl refl (not_standing a f h actors xs live.1 none)
   where
     by : (b c : Bool) → (x.handle == h) ≡ b → (x.owner == a) ≡ c → stands_at a f (find_row h xs) ≡ false
         → stands_at a f (find_row h (x ∷ xs)) ≡ false
     by true true here own later =
         let same : x.owner ≡ a = grind (arith, nat_tests, own) in
-        let some : is_some (value_at a seats) ≡ true =
-        subst (λ (n : ℕ). is_some (value_at n seats) ≡ true) same live.0 in
+        let some : is_some (value_at a actors) ≡ true =
+        subst (λ (n : ℕ). is_some (value_at n actors) ≡ true) same live.0 in
         let clash : true ≡ false = sym some ∙ ap is_some none in absurd cc
     by true false here other later = rw here (rw other refl)
     by false c other own later = rw other later
@@ -160,12 +160,13 @@ bare_has_none f h = by (is_at (nat_cmp f) 0)
     by true = refl
     by false = refl
 
-pub standing_joined : (a : ℕ) (s : Seat) (seats new : List (ℕ × Seat)) (rows : List Row) → AreStanding seats rows
-    → AllByRecursion (λ r. IsSome (value_at r.owner seats)) rows → value_at a seats ≡ None
-    → s.facets ≡ (0, bare 0) ∷ [] → ChangesAt a (Some s) seats new → AreStanding new rows
-standing_joined a s seats new rows k live none facets ch =
-    standing_reseated a s seats new rows rows k ch
-    (λ f h. ap (has_at f h) facets ∙ bare_has_none f h ∙ sym (not_standing a f h seats rows live none))
+pub standing_joined : (a : ℕ) (s : LiveActor) (actors new : List (ℕ × LiveActor)) (rows : List Row)
+    → AreStanding actors rows
+    → AllByRecursion (λ r. IsSome (value_at r.owner actors)) rows → value_at a actors ≡ None
+    → s.facets ≡ (0, bare 0) ∷ [] → ChangesAt a (Some s) actors new → AreStanding new rows
+standing_joined a s actors new rows k live none facets ch =
+    standing_renewed a s actors new rows rows k ch
+    (λ f h. ap (has_at f h) facets ∙ bare_has_none f h ∙ sym (not_standing a f h actors rows live none))
     (λ b f h apart. refl)
 
 -- ---- one row more, or less
@@ -174,11 +175,11 @@ and_false : (b : Bool) → (b && false) ≡ false
 and_false true = refl
 and_false false = refl
 
-pub standing_asserted : (s t : Seat) (row : Row) (seats new : List (ℕ × Seat)) (rows : List Row)
-    → AreStanding seats rows → IsReseated row.owner s t seats new → find_row row.handle rows ≡ None
+pub standing_asserted : (s t : LiveActor) (row : Row) (actors new : List (ℕ × LiveActor)) (rows : List Row)
+    → AreStanding actors rows → IsRenewed row.owner s t actors new → find_row row.handle rows ≡ None
     → HasRow row.facet row.handle true s.facets t.facets → AreStanding new (rows ++ row ∷ [])
-standing_asserted s t row seats new rows k re absent has =
-    standing_reseated row.owner t seats new rows (rows ++ row ∷ []) k re.changes own others
+standing_asserted s t row actors new rows k re absent has =
+    standing_renewed row.owner t actors new rows (rows ++ row ∷ []) k re.changes own others
   where
     at : (b f h : ℕ) → stands_at b f (find_row h (rows ++ row ∷ []))
         ≡ stands_at b f (cond (row.handle == h) (Some row) (find_row h rows))
@@ -221,11 +222,11 @@ standing_asserted s t row seats new rows k re absent has =
             rw (here, none, apart) refl
         by false other = rw other refl
 
-pub standing_retracted : (h : ℕ) (s t : Seat) (row : Row) (seats new : List (ℕ × Seat)) (rows : List Row)
-    → AreStanding seats rows → IsReseated row.owner s t seats new → find_row h rows ≡ Some row
+pub standing_retracted : (h : ℕ) (s t : LiveActor) (row : Row) (actors new : List (ℕ × LiveActor)) (rows : List Row)
+    → AreStanding actors rows → IsRenewed row.owner s t actors new → find_row h rows ≡ Some row
     → HasRow row.facet h false s.facets t.facets → AreStanding new (without_row h rows)
-standing_retracted h s t row seats new rows k re found has =
-    standing_reseated row.owner t seats new rows (without_row h rows) k re.changes own others
+standing_retracted h s t row actors new rows k re found has =
+    standing_renewed row.owner t actors new rows (without_row h rows) k re.changes own others
   where
     at : (b f q : ℕ) → stands_at b f (find_row q (without_row h rows))
         ≡ stands_at b f (cond (q == h) None (find_row q rows))
@@ -268,9 +269,9 @@ standing_retracted h s t row seats new rows k re found has =
 
 -- ---- an actor goes
 
-pub standing_ended : (a : ℕ) (seats new : List (ℕ × Seat)) (rows after : List Row) → AreStanding seats rows
-    → ChangesAt a None seats new → Ascend rows → after ≡ rows_of_others a rows → AreStanding new after
-standing_ended a seats new rows after k ch s is b u at f h = split (is_at (nat_cmp a) b) refl
+pub standing_ended : (a : ℕ) (actors new : List (ℕ × LiveActor)) (rows after : List Row) → AreStanding actors rows
+    → ChangesAt a None actors new → Ascend rows → after ≡ rows_of_others a rows → AreStanding new after
+standing_ended a actors new rows after k ch s is b u at f h = split (is_at (nat_cmp a) b) refl
   where
     still : (o : Option Row) → (a == b) ≡ false
         → stands_at b f (kept_by (λ r. not (r.owner == a)) o) ≡ stands_at b f o

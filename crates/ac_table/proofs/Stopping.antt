@@ -1,8 +1,9 @@
 -- A facet stops, and those below it, with their rows.
 use Rattle.std.proofs.Common.{◌≡◌, ℕ, ◌+◌, Bool, true, false, not, ◌==◌, ◌&&◌, ◌||◌, cond, List, [], ◌∷◌, map}
-use Rattle.std.proofs.Common.{refl, ap, arith, sym, ◌∙◌, Some, None, Option, filter, subst}
+use Rattle.std.proofs.Common.{refl, ap, arith, sym, ◌∙◌, Some, None, Option, filter, subst, nat_lt, length, IsSome}
+use Rattle.std.proofs.Common.{is_some}
 use Rattle.std.specs.BTreeMap.{is_at}
-use Rattle.std.specs.List.{list_any}
+use Rattle.std.specs.List.{list_any, AllByRecursion}
 use Rattle.std.specs.List.Sorted.{IsStrictlySortedBy}
 use Rattle.std.specs.Map.{values_of}
 use Rattle.std.specs.Ordering.{nat_cmp}
@@ -11,16 +12,15 @@ use Rattle.ac_table.specs.Inboxes.{is_busy}
 use Rattle.ac_table.specs.Kept.{value_at, is_key, AreStanding, stands_at, sum_of_rows, by_handle, KeysAscend, IsKept}
 use Rattle.ac_table.specs.Kept.{waits_at}
 use Rattle.ac_table.specs.Lemmas.Lists.{all_filter}
-use Rattle.ac_table.specs.Placed.{FacetState, has_at, rows_of_facet}
+use Rattle.ac_table.specs.Placed.{FacetState, has_at, has_some, rows_of_facet}
 use Rattle.ac_table.specs.Tables.{Row, handles, rows_of, find_row, stands_in}
-use Rattle.ac_table.specs.declared.table.Seat.{Seat}
-use Rattle.ac_table.proofs.Finding.{is_at_same}
-use Rattle.ac_table.proofs.Keeps.{IsReseated, some_still, busy_same, owned_reseated}
+use Rattle.ac_table.specs.declared.table.LiveActor.{LiveActor}
+use Rattle.ac_table.specs.Lemmas.Entries.{is_at_same, lookup-filter}
+use Rattle.ac_table.proofs.Keeps.{IsRenewed, some_still, busy_same, owned_renewed}
 use Rattle.ac_table.proofs.Removing.{Ascend, ascend_from}
-use Rattle.ac_table.proofs.Sets.{sorted_same}
-use Rattle.ac_table.proofs.Standing.{standing_reseated, find-filter, kept_by, key_in, passes, ascend_filter}
-use Rattle.ac_table.proofs.Trees.{lookup-filter}
-use Rattle.ac_table.proofs.Weighing.{weighed_reseated}
+use Rattle.ac_table.proofs.Sets.{sorted_same, first_has, or_false}
+use Rattle.ac_table.proofs.Standing.{standing_renewed, find-filter, kept_by, key_in, passes, ascend_filter}
+use Rattle.ac_table.proofs.Weighing.{weighed_renewed}
 
 -- the rows that stay
 abbrev pub staying : ℕ → List ℕ → List Row → List Row
@@ -52,10 +52,10 @@ among_facets a (g ∷ gs) (Some r) =
     by false c d = refl
 
 -- the handles that were gathered are those of the rows that go
-pub gathered : (a : ℕ) (gs hs : List ℕ) (s : Seat) (seats : List (ℕ × Seat)) (rows : List Row)
-    → AreStanding seats rows → value_at a seats ≡ Some s → Ascend rows → IsStrictlySortedBy nat_cmp hs
+pub gathered : (a : ℕ) (gs hs : List ℕ) (s : LiveActor) (actors : List (ℕ × LiveActor)) (rows : List Row)
+    → AreStanding actors rows → value_at a actors ≡ Some s → Ascend rows → IsStrictlySortedBy nat_cmp hs
     → ((h : ℕ) → is_key h hs ≡ list_any (λ f. has_at f h s.facets) gs) → hs ≡ handles (going a gs rows)
-gathered a gs hs s seats rows k was ascend sorted is =
+gathered a gs hs s actors rows k was ascend sorted is =
     sorted_same hs (handles (going a gs rows)) sorted (ascend_filter (stands_in a gs) rows ascend)
     (λ h. is h ∙ each gs h ∙ among_facets a gs (find_row h rows)
     ∙ sym (key_in h (stands_in a gs) rows ascend))
@@ -64,6 +64,48 @@ gathered a gs hs s seats rows k was ascend sorted is =
         ≡ list_any (λ f. stands_at a f (find_row h rows)) gs
     each [] h = refl
     each (g ∷ gs) h = λ i. k a s was g h i || each gs h i
+
+-- ---- whether rows stand in a facet
+
+-- two lists that have the same numbers have some, or none
+both_some : (ks hs : List ℕ) → ((h : ℕ) → is_key h ks ≡ is_key h hs) → nat_lt 0 (length ks) ≡ nat_lt 0 (length hs)
+both_some [] [] same = refl
+both_some [] (h ∷ hs) same = let clash : false ≡ true = same h ∙ first_has h hs in absurd cc
+both_some (k ∷ ks) [] same = let clash : true ≡ false = sym (first_has k ks) ∙ same k in absurd cc
+both_some (k ∷ ks) (h ∷ hs) same = grind (arith, nat_tests)
+
+some_pass : (p : Row → Bool) (rows : List Row) → nat_lt 0 (length (handles (filter p rows))) ≡ list_any p rows
+some_pass p [] = refl
+some_pass p (r ∷ rs) = by (p r) refl (some_pass p rs)
+  where
+    by : (b : Bool) → p r ≡ b → nat_lt 0 (length (handles (filter p rs))) ≡ list_any p rs
+        → nat_lt 0 (length (handles (filter p (r ∷ rs)))) ≡ list_any p (r ∷ rs)
+    by true is rest = rw is (grind (arith, nat_tests))
+    by false is rest = rw is rest
+
+-- a facet has rows where the actor's rows stand in it
+pub some_stand : (a f : ℕ) (s : LiveActor) (actors : List (ℕ × LiveActor)) (rows : List Row) → AreStanding actors rows
+    → value_at a actors ≡ Some s → Ascend rows → has_some f s.facets ≡ list_any (stands_in a (f ∷ [])) rows
+some_stand a f s actors rows k was ascend =
+    both_some (rows_of_facet (value_at f s.facets)) (handles (going a (f ∷ []) rows))
+    (λ h. k a s was f h ∙ sym (or_false _) ∙ among_facets a (f ∷ []) (find_row h rows)
+    ∙ sym (key_in h (stands_in a (f ∷ [])) rows ascend))
+    ∙ some_pass (stands_in a (f ∷ [])) rows
+
+-- and none do where the actor isn't live
+pub none_stand : (a f : ℕ) (actors : List (ℕ × LiveActor)) (rows : List Row)
+    → AllByRecursion (λ r. IsSome (value_at r.owner actors)) rows → value_at a actors ≡ None
+    → list_any (stands_in a (f ∷ [])) rows ≡ false
+none_stand a f actors [] live none = refl
+none_stand a f actors (r ∷ rs) live none = by (r.owner == a) refl (none_stand a f actors rs live.1 none)
+  where
+    by : (b : Bool) → (r.owner == a) ≡ b → list_any (stands_in a (f ∷ [])) rs ≡ false
+        → list_any (stands_in a (f ∷ [])) (r ∷ rs) ≡ false
+    by true own later =
+        let same : r.owner ≡ a = grind (arith, nat_tests, own) in
+        let clash : true ≡ false =
+        sym (subst (λ (n : ℕ). IsSome (value_at n actors)) same live.0) ∙ ap is_some none in absurd cc
+    by false other later = rw other later
 
 -- ---- what stays
 
@@ -126,8 +168,8 @@ others_rows a b gs (r ∷ rs) apart = by (r.owner == a) (is_key r.facet gs) refl
         rw (own, out) (rw other rest)
     by false y own out rest = rw own (ap (λ t. cond (r.owner == b) (r ∷ t) t) rest)
 
--- what is known of the seat where a facet stops
-pub record IsStopping (a : ℕ) (gs : List ℕ) (s t : Seat) (rows taken : List Row) : Type 0 where
+-- what is known of the live actor whose facet stops
+pub record IsStopping (a : ℕ) (gs : List ℕ) (s t : LiveActor) (rows taken : List Row) : Type 0 where
   pub taken_is : taken ≡ going a gs rows
   pub sorted : IsStrictlySortedBy nat_cmp t.own.keys
   pub own : (h : ℕ) → is_key h t.own.keys ≡ (is_key h s.own.keys && not (is_key h (handles taken)))
@@ -135,11 +177,12 @@ pub record IsStopping (a : ℕ) (gs : List ℕ) (s t : Seat) (rows taken : List 
   pub inbox : t.inbox ≡ s.inbox
   pub facets : t.facets ≡ filter (λ e. not (is_key e.0 gs)) s.facets
 
-pub kept_stopped : (a next : ℕ) (gs : List ℕ) (s t : Seat) (rows less : List (ℕ × Row)) (seats new : List (ℕ × Seat))
-    (busy : List ℕ) (taken : List Row) → IsKept next rows seats busy → IsReseated a s t seats new
+pub kept_stopped : (a next : ℕ) (gs : List ℕ) (s t : LiveActor) (rows less : List (ℕ × Row))
+    (actors new : List (ℕ × LiveActor))
+    (busy : List ℕ) (taken : List Row) → IsKept next rows actors busy → IsRenewed a s t actors new
     → IsStopping a gs s t (values_of rows) taken → less ≡ map by_handle (values_of less)
     → values_of less ≡ staying a gs (values_of rows) → KeysAscend less → IsKept next less new busy
-kept_stopped a next gs s t rows less seats new busy taken k re d keyed v ascend =
+kept_stopped a next gs s t rows less actors new busy taken k re d keyed v ascend =
     let ascends = ascend_from rows k.keyed k.rows_ascend in
     let waits : waits_at (Some t) ≡ waits_at (Some s) = ap is_busy d.inbox in
     let split = weight_split a gs (values_of rows) in
@@ -149,18 +192,18 @@ kept_stopped a next gs s t rows less seats new busy taken k re d keyed v ascend 
       keyed = keyed;
       rows_ascend = ascend;
       below = rw v (all_filter _ _ _ (λ r passed l. l) (values_of rows) k.below);
-      owners = rw v (all_filter _ _ _ (λ r passed o. some_still a r.owner t seats new re.changes o)
+      owners = rw v (all_filter _ _ _ (λ r passed o. some_still a r.owner t actors new re.changes o)
           (values_of rows) k.owners);
-      seats_ascend = re.ascend;
-      owned = λ b u is. rw v (owned_reseated a b t u seats new (values_of rows) (staying a gs (values_of rows)) k.owned
+      actors_ascend = re.ascend;
+      owned = λ b u is. rw v (owned_renewed a b t u actors new (values_of rows) (staying a gs (values_of rows)) k.owned
           re.changes
           (own_after a gs s.own.keys t.own.keys (values_of rows) taken ascends (k.owned a s re.was) d.taken_is
           d.sorted d.own)
           (λ apart. others_rows a b gs (values_of rows) apart) is);
-      weighed = rw v (weighed_reseated a t seats new (values_of rows) (staying a gs (values_of rows)) k.weighed
+      weighed = rw v (weighed_renewed a t actors new (values_of rows) (staying a gs (values_of rows)) k.weighed
           re.changes (omega (arith, d.weighs, split, was, out))
           (λ b apart. others_rows a b gs (values_of rows) apart));
-      busy_is = busy_same a s t seats new busy k.busy_is re waits;
+      busy_is = busy_same a s t actors new busy k.busy_is re waits;
     }
 
 -- ---- which rows stand in which facets
@@ -173,11 +216,12 @@ has_filter f h gs fs = ap (λ o. is_key h (rows_of_facet o)) (lookup-filter f gs
     by true = refl
     by false = refl
 
-pub standing_stopped : (a : ℕ) (gs : List ℕ) (s t : Seat) (seats new : List (ℕ × Seat)) (rows after : List Row)
-    → AreStanding seats rows → IsReseated a s t seats new → Ascend rows
+pub standing_stopped : (a : ℕ) (gs : List ℕ) (s t : LiveActor) (actors new : List (ℕ × LiveActor))
+    (rows after : List Row)
+    → AreStanding actors rows → IsRenewed a s t actors new → Ascend rows
     → t.facets ≡ filter (λ e. not (is_key e.0 gs)) s.facets → after ≡ staying a gs rows → AreStanding new after
-standing_stopped a gs s t seats new rows after k re ascend facets is =
-    standing_reseated a t seats new rows after k re.changes own others
+standing_stopped a gs s t actors new rows after k re ascend facets is =
+    standing_renewed a t actors new rows after k re.changes own others
   where
     at : (b f h : ℕ) → stands_at b f (find_row h after)
         ≡ stands_at b f (kept_by (λ r. not (stands_in a gs r)) (find_row h rows))

@@ -1,6 +1,6 @@
 -- Trees of facets: one facet more, and some less.
-use Rattle.std.proofs.Common.{◌≡◌, ℕ, zero, suc, ◌<◌, Bool, true, false, not, nat_lt, cond}
-use Rattle.std.proofs.Common.{List, [], ◌∷◌, refl, ap, arith, sym, ◌∙◌, is_some, Some, None, Option, filter, subst}
+use Rattle.std.proofs.Common.{◌≡◌, ℕ, zero, suc, ◌<◌, Bool, true, false, not, nat_lt}
+use Rattle.std.proofs.Common.{List, [], refl, ap, arith, sym, ◌∙◌, is_some, Some, None, Option, filter, subst}
 use Rattle.std.proofs.Common.{unwrap_or}
 use Rattle.std.specs.BTreeMap.{is_at, insert_entry}
 use Rattle.std.specs.List.Sorted.{IsStrictlySortedBy}
@@ -9,37 +9,7 @@ use Rattle.std.proofs.lemmas.Bool.Decides.{nat_tests}
 use Rattle.ac_table.specs.Facets.{Tree, is_facet, above, climbed, IsBelow, IsTree, AreBelow}
 use Rattle.ac_table.specs.Maps.{value_at, is_key, KeysAscend}
 use Rattle.ac_table.specs.Placed.{is_child}
-use Rattle.ac_table.proofs.Finding.{is_at_same}
-
--- ---- look-ups
-
-pub lookup-insert : {X : Type 0} (q n : ℕ) (x : X) (es : List (ℕ × X))
-    → value_at q (insert_entry nat_cmp es n x) ≡ cond (is_at (nat_cmp n) q) (Some x) (value_at q es)
-lookup-insert q n x [] = grind (arith, is_at_same q n, is_at_same n q)
-lookup-insert q n x (e ∷ es) = grind (arith, is_at_same q n, is_at_same n q, is_at_same q e.0, lookup-insert q n x es)
-
-none_either : {X : Type 0} (b : Bool) → ◌≡◌ {A = Option X} None (cond b None None)
-none_either true = refl
-none_either false = refl
-
-pub lookup-filter : {X : Type 0} (q : ℕ) (gs : List ℕ) (es : List (ℕ × X))
-    → value_at q (filter (λ e. not (is_key e.0 gs)) es) ≡ cond (is_key q gs) None (value_at q es)
-lookup-filter q gs [] = none_either (is_key q gs)
-lookup-filter q gs (e ∷ es) = by (is_at (nat_cmp q) e.0) (is_key e.0 gs) refl refl (lookup-filter q gs es)
-  where
-    by : (b c : Bool) → is_at (nat_cmp q) e.0 ≡ b → is_key e.0 gs ≡ c
-        → value_at q (filter (λ e. not (is_key e.0 gs)) es) ≡ cond (is_key q gs) None (value_at q es)
-        → value_at q (filter (λ e. not (is_key e.0 gs)) (e ∷ es)) ≡ cond (is_key q gs) None (value_at q (e ∷ es))
-    by true true here gone later =
-        let same : e.0 ≡ q = grind (arith, is_at_same q e.0, here) in
-        let out : is_key q gs ≡ true = subst (λ (n : ℕ). is_key n gs ≡ true) same gone in
-        rw (gone, here) (later ∙ rw (out) refl)
-    by true false here kept later =
-        let same : e.0 ≡ q = grind (arith, is_at_same q e.0, here) in
-        let out : is_key q gs ≡ false = subst (λ (n : ℕ). is_key n gs ≡ false) same kept in
-        rw (kept, here, out) refl
-    by false true other gone later = rw (gone, other) later
-    by false false other kept later = rw (kept, other) later
+use Rattle.ac_table.specs.Lemmas.Entries.{is_at_same, lookup-insert, lookup-filter}
 
 -- ---- one more
 

@@ -1,4 +1,4 @@
--- What the rows of each actor weigh, as its seat keeps it.
+-- What the rows of each live actor weigh, as is kept with it.
 use Rattle.std.proofs.Common.{◌≡◌, ℕ, ◌+◌, ◌-◌, ◌^◌, ◌<◌, ◌≤◌, Bool, true, false, ◌==◌, List, [], ◌∷◌, ◌++◌}
 use Rattle.std.proofs.Common.{refl, ap, sym, ◌∙◌, arith, subst, Some, length}
 use Rattle.std.specs.BTreeMap.{is_at}
@@ -9,24 +9,24 @@ use Rattle.ac_table.specs.Kept.{ChangesAt, IsWeighed, sum_of_rows}
 use Rattle.ac_table.specs.Lemmas.Sums.{sum_of-fits, sum_of-top, whole_of}
 use Rattle.ac_table.specs.Sums.{top, weight_of_rows}
 use Rattle.ac_table.specs.Tables.{Row, handles, rows_of, without_row, find_row}
-use Rattle.ac_table.specs.declared.table.Seat.{Seat}
-use Rattle.ac_table.proofs.Finding.{is_at_same}
+use Rattle.ac_table.specs.declared.table.LiveActor.{LiveActor}
+use Rattle.ac_table.specs.Lemmas.Entries.{is_at_same}
 use Rattle.ac_table.proofs.Removing.{Ascend, without_row-above}
 
 pub same_number : (a b : ℕ) → is_at (nat_cmp a) b ≡ true → a ≡ b
 same_number a b is = grind (arith, is_at_same a b, is)
 
--- one seat has what the actor's rows weigh now, and the rows of the others are as before
-pub weighed_reseated : (a : ℕ) (t : Seat) (seats new : List (ℕ × Seat)) (rows after : List Row)
-    → IsWeighed seats rows → ChangesAt a (Some t) seats new → t.row_weight ≡ sum_of_rows (rows_of a after)
+-- one live actor has what its rows weigh now, and the rows of the others are as before
+pub weighed_renewed : (a : ℕ) (t : LiveActor) (actors new : List (ℕ × LiveActor)) (rows after : List Row)
+    → IsWeighed actors rows → ChangesAt a (Some t) actors new → t.row_weight ≡ sum_of_rows (rows_of a after)
     → ((b : ℕ) → (a == b) ≡ false → rows_of b after ≡ rows_of b rows) → IsWeighed new after
-weighed_reseated a t seats new rows after k ch weighs others b u is = split (is_at (nat_cmp a) b) refl
+weighed_renewed a t actors new rows after k ch weighs others b u is = split (is_at (nat_cmp a) b) refl
   where
     split : (c : Bool) → is_at (nat_cmp a) b ≡ c → u.row_weight ≡ sum_of_rows (rows_of b after)
     split true same =
         let number : a ≡ b = same_number a b same in
-        let seat : Some t ≡ Some u = sym (ch b ∙ rw same refl) ∙ is in
-        let u_is : t ≡ u = grind (arith, seat) in
+        let both : Some t ≡ Some u = sym (ch b ∙ rw same refl) ∙ is in
+        let u_is : t ≡ u = grind (arith, both) in
         subst (λ (n : ℕ). u.row_weight ≡ sum_of_rows (rows_of n after)) number (rw (sym u_is) weighs)
     split false other =
         let apart : (a == b) ≡ false = grind (arith, is_at_same a b, other) in

@@ -1,6 +1,7 @@
 -- The facets of an actor: a tree with facet 0 at its root. Syndicated actors, "facets": what a facet asserts lasts as
 -- long as it does, and it ends with the one that it stands under.
-use Rattle.std.specs.Prelude.{◌≡◌, ◌↔◌, ℕ, zero, suc, ◌<◌, Bool, true, false, List, [], ◌∷◌, is_some, unwrap_or}
+use Rattle.std.specs.Prelude.{◌≡◌, ◌↔◌, ℕ, zero, suc, ◌<◌, ◌==◌, nat_lt, Bool, true, false, List, [], ◌∷◌, is_some}
+use Rattle.std.specs.Prelude.{unwrap_or, if◌then◌else◌}
 use Rattle.ac_table.specs.Maps.{value_at, is_key, KeysAscend}
 
 -- each facet, ascending by number, and the one right above it; the root stands under itself
@@ -37,6 +38,15 @@ pub record IsLeastFree (n : ℕ) (t : Tree) : Type 0 where
   pub some : 0 < n
   pub free : is_facet n t ≡ false
   pub least : (k : ℕ) → 0 < k → k < n → is_facet k t ≡ true
+
+-- the least number from n on that no facet has; the facets ascend
+abbrev pub least_from : ℕ → Tree → ℕ
+least_from n [] = n
+least_from n (e ∷ es) = if e.0 == n then least_from (suc n) es else (if nat_lt e.0 n then least_from n es else n)
+
+-- the least number from 1 on, by one walk over them
+abbrev pub least_free : Tree → ℕ
+least_free t = least_from 1 t
 
 -- these are the facet f and the facets below it
 abbrev pub AreBelow : ℕ → Tree → List ℕ → Type 0

@@ -1,7 +1,7 @@
 -- How an actor's facets are kept: each with the one above it, those right below it, and the handles of its rows; and
 -- the numbers below a top that no facet has.
 use Rattle.std.specs.Prelude.{◌≡◌, ℕ, ◌<◌, ◌≤◌, ◌^◌, Bool, true, not, nat_lt, ◌&&◌, ◌==◌, List, [], map, cond}
-use Rattle.std.specs.Prelude.{Option, Some, None, is_some}
+use Rattle.std.specs.Prelude.{Option, Some, None, is_some, length}
 use Rattle.ac_table.specs.Facets.{Tree, is_facet, above, IsTree}
 use Rattle.ac_table.specs.Maps.{value_at, is_key, KeysAscend}
 use Rattle.ac_table.specs.declared.facets.Facet.{Facet}
@@ -30,6 +30,10 @@ rows_of_facet (Some x) = x.rows
 -- whether a facet has a row
 abbrev pub has_at : ℕ → ℕ → List (ℕ × FacetState) → Bool
 has_at f h fs = is_key h (rows_of_facet (value_at f fs))
+
+-- whether it has any
+abbrev pub has_some : ℕ → List (ℕ × FacetState) → Bool
+has_some f fs = nat_lt 0 (length (rows_of_facet (value_at f fs)))
 
 -- the facets and who is above whom stay
 abbrev pub SameTree : List (ℕ × FacetState) → List (ℕ × FacetState) → Type 0

@@ -5,7 +5,7 @@
 use Rattle.std.specs.Prelude.{ℕ, ◌+◌, Bool, not, ◌==◌, nat_lt, IsTrue, List, [], ◌∷◌, ◌++◌, map, drop, slice_get}
 use Rattle.std.specs.Prelude.{Option, Some, None, is_some, unwrap_or, if◌then◌else◌, length, filter, ◌<◌, ◌&&◌, ◌≡◌}
 use Rattle.std.specs.BTreeMap.{is_at, insert_entry}
-use Rattle.std.specs.List.{AllByRecursion}
+use Rattle.std.specs.List.{AllByRecursion, list_any}
 use Rattle.std.specs.List.Sorted.{IsStrictlySortedBy}
 use Rattle.std.specs.Map.{remove_entry, set_value}
 use Rattle.std.specs.Ordering.{nat_cmp}
@@ -136,6 +136,10 @@ faceted a parent facet t = with_tree a (insert_entry nat_cmp (tree_of a t) facet
 -- whether a row is an actor's, in one of these facets
 abbrev pub stands_in : ℕ → List ℕ → Row → Bool
 stands_in a facets r = r.owner == a && is_key r.facet facets
+
+-- whether rows of an actor stand in a facet
+abbrev pub has_rows : ℕ → ℕ → TableState → Bool
+has_rows a f t = list_any (stands_in a (f ∷ [])) t.rows
 
 -- these facets of an actor go, with exactly their rows
 abbrev pub without_facets : ℕ → List ℕ → TableState → TableState

@@ -6,10 +6,10 @@ ghost use Rattle.std.specs.Ordering.{nat_cmp};
 ghost use Rattle.std.specs.List.{list_any};
 ghost use Rattle.std.specs.BTreeMap.{insert_entry, IsOrdered};
 ghost use Rattle.std.specs.BTreeSet.{IsOrdered as IsOrderedSet};
-ghost use Rattle.ac_table.specs.Facets.{is_facet, IsLeastFree, AreBelow, IsTree};
+ghost use Rattle.ac_table.specs.Facets.{is_facet, IsLeastFree, AreBelow, IsTree, least_free};
 ghost use Rattle.ac_table.specs.Maps.{is_key};
 ghost use Rattle.ac_table.specs.Placed.{bare, tree_in, SameTree, SameRows, HasRow, has_at};
-ghost use Rattle.ac_table.specs.Placed.{SameFacets, KeepsLinks, LinksAt, is_child};
+ghost use Rattle.ac_table.specs.Placed.{SameFacets, KeepsLinks, LinksAt, is_child, has_some};
 
 use pv_value::NoMemory;
 use std::alloc::Global;
@@ -189,6 +189,16 @@ impl Facets {
         self.all.contains_key(&facet)
     }
 
+    /// Whether a facet has rows.
+    pub(crate) fn has_rows(&self, facet: u32) -> bool
+        ensures { result ≡ has_some facet self.now }
+    {
+        match self.all.get(&facet) {
+            Some(it) => !it.rows.is_empty(),
+            None => false,
+        }
+    }
+
     /// The least number from 1 that no facet has, where there is one.
     fn least_free(&self) -> Option<u32>
         requires { is_facet 0 (tree_in self.now) ≡ true }
@@ -210,6 +220,7 @@ impl Facets {
         ensures made { IfOk result (λ n. self.new
             ≡ insert_entry nat_cmp self.old n (bare parent)) }
         ensures least { IfOk result (λ n. IsLeastFree n (tree_in self.old)) }
+        ensures number { IfOk result (λ n. n ≡ least_free (tree_in self.old)) }
         ensures same { OnErr result (self.new ≡ self.old) }
     {
         let Some(number) = self.least_free() else {

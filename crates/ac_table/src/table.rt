@@ -5,9 +5,9 @@ ghost use Rattle.std.specs.Prelude.{vec_capacity, true};
 ghost use Rattle.ac_table.specs.declared.TableFault.TheVariants.{NoMemory as no_memory};
 ghost use Rattle.ac_table.specs.Faults.{actor_fault, facet_fault, row_fault, Faults, ExactFaults};
 ghost use Rattle.ac_table.specs.Sums.{top, top_load, load_for, load_sent, load_below, weight_owned};
-ghost use Rattle.ac_table.specs.Tables.{opening, is_live, find_row, rows_of};
+ghost use Rattle.ac_table.specs.Tables.{opening, is_live, find_row, rows_of, has_rows};
 ghost use Rattle.ac_table.specs.Tables.{first_batch, has_facet, tree_of, faceted, IsStopped};
-ghost use Rattle.ac_table.specs.Facets.{IsLeastFree, IsTree};
+ghost use Rattle.ac_table.specs.Facets.{IsLeastFree, IsTree, least_free};
 ghost use Rattle.ac_table.specs.Kept.{AreStopping};
 ghost use Rattle.std.specs.BTreeSet.{btree_set_len};
 ghost use Rattle.std.specs.List.Sorted.{IsStrictlySortedBy};
@@ -31,7 +31,7 @@ use std::marker::Model;
 
 /// A live actor: the handles of its rows, what they weigh, what waits for it, and its facets.
 #[derive(Drop)]
-struct Seat {
+struct LiveActor {
     own: BTreeSet<u64>,
     row_weight: Sum,
     inbox: Inbox,
@@ -54,7 +54,7 @@ pub struct Table {
     alloc: Global,
     next: NextHandle,
     rows: BTreeMap<u64, Row>,
-    seats: BTreeMap<u32, Seat>,
+    actors: BTreeMap<u32, LiveActor>,
     /// The actors for which a batch waits.
     busy: BTreeSet<u32>,
     /// How many batches wait.
@@ -72,9 +72,9 @@ impl Model for Table {
 
     ghost use Rattle.ac_table.specs.Kept.{state_of, IsWhole};
 
-    ghost view = { λ t. state_of t.next t.rows.entries t.seats.entries };
+    ghost view = { λ t. state_of t.next t.rows.entries t.actors.entries };
 
-    ghost invariant = { λ t. IsWhole t.next t.rows.entries t.seats.entries t.busy.keys
+    ghost invariant = { λ t. IsWhole t.next t.rows.entries t.actors.entries t.busy.keys
         t.waiting };
 }
 
@@ -87,7 +87,7 @@ impl Table {
             alloc,
             next: NextHandle::first(),
             rows: BTreeMap::new(alloc),
-            seats: BTreeMap::new(alloc),
+            actors: BTreeMap::new(alloc),
             busy: BTreeSet::new(alloc),
             waiting: 0,
         }
@@ -96,7 +96,7 @@ impl Table {
     pub fn live(&self, actor: u32) -> bool
         ensures { result ≡ is_live actor self.now }
     {
-        self.seats.contains_key(&actor)
+        self.actors.contains_key(&actor)
     }
 
     pub fn row(&self, handle: u64) -> Option<&Row>
@@ -109,8 +109,18 @@ impl Table {
     pub fn has_facet(&self, actor: u32, facet: u32) -> bool
         ensures { result ≡ has_facet actor facet self.now }
     {
-        match self.seats.get(&actor) {
-            Some(seat) => seat.facets.has(facet),
+        match self.actors.get(&actor) {
+            Some(it) => it.facets.has(facet),
+            None => false,
+        }
+    }
+
+    /// Whether rows of an actor stand in a facet.
+    pub fn has_rows(&self, actor: u32, facet: u32) -> bool
+        ensures { result ≡ has_rows actor facet self.now }
+    {
+        match self.actors.get(&actor) {
+            Some(it) => it.facets.has_rows(facet),
             None => false,
         }
     }
@@ -127,16 +137,16 @@ impl Table {
     pub fn first(&self, actor: u32) -> Option<&Batch>
         ensures { option_copied result ≡ first_batch actor self.now }
     {
-        let seat = self.seats.get(&actor)?;
-        seat.inbox.front()
+        let it = self.actors.get(&actor)?;
+        it.inbox.front()
     }
 
     /// What waits for an actor.
     pub fn load(&self, actor: u32) -> Load
         ensures { result ≡ top_load (load_for actor self.now) }
     {
-        match self.seats.get(&actor) {
-            Some(seat) => seat.inbox.load(),
+        match self.actors.get(&actor) {
+            Some(it) => it.inbox.load(),
             None => Load::none(),
         }
     }
@@ -145,8 +155,8 @@ impl Table {
     pub fn load_sent(&self, actor: u32, to: u32) -> Load
         ensures { result ≡ top_load (load_sent actor to self.now) }
     {
-        match self.seats.get(&to) {
-            Some(seat) => seat.inbox.load_from(actor),
+        match self.actors.get(&to) {
+            Some(it) => it.inbox.load_from(actor),
             None => Load::none(),
         }
     }
@@ -166,8 +176,8 @@ impl Table {
     pub fn row_weight(&self, actor: u32) -> u64
         ensures { result ≡ top (weight_owned actor self.now) }
     {
-        match self.seats.get(&actor) {
-            Some(seat) => seat.row_weight.told(),
+        match self.actors.get(&actor) {
+            Some(it) => it.row_weight.told(),
             None => 0,
         }
     }
@@ -197,8 +207,8 @@ impl Table {
     pub fn keeps_its_tree(&self, actor: u32)
         ensures { IsTree (tree_of actor self.now) }
     {
-        match self.seats.get(&actor) {
-            Some(seat) => seat.facets.keeps_its_tree(),
+        match self.actors.get(&actor) {
+            Some(it) => it.facets.keeps_its_tree(),
             None => {}
         }
     }
@@ -210,13 +220,13 @@ impl Table {
         ensures unchanged { OnErr result (self.new ≡ self.old) }
     {
         let facets = Facets::new(self.alloc)?;
-        let seat = Seat {
+        let it = LiveActor {
             own: BTreeSet::new(self.alloc),
             row_weight: Sum::none(),
             inbox: Inbox::new(self.alloc),
             facets,
         };
-        self.seats.insert(actor, seat)?;
+        self.actors.insert(actor, it)?;
         Ok(())
     }
 
@@ -226,6 +236,7 @@ impl Table {
         ensures fault { Faults (facet_fault actor parent self.old) self.old self.new result }
         ensures made { IfOk result (λ n. self.new ≡ faceted actor parent n self.old) }
         ensures least { IfOk result (λ n. IsLeastFree n (tree_of actor self.old)) }
+        ensures number { IfOk result (λ n. n ≡ least_free (tree_of actor self.old)) }
     {
         if !self.live(actor) {
             return Err(TableFault::NoActor);
@@ -233,10 +244,10 @@ impl Table {
         if !self.has_facet(actor, parent) {
             return Err(TableFault::NoFacet);
         }
-        let Some(seat) = self.seats.get_mut(&actor) else {
+        let Some(it) = self.actors.get_mut(&actor) else {
             return Err(TableFault::NoActor);
         };
-        let number = seat.facets.add(self.alloc, parent)?;
+        let number = it.facets.add(self.alloc, parent)?;
         Ok(number)
     }
 
@@ -249,11 +260,11 @@ impl Table {
         ensures empty { IfOk result (λ s. s.room.items ≡ []) }
         ensures room { IfOk result (λ s. btree_set_len s.handles ≤ vec_capacity s.room) }
     {
-        let Some(seat) = self.seats.get(&actor) else {
+        let Some(it) = self.actors.get(&actor) else {
             return Err(NoMemory);
         };
-        let facets = seat.facets.all_below(self.alloc, facet)?;
-        let handles = seat.facets.rows_in(self.alloc, &facets)?;
+        let facets = it.facets.all_below(self.alloc, facet)?;
+        let handles = it.facets.rows_in(self.alloc, &facets)?;
         let told = list(self.alloc, &handles)?;
         let room = Vec::with_capacity(self.alloc, handles.len())?;
         Ok(Stopping {
@@ -281,13 +292,13 @@ impl Table {
             told,
             room,
         } = stopping;
-        let Some(seat) = self.seats.get_mut(&actor) else {
+        let Some(it) = self.actors.get_mut(&actor) else {
             return Err(NoMemory);
         };
-        seat.facets.remove(facet, &facets)?;
-        disown(&mut seat.own, &handles);
+        it.facets.remove(facet, &facets)?;
+        disown(&mut it.own, &handles);
         let taken = take_rows(&mut self.rows, handles, room);
-        take_off_all(&mut seat.row_weight, &taken);
+        take_off_all(&mut it.row_weight, &taken);
         Ok(told)
     }
 
@@ -334,11 +345,11 @@ impl Table {
         if handle >= 1 << 63 {
             return Err(TableFault::NoMemory);
         }
-        let Some(seat) = self.seats.get_mut(&owner) else {
+        let Some(it) = self.actors.get_mut(&owner) else {
             return Err(TableFault::NoActor);
         };
         let weight = weight(&value);
-        let _rows = seat.own.len();
+        let _rows = it.own.len();
         let row = Row {
             handle,
             owner,
@@ -347,8 +358,8 @@ impl Table {
             entity: to.1,
             value,
         };
-        put_row(&mut self.rows, &mut seat.own, &mut seat.facets, row)?;
-        seat.row_weight.add(weight);
+        put_row(&mut self.rows, &mut it.own, &mut it.facets, row)?;
+        it.row_weight.add(weight);
         self.next.advance();
         Ok(handle)
     }
@@ -364,12 +375,12 @@ impl Table {
             return Err(TableFault::NoRow);
         };
         // The owner of each row is live.
-        let Some(seat) = self.seats.get_mut(&row.owner) else {
+        let Some(it) = self.actors.get_mut(&row.owner) else {
             return Ok(row);
         };
-        seat.own.remove(&handle);
-        seat.facets.remove_row(row.facet, handle);
-        seat.row_weight.take_off(weight(&row.value));
+        it.own.remove(&handle);
+        it.facets.remove_row(row.facet, handle);
+        it.row_weight.take_off(weight(&row.value));
         Ok(row)
     }
 
@@ -379,16 +390,16 @@ impl Table {
         ensures ended { OnOk result (self.new ≡ ended actor self.old) }
         ensures rows { IfOk result (λ rows. rows.items ≡ rows_of actor self.old.rows) }
     {
-        let Some(seat) = self.seats.get(&actor) else {
+        let Some(it) = self.actors.get(&actor) else {
             return Err(TableFault::NoActor);
         };
-        let room = Vec::with_capacity(self.alloc, seat.own.len())?;
-        let Some(seat) = self.seats.remove(&actor) else {
+        let room = Vec::with_capacity(self.alloc, it.own.len())?;
+        let Some(it) = self.actors.remove(&actor) else {
             return Err(TableFault::NoActor);
         };
         self.busy.remove(&actor);
-        self.waiting -= seat.inbox.len() as u64;
-        Ok(take_rows(&mut self.rows, seat.own, room))
+        self.waiting -= it.inbox.len() as u64;
+        Ok(take_rows(&mut self.rows, it.own, room))
     }
 
     /// One more batch for a live actor, behind those that wait.
@@ -396,14 +407,14 @@ impl Table {
         ensures fault { Faults (actor_fault actor self.old) self.old self.new result }
         ensures pushed { OnOk result (self.new ≡ pushed actor batch self.old) }
     {
-        let Some(seat) = self.seats.get_mut(&actor) else {
+        let Some(it) = self.actors.get_mut(&actor) else {
             return Err(TableFault::NoActor);
         };
         push_busy(
             &mut self.busy,
             &mut self.waiting,
             actor,
-            &mut seat.inbox,
+            &mut it.inbox,
             batch,
         )?;
         Ok(())
@@ -417,10 +428,10 @@ impl Table {
         ensures popped { OnOk result (self.new ≡ popped actor self.old) }
         ensures none { IfOk result (λ batch. IfNone batch (self.new ≡ self.old)) }
     {
-        let Some(seat) = self.seats.get_mut(&actor) else {
+        let Some(it) = self.actors.get_mut(&actor) else {
             return Err(TableFault::NoActor);
         };
-        let batch = pop_busy(&mut self.busy, &mut self.waiting, actor, &mut seat.inbox);
+        let batch = pop_busy(&mut self.busy, &mut self.waiting, actor, &mut it.inbox);
         Ok(batch)
     }
 }

@@ -1,10 +1,9 @@
 -- A system actor's turn, one change and one event at a time; and an event that the actor has done.
 use Rattle.std.proofs.Common.{◌≡◌, ◌<◌, ◌≤◌, ℕ, List, [], ◌∷◌, ◌++◌, true, false, cond, nat_lt, refl, ap, sym, ◌∙◌}
-use Rattle.std.proofs.Common.{arith, if◌then◌else◌}
+use Rattle.std.proofs.Common.{arith, if◌then◌else◌, Result, Ok, Err, OnOk}
 use Rattle.std.proofs.lemmas.Bool.Decides.{nat_tests}
 use Rattle.std.specs.Map.{values_of}
 use Rattle.ac_table.specs.declared.batches.Event.{Event}
-use Rattle.ac_table.specs.Tables.{is_live}
 use Rattle.ds_space.specs.Limits.{most_wanted_weight}
 use Rattle.ds_space.specs.Spaces.{Rows, changed}
 use Rattle.ds_space.specs.declared.space.SpaceEvent.{SpaceEvent}
@@ -21,8 +20,6 @@ use Rattle.ac_world.specs.declared.spreads.Spread.{Spread}
 use Rattle.ds_space.specs.declared.space.Fanned.{Fanned}
 use Rattle.pv_value.specs.Plain.{Plain}
 use Rattle.ps_schema.specs.declared.Definition.{Definition}
-use Rattle.ac_world.proofs.Lives.{live_from_numbers}
-use Rattle.ac_world.proofs.Numbers.{numbers-changed_by, numbers-turned_by}
 
 -- ---- one part of a turn after another
 
@@ -38,6 +35,14 @@ pub turns_not : {S : Type 0} (rows_of : S → Rows) (behaviour : S → Behaviour
     → TurnsBy rows_of behaviour t (λ y x. x) t
 turns_not rows_of behaviour t = (refl, refl)
 
+-- what a call says of its turn and of the behaviour, where it comes to an end
+pub turns_on : {S : Type 0} {X E : Type 0} (rows_of : S → Rows) (behaviour : S → Behaviour) (t u : TurningBy S)
+    (f : Behaviour → Turning → Turning) (r : Result X E)
+    → OnOk r (turning_by rows_of u ≡ f (behaviour t.resident.system) (turning_by rows_of t))
+    → OnOk r (u.resident.system ≡ t.resident.system) → OnOk r (TurnsBy rows_of behaviour t f u)
+turns_on rows_of behaviour t u f (Ok x) turns same = (turns, ap behaviour same)
+turns_on rows_of behaviour t u f (Err e) turns same = tt
+
 -- ---- one more change
 
 pub all_changed-push : (y : Behaviour) (a : ℕ) (cs : List Change) (c : Change) (t : Turning)
@@ -45,30 +50,12 @@ pub all_changed-push : (y : Behaviour) (a : ℕ) (cs : List Change) (c : Change)
 all_changed-push y a [] c t = refl
 all_changed-push y a (x ∷ xs) c t = all_changed-push y a xs c (changed_by y a x t)
 
-pub live_changed : {S : Type 0} (rows_of : S → Rows) (behaviour : S → Behaviour) (b a : ℕ) (c : Change)
-    (t u : TurningBy S) → is_live b t.plan.table ≡ true → TurnsBy rows_of behaviour t (λ y. changed_by y a c) u
-    → is_live b u.plan.table ≡ true
-live_changed rows_of behaviour b a c t u live now =
-    let y = behaviour t.resident.system in
-    let x = turning_by rows_of t in
-    ap (λ (s : Turning). is_live b s.plan.table) now.0
-    ∙ live_from_numbers b (changed_by y a c x).plan.table t.plan.table (numbers-changed_by y a c x) ∙ live
-
 -- ---- one more event
 
 pub all_turned-push : (y : Behaviour) (a from : ℕ) (es : List Event) (e : Event) (t : Turning)
     → all_turned y a from (es ++ e ∷ []) t ≡ turned_by y a from e (all_turned y a from es t)
 all_turned-push y a from [] e t = refl
 all_turned-push y a from (x ∷ xs) e t = all_turned-push y a from xs e (turned_by y a from x t)
-
-pub live_turned : {S : Type 0} (rows_of : S → Rows) (behaviour : S → Behaviour) (b a from : ℕ) (e : Event)
-    (t u : TurningBy S) → is_live b t.plan.table ≡ true → TurnsBy rows_of behaviour t (λ y. turned_by y a from e) u
-    → is_live b u.plan.table ≡ true
-live_turned rows_of behaviour b a from e t u live now =
-    let y = behaviour t.resident.system in
-    let x = turning_by rows_of t in
-    ap (λ (s : Turning). is_live b s.plan.table) now.0
-    ∙ live_from_numbers b (turned_by y a from e x).plan.table t.plan.table (numbers-turned_by y a from e x) ∙ live
 
 -- ---- an event that the actor has done
 

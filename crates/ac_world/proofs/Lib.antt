@@ -1,9 +1,13 @@
 pub mod Changing
 pub mod Dropping
+pub mod Houses
+pub mod Housings
 pub mod Lives
 pub mod Numbers
 pub mod Pushes
 pub mod Shapes
 pub mod Spaces
+pub mod Sparing
+pub mod Standing
 pub mod Taken
 pub mod Weights

@@ -2,94 +2,35 @@
 use Rattle.std.proofs.Common.{◌≡◌, ℕ, zero, suc, ◌+◌, ◌<◌, ◌≤◌, Bool, true, false, not, ◌==◌, nat_lt, List, [], ◌∷◌}
 use Rattle.std.proofs.Common.{refl, ap, arith, ◌∙◌, filter, Option, Some, None, is_some, if◌then◌else◌, add-one}
 use Rattle.std.specs.List.{AllByRecursion}
-use Rattle.std.specs.Map.{values_of}
-use Rattle.pv_value.specs.Plain.{Plain}
-use Rattle.ds_space.specs.Spaces.{Rows, changed, has_row}
-use Rattle.ds_space.specs.declared.space.SpaceEvent.{SpaceEvent}
-use Rattle.ds_space.specs.declared.space.SpaceEvent.TheVariants.{Add, Gone}
-use Rattle.ds_space.specs.declared.space.Change.{Change}
-use Rattle.ds_space.specs.declared.space.Change.TheVariants.{Left, Came}
-use Rattle.ds_space.specs.declared.space.Fanned.{Fanned}
 use Rattle.ac_table.specs.declared.batches.Event.{Event}
-use Rattle.ac_table.specs.declared.batches.Event.TheVariants.{Assert, Retract, Message, Sync}
 use Rattle.ac_table.specs.Tables.{Actor, TableState, find_actor, is_live, placed, joined, ended, popped}
 use Rattle.ac_table.specs.Faults.{actor_fault}
 use Rattle.ac_table.specs.declared.TableFault.{TableFault}
 use Rattle.ac_table.specs.declared.TableFault.TheVariants.{NoActor}
-use Rattle.ac_world.specs.Outboxes.{Outbox, Plan, plan_over, committed, posted}
+use Rattle.ac_world.specs.declared.acts.Act.{Act}
+use Rattle.ac_world.specs.Outboxes.{Outbox, Plan, plan_over, committed, posted, all_acted}
 use Rattle.ac_world.specs.Worlds.{IsWorld, Resident, first_actors}
-use Rattle.ps_schema.specs.declared.Definition.{Definition}
-use Rattle.ac_world.specs.declared.aims.Aim.{Aim}
 use Rattle.ac_world.specs.Behaviours.{Behaviour}
-use Rattle.ac_world.specs.Systems.{changes}
-use Rattle.ac_world.specs.Turns.{Turning, drop_met, handle_for, came_at}
-use Rattle.ac_world.specs.Turns.{changed_by, all_changed, with_rows, regot, applied, taken_in}
-use Rattle.ac_world.specs.Turns.{passed_on, turned_by, all_turned}
-use Rattle.ac_world.proofs.Lives.{numbers, numbers-dropped, numbers-committed, numbers-popped, numbers-posted}
-use Rattle.ac_world.proofs.Lives.{numbers-say_all, numbers-answer_to, world_from_numbers, live-popped}
+use Rattle.ac_world.specs.Turns.{Turning, all_turned}
+use Rattle.ac_world.proofs.Lives.{numbers, numbers-committed, numbers-popped, numbers-posted}
+use Rattle.ac_world.proofs.Lives.{world_from_numbers, live-popped}
+use Rattle.ac_world.proofs.Sparing.{IsSpared, all_acted_spared, all_turned_spared}
 
--- ---- an event of a turn leaves the numbers
+-- ---- a turn leaves the numbers
 
-if_same : {X : Type 0} (f : X → List ℕ) (ks : List ℕ) (b : Bool) (x y : X) → f x ≡ ks → f y ≡ ks
-    → f (if b then x else y) ≡ ks
-if_same f ks true x y same other = same
-if_same f ks false x y same other = other
+pub numbers_spared : (a : ℕ) → IsSpared numbers a
+numbers_spared a = record {
+  rows = record { row_more = λ facet target entity v t. refl; row_less = λ h t. refl };
+  facet_more = λ n t. refl;
+  facet_less = λ n t. refl;
+}
 
-numbers-drop_met : (a : ℕ) (h : Option ℕ) (p : Plan) → numbers (drop_met a h p).table ≡ numbers p.table
-numbers-drop_met a None p = refl
-numbers-drop_met a (Some h) p = numbers-dropped a h p
-
-numbers-came_at : (a : ℕ) (k : Plain) (aim : Option Aim) (t : Turning)
-    → numbers (came_at a k aim t).plan.table ≡ numbers t.plan.table
-numbers-came_at a k None t = refl
-numbers-came_at a k (Some aim) t = refl
-
-pub numbers-changed_by : (y : Behaviour) (a : ℕ) (c : Change) (t : Turning)
-    → numbers (changed_by y a c t).plan.table ≡ numbers t.plan.table
-numbers-changed_by y a (Left k) t = numbers-drop_met a (handle_for k t.resident.handles) t.plan
-numbers-changed_by y a (Came k) t = numbers-came_at a k (y.aim k) t
-
-pub numbers-all_changed : (y : Behaviour) (a : ℕ) (cs : List Change) (t : Turning)
-    → numbers (all_changed y a cs t).plan.table ≡ numbers t.plan.table
-numbers-all_changed y a [] t = refl
-numbers-all_changed y a (c ∷ cs) t = numbers-all_changed y a cs (changed_by y a c t) ∙ numbers-changed_by y a c t
-
-numbers-regot : (y : Behaviour) (a : ℕ) (rows : Rows) (t : Turning)
-    → numbers (regot y a rows t).plan.table ≡ numbers t.plan.table
-numbers-regot y a rows t =
-    numbers-all_changed y a (changes (y.keys (values_of t.resident.got)) (y.keys (values_of rows))) (with_rows rows t)
-
-numbers-applied : (y : Behaviour) (a from : ℕ) (e : SpaceEvent) (t : Turning)
-    → numbers (applied y a from e t).plan.table ≡ numbers t.plan.table
-numbers-applied y a from (Add h v) t =
-    if_same (λ (t : Turning). numbers t.plan.table) (numbers t.plan.table) _ _ _ refl
-    (numbers-regot y a (changed t.resident.got (Add h v)) t)
-numbers-applied y a from (Gone h) t = numbers-regot y a (changed t.resident.got (Gone h)) t
-
-numbers-taken_in : (y : Behaviour) (a from h : ℕ) (v : Plain) (t : Turning)
-    → numbers (taken_in y a from h v t).plan.table ≡ numbers t.plan.table
-numbers-taken_in y a from h v t =
-    if_same (λ (t : Turning). numbers t.plan.table) (numbers t.plan.table) (has_row h t.resident.got) t
-    (applied y a from (Add h v) t) refl (numbers-applied y a from (Add h v) t)
-
-numbers-passed_on : (ds : List Definition) (from : ℕ) (fs : List Fanned) (t : Turning)
-    → numbers (passed_on ds from fs t).plan.table ≡ numbers t.plan.table
-numbers-passed_on ds from fs t =
-    if_same (λ (t : Turning). numbers t.plan.table) (numbers t.plan.table) _ _ _ refl (numbers-say_all ds fs t.plan)
-
-pub numbers-turned_by : (y : Behaviour) (a from : ℕ) (e : Event) (t : Turning)
-    → numbers (turned_by y a from e t).plan.table ≡ numbers t.plan.table
-numbers-turned_by y a from (Assert h entity v) t = numbers-taken_in y a from h v t
-numbers-turned_by y a from (Retract h entity) t = numbers-applied y a from (Gone h) t
-numbers-turned_by y a from (Message entity v) t =
-    numbers-passed_on y.schema from (y.fan (values_of t.resident.got) v) t
-numbers-turned_by y a from (Sync entity peer) t = numbers-answer_to y.schema peer t.plan
+pub numbers-all_acted : (a : ℕ) (xs : List Act) (p : Plan) → numbers (all_acted a xs p).table ≡ numbers p.table
+numbers-all_acted a xs p = all_acted_spared numbers a (numbers_spared a).rows xs p
 
 pub numbers-all_turned : (y : Behaviour) (a from : ℕ) (es : List Event) (t : Turning)
     → numbers (all_turned y a from es t).plan.table ≡ numbers t.plan.table
-numbers-all_turned y a from [] t = refl
-numbers-all_turned y a from (e ∷ es) t =
-    numbers-all_turned y a from es (turned_by y a from e t) ∙ numbers-turned_by y a from e t
+numbers-all_turned y a from es t = all_turned_spared numbers a (numbers_spared a) y from es t
 
 -- ---- an actor that joins, and one that ends
 

@@ -1,5 +1,5 @@
 -- A dataspace, and what was delivered to a connection, is taken out of its list and put back after a turn.
-use Rattle.std.proofs.Common.{◌≡◌, ℕ, zero, suc, ◌<◌, List, [], ◌∷◌, map, Bool, true, false, cond, Option, Some, None}
+use Rattle.std.proofs.Common.{◌≡◌, ℕ, zero, suc, ◌<◌, List, [], ◌∷◌, Bool, true, false, cond, Option, Some}
 use Rattle.std.proofs.Common.{option_map, unwrap_or, refl, ap, sym, ◌∙◌, arith, Ordering, Less, Equal, Greater}
 use Rattle.std.proofs.lemmas.Bool.Decides.{nat_tests}
 use Rattle.std.specs.BTreeMap.{is_at, insert_entry}
@@ -12,13 +12,12 @@ use Rattle.ac_table.specs.declared.batches.Event.{Event}
 use Rattle.ac_table.specs.declared.batches.Batch.{Batch}
 use Rattle.ac_table.specs.Tables.{TableState}
 use Rattle.ac_world.specs.declared.residents.Resident.{Resident as ResidentBy}
-use Rattle.ac_world.specs.declared.spreads.Spread.{Spread}
 use Rattle.ps_schema.specs.declared.Definition.{Definition}
 use Rattle.ac_world.specs.Behaviours.{Behaviour, dataspace, behaviour_of}
 use Rattle.ac_world.specs.Keeping.{resident_by, residents_by}
-use Rattle.ac_world.specs.Outboxes.{Plan, plan_over, committed}
+use Rattle.ac_world.specs.Outboxes.{plan_over, committed}
 use Rattle.ac_world.specs.Worlds.{WorldState, Resident, Deliveries, no_resident, entry_of, with_entry, all_delivered}
-use Rattle.ac_world.specs.Turns.{Turning, begin_turn, end_turn, all_turned, deliver, system_turn}
+use Rattle.ac_world.specs.Turns.{Turning, begin_turn, end_turn, all_turned, system_turn}
 use Rattle.ac_world.specs.Lemmas.Entries.{back}
 
 -- what was delivered after more events
@@ -100,17 +99,30 @@ module _ (opened : ℕ) (ds : List Definition) (bindings : List Binding) (table 
   turning_with y r b =
       all_turned y a b.from b.events (record { resident = r; plan = plan_over table; spreads = [] })
 
+  pub resident_is : (taken : Option (ResidentBy Rows)) (r : ResidentBy Rows) → taken ≡ entry_of a spaces
+      → seen r ≡ unwrap_or (option_map seen taken) no_resident
+      → seen r ≡ unwrap_or (entry_of a world.residents) no_resident
+  resident_is taken r taken_is r_is =
+      r_is ∙ ap (λ (o : Option (ResidentBy Rows)). unwrap_or (option_map seen o) no_resident) taken_is
+      ∙ ap (λ (o : Option Resident). unwrap_or o no_resident)
+      (sym (found_behind a g (residents_by spaces) some ∙ seen_found a spaces))
+
+  pub residents_put : (after : ResidentBy Rows) (less new : List (ℕ × ResidentBy Rows))
+      → IsStrictlySortedBy nat_cmp (keys_of spaces) → less ≡ remove_entry (is_at (nat_cmp a)) spaces
+      → new ≡ insert_entry nat_cmp less a after
+      → (0, g) ∷ residents_by new ≡ with_entry a (seen after) world.residents
+  residents_put after less new ascend less_is new_is =
+      let put : new ≡ with_entry a after spaces = back a after after spaces less new ascend less_is new_is refl in
+      ap (λ l. (0, g) ∷ l) (ap residents_by put ∙ seen_with a after spaces)
+      ∙ sym (with_behind a (seen after) g (residents_by spaces) some)
+
   -- the turn begins with what was taken out
   pub begun : (b : Batch) (taken : Option (ResidentBy Rows)) (r : ResidentBy Rows) → taken ≡ entry_of a spaces
       → seen r ≡ unwrap_or (option_map seen taken) no_resident
       → turning_with (dataspace ds) (seen r) b
       ≡ all_turned (behaviour_of ds bindings a) a b.from b.events (begin_turn a world)
   begun b taken r taken_is r_is =
-      let was : seen r ≡ unwrap_or (entry_of a world.residents) no_resident =
-      r_is ∙ ap (λ (o : Option (ResidentBy Rows)). unwrap_or (option_map seen o) no_resident) taken_is
-      ∙ ap (λ (o : Option Resident). unwrap_or o no_resident)
-      (sym (found_behind a g (residents_by spaces) some ∙ seen_found a spaces)) in
-      λ i. turning_with (sym is_dataspace i) (was i) b
+      λ i. turning_with (sym is_dataspace i) (resident_is taken r taken_is r_is i) b
 
   pub space_turn_is : (b : Batch) (taken : Option (ResidentBy Rows)) (r after : ResidentBy Rows) (t : Turning)
       (table_after : TableState) (less new : List (ℕ × ResidentBy Rows)) → IsStrictlySortedBy nat_cmp (keys_of spaces)
@@ -127,11 +139,8 @@ module _ (opened : ℕ) (ds : List Definition) (bindings : List Binding) (table 
       } ≡ (system_turn a b world).world
   space_turn_is b taken r after t table_after less new ascend less_is taken_is r_is t_is after_is new_is table_is =
       let whole = t_is ∙ begun b taken r taken_is r_is in
-      let put : new ≡ with_entry a after spaces = back a after after spaces less new ascend less_is new_is refl in
       let residents : (0, g) ∷ residents_by new ≡ with_entry a t.resident world.residents =
-      ap (λ l. (0, g) ∷ l) (ap residents_by put ∙ seen_with a after spaces
-      ∙ ap (λ x. with_entry a x (residents_by spaces)) after_is)
-      ∙ sym (with_behind a t.resident g (residents_by spaces) some) in
+      residents_put after less new ascend less_is new_is ∙ ap (λ x. with_entry a x world.residents) after_is in
       (λ i. record {
         opened = opened;
         schema = ds;

@@ -25,6 +25,11 @@ observer_in o = None
 abbrev pub aim_for : List Definition → Plain → Plain → Option Aim
 aim_for ds v o = option_and_then (aim_at ds v) (observer_in o)
 
+-- a key `[o c]` belongs to the observation o
+abbrev pub observation_of : Plain → Option Plain
+observation_of (sequence (then_more o rest)) = Some o
+observation_of k = None
+
 -- a key `[o c]` wants c at the object that o names, as the reference's caveats let it pass
 abbrev pub aim_of : List Definition → Plain → Option Aim
 aim_of ds (sequence (then_more o (then_more c no_more))) = aim_for ds c o

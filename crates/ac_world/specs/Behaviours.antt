@@ -1,7 +1,7 @@
 -- What a system actor does by what it has got: what it wants, and to whom messages go. There are two kinds of system
 -- actors. A dataspace is told of by `ds_space`; the gatekeeper answers those who resolve signed references. Syndicate
 -- Protocol, "dataspaces" and "gatekeeper".
-use Rattle.std.specs.Prelude.{ℕ, zero, suc, ◌-◌, ◌^◌, min, List, [], Bool, false, ◌&&◌, Option, Some, None, codes}
+use Rattle.std.specs.Prelude.{ℕ, zero, suc, ◌-◌, ◌^◌, min, List, [], Bool, false, ◌&&◌, Option, None, codes}
 use Rattle.std.specs.List.{filter}
 use Rattle.pv_value.specs.Plain.{Plain, symbol, record_of, no_more, then_more}
 use Rattle.pv_value.specs.Order.{order}
@@ -13,7 +13,7 @@ use Rattle.ds_space.specs.declared.space.Fanned.{Fanned}
 use Rattle.ds_space.specs.Fans.{fan_of, weight_of_fanned}
 use Rattle.gk_sturdy.specs.declared.bound.Binding.{Binding}
 use Rattle.gk_sturdy.specs.Answers.{reply_to}
-use Rattle.ac_world.specs.Aims.{Aim, aim_for, aim_of}
+use Rattle.ac_world.specs.Aims.{Aim, aim_for, aim_of, observation_of}
 
 -- for the values that an actor has got
 pub record Behaviour : Type 0 where
@@ -21,6 +21,8 @@ pub record Behaviour : Type 0 where
   pub schema : List Definition
   -- the keys of what it wants, ascending, each once
   pub keys : List Plain → List Plain
+  -- the group of a key, for which its row has a facet of its own; none where it stands in facet 0
+  pub group : Plain → Option Plain
   -- what arrives of what a key wants, and at which object
   pub aim : Plain → Option Aim
   -- what all that it wants weighs, as far as that is limited
@@ -35,7 +37,14 @@ fanned_weight fs = min (weight_of_fanned fs) (2 ^ 64 - 1)
 -- ---- a dataspace
 
 abbrev pub dataspace : List Definition → Behaviour
-dataspace ds = record { schema = ds; keys = wants; aim = aim_of ds; weight = wanted_weight; fan = fan_of }
+dataspace ds = record {
+  schema = ds;
+  keys = wants;
+  group = observation_of;
+  aim = aim_of ds;
+  weight = wanted_weight;
+  fan = fan_of;
+}
 
 -- ---- the gatekeeper
 
@@ -54,6 +63,7 @@ abbrev pub gatekeeper : List Definition → List Binding → Behaviour
 gatekeeper ds bs = record {
   schema = ds;
   keys = λ vs. ascending_by order (filter asks vs);
+  group = λ k. None;
   aim = answer_for ds bs;
   weight = λ vs. 0;
   fan = λ vs m. [];

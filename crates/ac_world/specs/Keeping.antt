@@ -1,14 +1,17 @@
 -- What contracts know of a system actor, and of its turn, however the actor keeps what it has got.
-use Rattle.std.specs.Prelude.{◌≡◌, ℕ, List, map}
+use Rattle.std.specs.Prelude.{◌≡◌, ℕ, true, List, map}
 use Rattle.ds_space.specs.Spaces.{Rows}
 use Rattle.ac_world.specs.declared.residents.Resident.{Resident as ResidentBy}
 use Rattle.ac_world.specs.declared.turning.Turning.{Turning as TurningBy}
+use Rattle.ac_table.specs.Tables.{is_live, tree_of}
 use Rattle.ac_world.specs.Behaviours.{Behaviour}
+use Rattle.ac_world.specs.Housing.{IsRooted, AreHouses}
 use Rattle.ac_world.specs.Worlds.{Resident}
 use Rattle.ac_world.specs.Turns.{Turning}
 
 abbrev pub resident_by : {S : Type 0} → (S → Rows) → ResidentBy S → Resident
-resident_by rows_of r = record { got = rows_of r.system; handles = r.handles.entries }
+resident_by rows_of r =
+    record { got = rows_of r.system; handles = r.handles.entries; facets = r.facets.entries }
 
 abbrev pub turning_by : {S : Type 0} → (S → Rows) → TurningBy S → Turning
 turning_by rows_of t =
@@ -20,6 +23,12 @@ abbrev pub TurnsBy : {S : Type 0} → (S → Rows) → (S → Behaviour) → Tur
 TurnsBy rows_of behaviour old f new =
     (turning_by rows_of new ≡ f (behaviour old.resident.system) (turning_by rows_of old))
     × (behaviour new.resident.system ≡ behaviour old.resident.system)
+
+-- an actor that takes its turn is live, and has its facets and those of its groups
+pub record Stands (a : ℕ) (t : Turning) : Type 0 where
+  pub live : is_live a t.plan.table ≡ true
+  pub rooted : IsRooted (tree_of a t.plan.table)
+  pub houses : AreHouses t.resident.facets (tree_of a t.plan.table)
 
 -- the dataspaces of a map
 abbrev pub residents_by : List (ℕ × ResidentBy Rows) → List (ℕ × Resident)

@@ -1,5 +1,6 @@
 pub mod Aims
 pub mod Behaviours
+pub mod Housing
 pub mod Keeping
 pub mod Lemmas
 pub mod Outboxes

@@ -8,6 +8,7 @@ use Rattle.pv_value.specs.Plain.{Plain}
 use Rattle.ac_table.specs.declared.batches.Row.{Row}
 use Rattle.ac_table.specs.declared.batches.Event.{Event}
 use Rattle.ac_table.specs.declared.batches.Event.TheVariants.{Assert, Retract, Message, Sync}
+use Rattle.ac_table.specs.Facets.{Tree}
 use Rattle.ac_table.specs.Tables.{TableState, find_row, asserted, retracted, pushed}
 use Rattle.ac_world.specs.declared.acts.Act.{Act}
 use Rattle.ac_world.specs.declared.acts.Act.TheVariants as act
@@ -36,10 +37,10 @@ pub record Plan : Type 0 where
 abbrev pub plan_over : TableState → Plan
 plan_over t = record { table = t; out = [] }
 
--- a new row of the owner under the next handle, in facet 0, and its assertion at the target
-abbrev pub put : ℕ → ℕ → ℕ → Plain → Plan → Plan
-put owner target entity v p = record {
-  table = asserted owner 0 target entity v p.table;
+-- a new row of the owner under the next handle, in one of its facets, and its assertion at the target
+abbrev pub put : ℕ → ℕ → ℕ → ℕ → Plain → Plan → Plan
+put owner facet target entity v p = record {
+  table = asserted owner facet target entity v p.table;
   out = told target (Assert p.table.next entity v) p.out;
 }
 
@@ -70,10 +71,14 @@ said target e p = record { table = p.table; out = told target e p.out }
 abbrev pub committed : ℕ → Plan → TableState
 committed from p = posted from p.out p.table
 
--- ---- what a connection does
+-- the actors' trees of facets change
+abbrev pub with_trees : List (ℕ × Tree) → Plan → Plan
+with_trees trees p = record { table = record p.table { trees = trees }; out = p.out }
+
+-- ---- what a connection does, in facet 0
 
 abbrev pub acted : ℕ → Act → Plan → Plan
-acted a (act.Assert target entity v) p = put a target entity v p
+acted a (act.Assert target entity v) p = put a 0 target entity v p
 acted a (act.Retract handle) p = dropped a handle p
 acted a (act.Message target entity v) p = said target (Message entity v) p
 acted a (act.Sync target entity peer) p = said target (Sync entity peer) p

@@ -1,5 +1,5 @@
 -- What is counted and weighed of an actor. Each sum ends at the greatest 64-bit number.
-use Rattle.std.specs.Prelude.{ℕ, ◌+◌, List, [], ◌∷◌, Option, Some, None}
+use Rattle.std.specs.Prelude.{ℕ, List, [], ◌∷◌, Option, Some, None}
 use Rattle.std.specs.Map.{values_of}
 use Rattle.pv_value.specs.Weight.{weight}
 use Rattle.ac_table.specs.Tables.{rows_of, find_actor}

@@ -19,7 +19,8 @@ use Rattle.ac_table.specs.declared.batches.Event.{Event}
 use Rattle.ac_table.specs.declared.batches.Event.TheVariants.{Assert, Retract, Message, Sync}
 use Rattle.ac_table.specs.declared.batches.Batch.{Batch}
 use Rattle.ac_table.specs.Tables.{TableState, is_live, first_batch, popped, lowest}
-use Rattle.ac_world.specs.Outboxes.{Plan, plan_over, put, dropped, said, committed}
+use Rattle.ac_world.specs.Housing.{housed, vacated}
+use Rattle.ac_world.specs.Outboxes.{Plan, plan_over, put, with_trees, dropped, said, committed}
 use Rattle.ac_world.specs.Worlds.{WorldState, Resident, resident_of, held_by, with_entry, is_system}
 use Rattle.ac_world.specs.Worlds.{all_delivered}
 use Rattle.ac_world.specs.Aims.{Aim, aim_at, aim_for}
@@ -61,28 +62,70 @@ abbrev pub drop_met : ℕ → Option ℕ → Plan → Plan
 drop_met a None p = p
 drop_met a (Some h) p = dropped a h p
 
--- a key is wanted no more: the row for it goes
-abbrev pub left : ℕ → Plain → Turning → Turning
-left a k t = record {
-  resident = record { got = t.resident.got; handles = remove_entry (is_at (order k)) t.resident.handles };
+-- with the last row of a group their facet goes
+abbrev pub vacating : ℕ → Option Plain → Turning → Turning
+vacating a g t = record {
+  resident = record {
+    got = t.resident.got;
+    handles = t.resident.handles;
+    facets = (vacated a g t.resident.facets t.plan.table).facets;
+  };
+  plan = with_trees (vacated a g t.resident.facets t.plan.table).trees t.plan;
+  spreads = t.spreads;
+}
+
+-- the row for a key goes
+abbrev pub row_gone : ℕ → Plain → Turning → Turning
+row_gone a k t = record {
+  resident = record {
+    got = t.resident.got;
+    handles = remove_entry (is_at (order k)) t.resident.handles;
+    facets = t.resident.facets;
+  };
   plan = drop_met a (handle_for k t.resident.handles) t.plan;
   spreads = t.spreads;
 }
 
--- a key is wanted now: a row for it comes under the next handle; none where what is wanted is refused on its way
-abbrev pub came_at : ℕ → Plain → Option Aim → Turning → Turning
-came_at a k None t = t
-came_at a k (Some aim) t = record {
-  resident = record { got = t.resident.got; handles = insert_entry order t.resident.handles k t.plan.table.next };
-  plan = put a aim.at.actor aim.at.entity aim.value t.plan;
+-- a key is wanted no more
+abbrev pub left : Behaviour → ℕ → Plain → Turning → Turning
+left y a k t = vacating a (y.group k) (row_gone a k t)
+
+-- a row of a group is to stand in their facet, which is made where it isn't there
+abbrev pub housing : ℕ → Option Plain → Turning → Turning
+housing a g t = record {
+  resident = record {
+    got = t.resident.got;
+    handles = t.resident.handles;
+    facets = (housed a g t.resident.facets t.plan.table).facets;
+  };
+  plan = with_trees (housed a g t.resident.facets t.plan.table).trees t.plan;
   spreads = t.spreads;
 }
 
+-- a row for a key comes under the next handle, in a facet that is there
+abbrev pub row_come : ℕ → ℕ → Plain → Aim → Turning → Turning
+row_come a facet k aim t = record {
+  resident = record {
+    got = t.resident.got;
+    handles = insert_entry order t.resident.handles k t.plan.table.next;
+    facets = t.resident.facets;
+  };
+  plan = put a facet aim.at.actor aim.at.entity aim.value t.plan;
+  spreads = t.spreads;
+}
+
+-- none comes where what is wanted is refused on its way
+abbrev pub came_at : ℕ → Option Plain → Plain → Option Aim → Turning → Turning
+came_at a g k None t = t
+came_at a g k (Some aim) t =
+    row_come a (housed a g t.resident.facets t.plan.table).facet k aim (housing a g t)
+
+-- a key is wanted now
 abbrev pub came : Behaviour → ℕ → Plain → Turning → Turning
-came y a k t = came_at a k (y.aim k) t
+came y a k t = came_at a (y.group k) k (y.aim k) t
 
 abbrev pub changed_by : Behaviour → ℕ → Change → Turning → Turning
-changed_by y a (Left k) t = left a k t
+changed_by y a (Left k) t = left y a k t
 changed_by y a (Came k) t = came y a k t
 
 abbrev pub all_changed : Behaviour → ℕ → List Change → Turning → Turning
@@ -90,7 +133,8 @@ all_changed y a [] t = t
 all_changed y a (c ∷ cs) t = all_changed y a cs (changed_by y a c t)
 
 abbrev pub with_rows : Rows → Turning → Turning
-with_rows rows t = record t { resident = record { got = rows; handles = t.resident.handles } }
+with_rows rows t =
+    record t { resident = record { got = rows; handles = t.resident.handles; facets = t.resident.facets } }
 
 -- what it has got changes, and with that its own rows for what it wants
 abbrev pub regot : Behaviour → ℕ → Rows → Turning → Turning

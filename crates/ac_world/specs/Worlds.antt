@@ -1,6 +1,6 @@
 -- The world: live actors and their inboxes, rows, and what was delivered to whom.
 use Rattle.std.specs.Prelude.{ℕ, zero, suc, ◌+◌, List, [], ◌∷◌, Bool, ◌&&◌, nat_lt, nat_le, Option, unwrap_or}
-use Rattle.std.specs.Prelude.{◌≤◌, if◌then◌else◌}
+use Rattle.std.specs.Prelude.{◌≡◌, ◌<◌, ◌≤◌, true, if◌then◌else◌}
 use Rattle.std.specs.List.{AllByRecursion}
 use Rattle.std.specs.Map.{lookup, remove_entry}
 use Rattle.std.specs.BTreeMap.{insert_entry, is_at}
@@ -12,7 +12,8 @@ use Rattle.gk_sturdy.specs.declared.bound.Binding.{Binding}
 use Rattle.gk_sturdy.specs.Bindings.{with_binding}
 use Rattle.ac_table.specs.declared.batches.Event.{Event}
 use Rattle.ac_table.specs.declared.batches.Event.TheVariants.{Assert, Retract, Message, Sync}
-use Rattle.ac_table.specs.Tables.{TableState, opening, joined, is_live, ended, rows_of}
+use Rattle.ac_table.specs.Tables.{TableState, opening, joined, is_live, tree_of, ended, rows_of}
+use Rattle.ac_world.specs.Housing.{Facets, IsRooted, AreHouses}
 use Rattle.ac_world.specs.Outboxes.{plan_over, all_acted, committed, retractions, posted}
 use Rattle.ac_world.specs.declared.acts.Act.{Act}
 pub use Rattle.ac_world.specs.declared.held.Held.{Held}
@@ -30,11 +31,12 @@ actor_of k = 16 + k
 
 -- ---- the state
 
--- a system actor: the rows that were delivered to it, a handle and a value each, and for each key that it wants, and
--- that its reference's caveats let pass, the handle of its own row for it
+-- A system actor: the rows that were delivered to it, a handle and a value each; for each key that it wants, and that
+-- its reference's caveats let pass, the handle of its own row for it; and for each group of such keys its facet.
 pub record Resident : Type 0 where
   pub got : Rows
   pub handles : List (Plain × ℕ)
+  pub facets : Facets
 
 -- the gatekeeper's part: what is bound, and the rows that were delivered to it
 pub record Gatekeeping : Type 0 where
@@ -66,7 +68,7 @@ abbrev pub without_entry : {X : Type 0} → ℕ → List (ℕ × X) → List (�
 without_entry a es = remove_entry (is_at (nat_cmp a)) es
 
 abbrev pub no_resident : Resident
-no_resident = record { got = []; handles = [] }
+no_resident = record { got = []; handles = []; facets = [] }
 
 abbrev pub resident_of : ℕ → WorldState → Resident
 resident_of a w = unwrap_or (entry_of a w.residents) no_resident
@@ -134,3 +136,9 @@ ended_of a w = if is_live a w.table then gone a w else w
 -- no actor's number is above those of the connections that were opened
 abbrev pub IsWorld : ℕ → TableState → Type 0
 IsWorld opened t = AllByRecursion (λ x. x.number ≤ 16 + opened) t.actors
+
+-- each live actor has its facets, and each system actor those of its groups
+pub record AreHoused (t : TableState) (residents : List (ℕ × Resident)) : Type 0 where
+  pub rooted : (a : ℕ) → is_live a t ≡ true → IsRooted (tree_of a t)
+  pub houses : (a : ℕ) → a < 17 → is_live a t ≡ true
+      → AreHouses (unwrap_or (entry_of a residents) no_resident).facets (tree_of a t)

@@ -1,6 +1,6 @@
 //! What arrives of what is sent through references, and where.
 ghost use Rattle.std.specs.Prelude.{◌≡◌, IfOk, option_copied};
-ghost use Rattle.ac_world.specs.Aims.{aim_by, aim_at, observer_in, aim_for};
+ghost use Rattle.ac_world.specs.Aims.{aim_by, aim_at, observer_in, aim_for, observation_of};
 
 use ds_space::Reference;
 use pv_value::{NoMemory, Node, Value};
@@ -47,6 +47,16 @@ pub fn aim_at<J: Judge>(
     match Cap::of_value(alloc, reference)? {
         Some(cap) => aim_by(alloc, judge, value, &cap),
         None => Ok(None),
+    }
+}
+
+/// The observation o to which a key `[o c]` belongs.
+pub(crate) fn observation_of(key: &Value) -> Option<&Value>
+    ensures { option_copied result ≡ observation_of key.now }
+{
+    match &key.node {
+        Node::Seq(items) => items.as_slice().first(),
+        _ => None,
     }
 }
 

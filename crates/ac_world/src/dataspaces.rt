@@ -1,8 +1,9 @@
 //! A dataspace among the system actors, over any body of [`Space`].
 ghost use Rattle.std.specs.Prelude.{◌≡◌, [], IfOk, refl};
+ghost use Rattle.ac_world.specs.Aims.{observation_of};
 ghost use Rattle.ac_world.specs.Behaviours.{dataspace};
 
-use crate::aims::Aim;
+use crate::aims::{Aim, observation_of};
 use crate::readings::{Reading, aim_of};
 use crate::systems::System;
 use ds_space::{Applied, Fan, Space, SpaceEvent};
@@ -54,6 +55,10 @@ impl<S: Space + Drop> System for Dataspace<S> {
 
     ghost bound = { λ s. [] };
 
+    ghost grouping = { observation_of };
+
+    ghost grouped = { λ ds s. refl };
+
     fn apply(self, alloc: Global, event: SpaceEvent) -> Result<Applied<Self>, NoMemory> {
         let Dataspace { space, last } = self;
         match space.apply(alloc, event)? {
@@ -64,6 +69,10 @@ impl<S: Space + Drop> System for Dataspace<S> {
 
     fn has(&self, handle: u64) -> bool {
         self.space.has(handle)
+    }
+
+    fn group(key: &Value) -> Option<&Value> {
+        observation_of(key)
     }
 
     fn aim<J: Judge>(

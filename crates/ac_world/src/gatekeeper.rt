@@ -117,6 +117,10 @@ impl System for Gatekeeper {
 
     ghost bound = { λ g. g.bindings };
 
+    ghost grouping = { λ k. None };
+
+    ghost grouped = { λ ds g. refl };
+
     fn apply(self, alloc: Global, event: SpaceEvent) -> Result<Applied<Self>, NoMemory> {
         match event {
             SpaceEvent::Add(handle, value) => self.add(alloc, handle, value),
@@ -126,6 +130,10 @@ impl System for Gatekeeper {
 
     fn has(&self, handle: u64) -> bool {
         self.rows.contains_key(&handle)
+    }
+
+    fn group(_key: &Value) -> Option<&Value> {
+        None
     }
 
     fn aim<J: Judge>(

@@ -1,9 +1,12 @@
 //! A turn in the making: rows that come and go, and the events that tell of it.
-ghost use Rattle.std.specs.Prelude.{◌≡◌, ◌≤◌, true, OnOk, IfOk};
+ghost use Rattle.std.specs.Prelude.{◌≡◌, ◌<◌, true, false, not, [], ◌∷◌, if◌then◌else◌, OnOk, IfOk};
 ghost use Rattle.pv_value.specs.Plain.{sequence, plains};
-ghost use Rattle.ac_table.specs.Tables.{is_live};
-ghost use Rattle.ac_world.specs.Outboxes.{plan_over, put, dropped, said, committed, acted};
-ghost use Rattle.ac_world.specs.Outboxes.{all_acted, owns};
+ghost use Rattle.ac_table.specs.Facets.{least_free};
+ghost use Rattle.ac_table.specs.Tables.{is_live, has_facet, has_rows, tree_of, faceted};
+ghost use Rattle.ac_table.specs.Tables.{without_facets};
+ghost use Rattle.ac_world.specs.Housing.{IsRooted};
+ghost use Rattle.ac_world.specs.Outboxes.{plan_over, put, with_trees, dropped, said, committed};
+ghost use Rattle.ac_world.specs.Outboxes.{acted, all_acted, owns};
 ghost use Rattle.ac_world.specs.Aims.{aim_for};
 ghost use Rattle.ac_world.specs.Turns.{say_at, say_all, answer_to};
 
@@ -47,20 +50,68 @@ impl Plan {
         }
     }
 
-    /// A new row of a live owner, at the object `to.1` of the actor `to.0`; answers its handle.
-    pub fn put(&mut self, owner: u32, to: (u32, u64), value: Value) -> Result<u64, NoMemory>
-        requires { is_live owner self.old.table ≡ true }
-        ensures put { OnOk result (self.new ≡ put owner to.0 to.1 value self.old) }
+    /// A new row of a live owner in one of its facets, at the object `to.1` of the actor `to.0`;
+    /// answers its handle.
+    pub fn put(
+        &mut self,
+        owner: u32,
+        facet: u32,
+        to: (u32, u64),
+        value: Value,
+    ) -> Result<u64, NoMemory>
+        requires live { is_live owner self.old.table ≡ true }
+        requires facet { has_facet owner facet self.old.table ≡ true }
+        ensures put { OnOk result (self.new ≡ put owner facet to.0 to.1 value self.old) }
         ensures handle { IfOk result (λ handle. handle ≡ self.old.table.next) }
     {
         let told = value.copy()?;
-        match self.table.assert_row(owner, 0, to, value) {
+        match self.table.assert_row(owner, facet, to, value) {
             Ok(handle) => {
                 self.out.tell(to.0, Event::Assert(handle, to.1, told))?;
                 Ok(handle)
             }
+            // The owner is live and the facet is there, so memory is wanting.
             Err(_) => Err(NoMemory),
         }
+    }
+
+    /// One more facet of a live owner, right below facet 0; answers its number.
+    pub fn found(&mut self, owner: u32) -> Result<u32, NoMemory>
+        requires live { is_live owner self.old.table ≡ true }
+        requires root { has_facet owner 0 self.old.table ≡ true }
+        ensures number { IfOk result (λ n. n ≡ least_free (tree_of owner self.old.table)) }
+        ensures some { IfOk result (λ n. 0 < n) }
+        ensures free { IfOk result (λ n. has_facet owner n self.old.table ≡ false) }
+        ensures made { IfOk result (λ n. self.new
+            ≡ with_trees (faceted owner 0 n self.old.table).trees self.old) }
+    {
+        if let Ok(facet) = self.table.add_facet(owner, 0) {
+            return Ok(facet);
+        }
+        // The owner is live and has facet 0, so memory is wanting.
+        Err(NoMemory)
+    }
+
+    /// Stops a facet right below facet 0, where no row stands in it; answers whether it did.
+    pub fn vacate(&mut self, owner: u32, facet: u32) -> Result<bool, NoMemory>
+        requires live { is_live owner self.old.table ≡ true }
+        requires there { has_facet owner facet self.old.table ≡ true }
+        requires below { 0 < facet }
+        requires rooted { IsRooted (tree_of owner self.old.table) }
+        ensures stopped { IfOk result (λ gone. gone ≡ not (has_rows owner facet self.old.table)) }
+        ensures state { OnOk result (self.new ≡ with_trees
+            (if has_rows owner facet self.old.table then self.old.table.trees
+            else (without_facets owner (facet ∷ []) self.old.table).trees) self.old) }
+    {
+        if self.table.has_rows(owner, facet) {
+            return Ok(false);
+        }
+        if let Ok(handles) = self.table.stop_facet(owner, facet) {
+            drop(handles);
+            return Ok(true);
+        }
+        // The owner is live and has the facet, so memory is wanting.
+        Err(NoMemory)
     }
 
     /// Whether a row is the owner's.
@@ -152,12 +203,13 @@ impl Plan {
 
     /// One act of a live connection.
     fn act(&mut self, actor: u32, act: Act) -> Result<(), NoMemory>
-        requires { is_live actor self.old.table ≡ true }
+        requires live { is_live actor self.old.table ≡ true }
+        requires root { has_facet actor 0 self.old.table ≡ true }
         ensures { OnOk result (self.new ≡ acted actor act self.old) }
     {
         match act {
             Act::Assert(target, entity, value) => {
-                self.put(actor, (target, entity), value)?;
+                self.put(actor, 0, (target, entity), value)?;
                 Ok(())
             }
             Act::Retract(handle) => self.drop_row(actor, handle),
@@ -168,7 +220,8 @@ impl Plan {
 
     /// The acts of a live connection, in order.
     pub fn act_all(&mut self, actor: u32, acts: Vec<Act>) -> Result<(), NoMemory>
-        requires { is_live actor self.old.table ≡ true }
+        requires live { is_live actor self.old.table ≡ true }
+        requires root { has_facet actor 0 self.old.table ≡ true }
         ensures { OnOk result (self.new ≡ all_acted actor acts.items self.old) }
     {
         for act in acts {

@@ -1,4 +1,5 @@
-//! A system actor: what it has got, and the handle of its own row for each key that it wants.
+//! A system actor: what it has got, the handle of its own row for each key that it wants, and the
+//! facets in which these rows stand.
 ghost use Rattle.std.specs.Prelude.{◌≡◌, []};
 
 use crate::systems::System;
@@ -11,6 +12,7 @@ use std::collections::BTreeMap;
 pub struct Resident<Y: System + Drop> {
     pub system: Y,
     pub handles: BTreeMap<Value, u64>,
+    pub facets: BTreeMap<Value, u32>,
 }
 
 impl<Y: System + Drop> Resident<Y> {
@@ -18,10 +20,12 @@ impl<Y: System + Drop> Resident<Y> {
     pub fn new(alloc: Global, system: Y) -> Resident<Y>
         ensures system { result.system ≡ system }
         ensures handles { result.handles.entries ≡ [] }
+        ensures facets { result.facets.entries ≡ [] }
     {
         Resident {
             system,
             handles: BTreeMap::new(alloc),
+            facets: BTreeMap::new(alloc),
         }
     }
 }

@@ -1,5 +1,5 @@
 //! System actors: what they do by what they have got.
-ghost use Rattle.std.specs.Prelude.{◌≡◌, ℕ, List, IfOk};
+ghost use Rattle.std.specs.Prelude.{◌≡◌, ℕ, List, IfOk, Option, option_copied};
 ghost use Rattle.std.specs.Map.{values_of};
 ghost use Rattle.pv_value.specs.Plain.{Plain};
 ghost use Rattle.ds_space.specs.Spaces.{IsNew, has_row};
@@ -26,6 +26,9 @@ pub trait System {
     /// The references that are bound, where it is the gatekeeper. No turn changes them.
     ghost bound: { Self → List Binding };
 
+    /// The groups of keys.
+    ghost grouping: { Plain → Option Plain };
+
     /// A row comes or goes. For want of memory the actor is gone.
     fn apply(self, alloc: Global, event: SpaceEvent) -> Result<Applied<Self>, NoMemory>
         requires { IsNew (rows self) event }
@@ -36,6 +39,10 @@ pub trait System {
     /// Whether a row has this handle.
     fn has(&self, handle: u64) -> bool
         ensures { result ≡ has_row handle (rows self.now) };
+
+    /// The group of a key, for which its row has a facet of its own.
+    fn group(key: &Value) -> Option<&Value>
+        ensures { option_copied result ≡ grouping key.now };
 
     /// What arrives of what a key wants. It may remember what it has read; all else stays.
     fn aim<J: Judge>(
@@ -57,4 +64,7 @@ pub trait System {
 
     /// Its guards judge by the schema.
     ghost judged: { (ds : List Definition) (s : Self) → (behaviour ds s).schema ≡ ds };
+
+    /// Its rows stand by these groups.
+    ghost grouped: { (ds : List Definition) (s : Self) → (behaviour ds s).group ≡ grouping };
 }

@@ -1,9 +1,12 @@
 //! The turn of a system actor, event by event.
-ghost use Rattle.std.specs.Prelude.{◌≡◌, true, IfOk, OnOk};
-ghost use Rattle.ac_table.specs.Tables.{is_live};
+ghost use Rattle.std.specs.Prelude.{◌≡◌, true, IfOk, List, OnOk};
+ghost use Rattle.ac_table.specs.Tables.{has_facet};
+ghost use Rattle.ps_schema.specs.declared.Definition.{Definition};
 ghost use Rattle.ds_space.specs.Spaces.{IsNew};
-ghost use Rattle.ac_world.specs.Keeping.{TurnsBy, turning_by};
-ghost use Rattle.ac_world.specs.Turns.{left, came, changed_by, all_changed, applied, taken_in};
+ghost use Rattle.ac_world.specs.Keeping.{Stands, TurnsBy, turning_by};
+ghost use Rattle.ac_world.specs.Housing.{housed};
+ghost use Rattle.ac_world.specs.Turns.{housing, vacating, left, came, changed_by, all_changed};
+ghost use Rattle.ac_world.specs.Turns.{applied, taken_in};
 ghost use Rattle.ac_world.specs.Turns.{passes_on, turned_by, all_turned};
 
 use crate::actors::{FIRST_CONNECTION, FIRST_OTHER};
@@ -27,16 +30,64 @@ pub struct Turning<Y: System + Drop> {
 }
 
 impl<Y: System + Drop> Turning<Y> {
-    /// A key is wanted no more.
-    fn leave(&mut self, actor: u32, key: &Value) -> Result<(), NoMemory>
+    /// The row for a key has gone; with the last of its group their facet goes.
+    fn vacate(&mut self, actor: u32, key: &Value) -> Result<(), NoMemory>
+        requires { Stands actor (turning_by Y.rows self.old) }
+        ensures stands { OnOk result (Stands actor (turning_by Y.rows self.new)) }
         ensures turns { OnOk result (turning_by Y.rows self.new
-            ≡ left actor key.now (turning_by Y.rows self.old)) }
+            ≡ vacating actor (Y.grouping key.now) (turning_by Y.rows self.old)) }
         ensures system { OnOk result (self.new.resident.system ≡ self.old.resident.system) }
     {
-        match self.resident.handles.remove(key) {
-            Some(handle) => self.plan.drop_row(actor, handle),
-            None => Ok(()),
+        let Some(group) = Y::group(key) else {
+            return Ok(());
+        };
+        let Some(facet) = self.resident.facets.get(group).copied() else {
+            return Ok(());
+        };
+        if !self.plan.vacate(actor, facet)? {
+            return Ok(());
         }
+        self.resident.facets.remove(group);
+        Ok(())
+    }
+
+    /// A key is wanted no more.
+    fn leave(&mut self, actor: u32, key: &Value) -> Result<(), NoMemory>
+        requires { Stands actor (turning_by Y.rows self.old) }
+        ensures stands { OnOk result (Stands actor (turning_by Y.rows self.new)) }
+        ensures turns { (ds : List Definition) → OnOk result (turning_by Y.rows self.new
+            ≡ left (Y.behaviour ds self.old.resident.system) actor key.now
+            (turning_by Y.rows self.old)) }
+        ensures system { OnOk result (self.new.resident.system ≡ self.old.resident.system) }
+    {
+        if let Some(handle) = self.resident.handles.remove(key) {
+            self.plan.drop_row(actor, handle)?;
+        }
+        self.vacate(actor, key)
+    }
+
+    /// The facet in which the row for a key is to stand: that of its group, made where it isn't
+    /// there.
+    fn house(&mut self, actor: u32, key: &Value) -> Result<u32, NoMemory>
+        requires { Stands actor (turning_by Y.rows self.old) }
+        ensures stands { OnOk result (Stands actor (turning_by Y.rows self.new)) }
+        ensures turns { OnOk result (turning_by Y.rows self.new
+            ≡ housing actor (Y.grouping key.now) (turning_by Y.rows self.old)) }
+        ensures there { IfOk result
+            (λ facet. has_facet actor facet self.new.plan.table ≡ true) }
+        ensures facet { IfOk result (λ facet. facet ≡ (housed actor (Y.grouping key.now)
+            self.old.resident.facets.entries self.old.plan.table).facet) }
+        ensures system { OnOk result (self.new.resident.system ≡ self.old.resident.system) }
+    {
+        let Some(group) = Y::group(key) else {
+            return Ok(0);
+        };
+        if let Some(facet) = self.resident.facets.get(group) {
+            return Ok(*facet);
+        }
+        let facet = self.plan.found(actor)?;
+        self.resident.facets.insert(group.copy()?, facet)?;
+        Ok(facet)
     }
 
     /// A key is wanted now. Where the caveats refuse what is wanted, nothing comes of it.
@@ -47,7 +98,8 @@ impl<Y: System + Drop> Turning<Y> {
         actor: u32,
         key: Value,
     ) -> Result<(), NoMemory>
-        requires { is_live actor self.old.plan.table ≡ true }
+        requires { Stands actor (turning_by Y.rows self.old) }
+        ensures stands { OnOk result (Stands actor (turning_by Y.rows self.new)) }
         ensures turns { OnOk result (TurnsBy Y.rows (Y.behaviour (J.schema judge.now)) self.old
             (λ y. came y actor key) self.new) }
         ensures bound { OnOk result (Y.bound self.new.resident.system
@@ -56,7 +108,8 @@ impl<Y: System + Drop> Turning<Y> {
         let Some(Aim { at, value }) = self.resident.system.aim(alloc, judge, &key)? else {
             return Ok(());
         };
-        let handle = self.plan.put(actor, (at.actor, at.entity), value)?;
+        let facet = self.house(actor, &key)?;
+        let handle = self.plan.put(actor, facet, (at.actor, at.entity), value)?;
         self.resident.handles.insert(key, handle)?;
         Ok(())
     }
@@ -69,7 +122,8 @@ impl<Y: System + Drop> Turning<Y> {
         actor: u32,
         change: Change,
     ) -> Result<(), NoMemory>
-        requires { is_live actor self.old.plan.table ≡ true }
+        requires { Stands actor (turning_by Y.rows self.old) }
+        ensures stands { OnOk result (Stands actor (turning_by Y.rows self.new)) }
         ensures turns { OnOk result (TurnsBy Y.rows (Y.behaviour (J.schema judge.now)) self.old
             (λ y. changed_by y actor change) self.new) }
         ensures bound { OnOk result (Y.bound self.new.resident.system
@@ -89,7 +143,8 @@ impl<Y: System + Drop> Turning<Y> {
         actor: u32,
         changes: Changes,
     ) -> Result<(), NoMemory>
-        requires { is_live actor self.old.plan.table ≡ true }
+        requires { Stands actor (turning_by Y.rows self.old) }
+        ensures stands { OnOk result (Stands actor (turning_by Y.rows self.new)) }
         ensures turns { OnOk result (TurnsBy Y.rows (Y.behaviour (J.schema judge.now)) self.old
             (λ y. all_changed y actor changes.items) self.new) }
         ensures bound { OnOk result (Y.bound self.new.resident.system
@@ -110,8 +165,9 @@ impl<Y: System + Drop> Turning<Y> {
         from: u32,
         event: SpaceEvent,
     ) -> Result<Turning<Y>, NoMemory>
-        requires live { is_live actor self.plan.table ≡ true }
+        requires stands { Stands actor (turning_by Y.rows self) }
         requires new { IsNew (Y.rows self.resident.system) event }
+        ensures stands { IfOk result (λ t. Stands actor (turning_by Y.rows t)) }
         ensures turns { IfOk result (TurnsBy Y.rows (Y.behaviour (J.schema judge.now)) self
             (λ y. applied y actor from event)) }
         ensures bound { IfOk result (λ t. Y.bound t.resident.system
@@ -122,10 +178,18 @@ impl<Y: System + Drop> Turning<Y> {
             plan,
             mut spreads,
         } = self;
-        let Resident { system, handles } = resident;
+        let Resident {
+            system,
+            handles,
+            facets,
+        } = resident;
         match system.apply(alloc, event)? {
             Applied::Done(system, changes) => {
-                let resident = Resident { system, handles };
+                let resident = Resident {
+                    system,
+                    handles,
+                    facets,
+                };
                 let mut turning = Turning {
                     resident,
                     plan,
@@ -137,7 +201,11 @@ impl<Y: System + Drop> Turning<Y> {
             Applied::Over(system, weight) => {
                 let ends = from >= FIRST_OTHER && plan.table.live(from);
                 spreads.add(ends, from, weight)?;
-                let resident = Resident { system, handles };
+                let resident = Resident {
+                    system,
+                    handles,
+                    facets,
+                };
                 Ok(Turning {
                     resident,
                     plan,
@@ -157,7 +225,8 @@ impl<Y: System + Drop> Turning<Y> {
         handle: u64,
         value: Value,
     ) -> Result<Turning<Y>, NoMemory>
-        requires { is_live actor self.plan.table ≡ true }
+        requires { Stands actor (turning_by Y.rows self) }
+        ensures stands { IfOk result (λ t. Stands actor (turning_by Y.rows t)) }
         ensures turns { IfOk result (TurnsBy Y.rows (Y.behaviour (J.schema judge.now)) self
             (λ y. taken_in y actor from handle value)) }
         ensures bound { IfOk result (λ t. Y.bound t.resident.system
@@ -201,7 +270,8 @@ impl<Y: System + Drop> Turning<Y> {
         from: u32,
         event: Event,
     ) -> Result<Turning<Y>, NoMemory>
-        requires { is_live actor self.plan.table ≡ true }
+        requires { Stands actor (turning_by Y.rows self) }
+        ensures stands { IfOk result (λ t. Stands actor (turning_by Y.rows t)) }
         ensures turns { IfOk result (TurnsBy Y.rows (Y.behaviour (J.schema judge.now)) self
             (λ y. turned_by y actor from event)) }
         ensures bound { IfOk result (λ t. Y.bound t.resident.system
@@ -238,7 +308,8 @@ impl<Y: System + Drop> Turning<Y> {
         from: u32,
         events: Vec<Event>,
     ) -> Result<Turning<Y>, NoMemory>
-        requires { is_live actor self.plan.table ≡ true }
+        requires { Stands actor (turning_by Y.rows self) }
+        ensures stands { IfOk result (λ t. Stands actor (turning_by Y.rows t)) }
         ensures turns { IfOk result (TurnsBy Y.rows (Y.behaviour (J.schema judge.now)) self
             (λ y. all_turned y actor from events.items)) }
         ensures bound { IfOk result (λ t. Y.bound t.resident.system

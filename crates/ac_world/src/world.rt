@@ -7,7 +7,7 @@ ghost use Rattle.std.specs.Ordering.{nat_cmp};
 ghost use Rattle.ac_table.specs.Tables.{is_live, find_row, first_batch, lowest, waiting};
 ghost use Rattle.gk_sturdy.specs.Bindings.{bound};
 ghost use Rattle.ac_world.specs.Behaviours.{dataspace};
-ghost use Rattle.ac_world.specs.Keeping.{resident_by, turning_by};
+ghost use Rattle.ac_world.specs.Keeping.{resident_by, turning_by, Stands};
 ghost use Rattle.ac_world.specs.Worlds.{beginning, binding, arrived, sent, ended_of, no_resident};
 ghost use Rattle.ac_world.specs.Worlds.{is_system};
 ghost use Rattle.ac_world.specs.Turns.{Turning as TurningOf, all_turned, system_turn, deliver};
@@ -50,7 +50,7 @@ impl<S: Space + Drop, J: Judge + Drop> Model for World<S, J> {
     ghost use Rattle.pv_value.specs.Lemmas.Coded.{plain_code};
     ghost use Rattle.sr_caveat.specs.Lemmas.Coded.{caveat_code};
     ghost use Rattle.ps_schema.specs.Lemmas.CodedDefinitions.{definition_code};
-    ghost use Rattle.ac_world.specs.Worlds.{WorldState, IsWorld};
+    ghost use Rattle.ac_world.specs.Worlds.{WorldState, IsWorld, AreHoused};
 
     ghost Value = { WorldState };
 
@@ -68,7 +68,8 @@ impl<S: Space + Drop, J: Judge + Drop> Model for World<S, J> {
       held = w.held.entries;
     } };
 
-    ghost invariant = { λ w. IsWorld w.opened w.table };
+    ghost invariant = { λ w. IsWorld w.opened w.table × AreHoused w.table
+        ((0, resident_by (λ g. g.got) w.gatekeeper) ∷ residents_by w.spaces.entries) };
 }
 
 impl<S: Space + Drop, J: Judge + Drop> World<S, J> {
@@ -237,6 +238,7 @@ impl<S: Space + Drop, J: Judge + Drop> World<S, J> {
     ) -> Result<(World<S, J>, Turned), NoMemory>
         requires live { is_live actor self.table ≡ true }
         requires other { 0 < actor }
+        requires system { actor < 17 }
         ensures world { IfOk result (λ done. done.0 ≡ (system_turn actor batch self).world) }
         ensures turned { IfOk result (λ done. done.1 ≡ (system_turn actor batch self).turned) }
     {
@@ -386,7 +388,9 @@ fn turned<Y: System + Drop, J: Judge>(
     table: Table,
     batch: Batch,
 ) -> Result<Turning<Y>, NoMemory>
-    requires { is_live actor table ≡ true }
+    requires { Stands actor
+        (record { resident = resident_by Y.rows resident; plan = plan_over table; spreads = [] }) }
+    ensures stands { IfOk result (λ t. Stands actor (turning_by Y.rows t)) }
     ensures turned { IfOk result (λ t. turning_by Y.rows t
         ≡ all_turned (Y.behaviour (J.schema judge.now) resident.system) actor batch.from
         batch.events (record {

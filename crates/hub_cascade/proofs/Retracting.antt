@@ -40,8 +40,8 @@ met_quiet : (a : ℕ) (o : Option ℕ) (p : Plan) → AreTold IsRetraction p.out
 met_quiet a None p all = all
 met_quiet a (Some h) p all = own_quiet a (find_row h p.table.rows) p all
 
-left_quiet : (a : ℕ) (k : Plain) (t : Turning) → IsQuiet t → IsQuiet (left a k t)
-left_quiet a k t quiet = record {
+left_quiet : (y : Behaviour) (a : ℕ) (k : Plain) (t : Turning) → IsQuiet t → IsQuiet (left y a k t)
+left_quiet y a k t quiet = record {
   spreads = quiet.spreads;
   told = met_quiet a (handle_for k t.resident.handles) t.plan quiet.told;
 }
@@ -49,7 +49,7 @@ left_quiet a k t quiet = record {
 all_left_quiet : (y : Behaviour) (a : ℕ) (ks : List Plain) (t : Turning) → IsQuiet t
     → IsQuiet (all_changed y a (map Left ks) t)
 all_left_quiet y a [] t quiet = quiet
-all_left_quiet y a (k ∷ ks) t quiet = all_left_quiet y a ks (left a k t) (left_quiet a k t quiet)
+all_left_quiet y a (k ∷ ks) t quiet = all_left_quiet y a ks (left y a k t) (left_quiet y a k t quiet)
 
 -- ---- events
 

@@ -6,9 +6,10 @@ use Rattle.std.proofs.lemmas.Bool.Decides.{nat_tests}
 use Rattle.ac_table.specs.declared.batches.Row.{Row}
 use Rattle.ac_table.specs.declared.batches.Event.{Event}
 use Rattle.ac_table.specs.declared.batches.Event.TheVariants.{Assert, Retract, Message, Sync}
+use Rattle.ac_table.specs.Facets.{Tree}
 use Rattle.ac_table.specs.Tables.{TableState, find_row, without_row}
 use Rattle.ac_table.specs.Lemmas.Lists.{all_filter}
-use Rattle.ac_world.specs.Outboxes.{Outbox, Plan, drop_row, drop_own, told_to, told}
+use Rattle.ac_world.specs.Outboxes.{Outbox, Plan, with_trees, drop_row, drop_own, told_to, told}
 use Rattle.ac_world.specs.Lemmas.Entries.{all_append}
 use Rattle.hub_laws.proofs.Kept.{made_in, IsOwnedBy, FitsEvent, Moves, AreGood}
 use Rattle.hub_laws.proofs.Promised.{IsSaid, BeginGood, PutGood, DroppedGood, SaidGood}
@@ -46,25 +47,30 @@ fits_still n a b P old new keep (Message entity v ∷ es) p fits =
 fits_still n a b P old new keep (Sync entity peer ∷ es) p fits =
     (tt, fits_still n a b P old new keep es p fits.1)
 
+-- ---- facets change
+
+pub with_trees_good : (n a : ℕ) (p : Plan) (trees : List (ℕ × Tree)) → AreGood n a p → AreGood n a (with_trees trees p)
+with_trees_good n a p trees g = record { rows = g.rows; told = g.told }
+
 -- ---- a row comes
 
 pub put_good : PutGood
-put_good n a t p m g target entity v far low known = record {
+put_good n a t p m g facet target entity v far low known = record {
   rows = all_append _ p.table.rows _ g.rows (record { far = far; target = low; known = known }, tt);
   told = told_fit n a target _ _ p.out
       (λ b. fits_still n a b _ p.table.rows _ (keep b) (told_to b p.out) (m.made_new b) (g.told b))
       (rw found (refl, refl), known);
 }
   where
-    found : find_row p.table.next (p.table.rows ++ row_next a 0 target entity v p.table ∷ [])
-        ≡ Some (row_next a 0 target entity v p.table)
-    found = find_row-asserted p.table.next a 0 target entity v p.table m.table ∙ grind arith
+    found : find_row p.table.next (p.table.rows ++ row_next a facet target entity v p.table ∷ [])
+        ≡ Some (row_next a facet target entity v p.table)
+    found = find_row-asserted p.table.next a facet target entity v p.table m.table ∙ grind arith
 
     keep : (b h : ℕ) → (t.next ≤ h) × (h < p.table.next) → IsOwnedBy a b (find_row h p.table.rows)
-        → IsOwnedBy a b (find_row h (p.table.rows ++ row_next a 0 target entity v p.table ∷ []))
+        → IsOwnedBy a b (find_row h (p.table.rows ++ row_next a facet target entity v p.table ∷ []))
     keep b h l owned =
         let apart : (p.table.next == h) ≡ false = grind (arith, nat_tests, l.1) in
-        rw (find_row-asserted h a 0 target entity v p.table m.table, apart) owned
+        rw (find_row-asserted h a facet target entity v p.table m.table, apart) owned
 
 -- ---- a row goes
 

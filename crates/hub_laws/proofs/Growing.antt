@@ -154,7 +154,7 @@ arrived_grows b w apart =
 -- ---- a packet is taken
 
 acted_moves : (a : ℕ) (t : TableState) (p : Plan) (x : Act) → is_live a t ≡ true → Moves a t p → Moves a t (acted a x p)
-acted_moves a t p (act.Assert target entity v) live m = put_moves a t p m live target entity v
+acted_moves a t p (act.Assert target entity v) live m = put_moves a t p m live 0 target entity v
 acted_moves a t p (act.Retract h) live m = dropped_moves a t p m h
 acted_moves a t p (act.Message target entity v) live m = said_moves a t p m target (Message entity v) tt
 acted_moves a t p (act.Sync target entity peer) live m = said_moves a t p m target (Sync entity peer) tt

@@ -94,13 +94,14 @@ all_with_rest {X = X} P h x (e ∷ es) rest all = split (nat_cmp h e.0) (all_wit
 
 -- ---- what one event does to what a system actor has got
 
-got-came_at : (a : ℕ) (k : Plain) (aim : Option Aim) (t : Turning) → (came_at a k aim t).resident.got ≡ t.resident.got
-got-came_at a k None t = refl
-got-came_at a k (Some aim) t = refl
+got-came_at : (a : ℕ) (g : Option Plain) (k : Plain) (aim : Option Aim) (t : Turning)
+    → (came_at a g k aim t).resident.got ≡ t.resident.got
+got-came_at a g k None t = refl
+got-came_at a g k (Some aim) t = refl
 
 got-changed_by : (y : Behaviour) (a : ℕ) (c : Change) (t : Turning) → (changed_by y a c t).resident.got ≡ t.resident.got
 got-changed_by y a (Left k) t = refl
-got-changed_by y a (Came k) t = got-came_at a k (y.aim k) t
+got-changed_by y a (Came k) t = got-came_at a (y.group k) k (y.aim k) t
 
 got-all_changed : (y : Behaviour) (a : ℕ) (cs : List Change) (t : Turning)
     → (all_changed y a cs t).resident.got ≡ t.resident.got

@@ -25,15 +25,17 @@ use Rattle.ac_table.specs.declared.batches.Row.{Row}
 use Rattle.ac_table.specs.Tables.{TableState, find_row, is_live, without_row}
 use Rattle.ac_world.specs.Outboxes.{Plan, dropped, drop_own, drop_row}
 use Rattle.ac_world.specs.declared.aims.Aim.{Aim}
-use Rattle.ac_world.specs.Turns.{Turning, handle_for, drop_met, left, came, came_at, changed_by}
+use Rattle.ac_world.specs.Housing.{housed, vacated}
+use Rattle.ac_world.specs.Turns.{Turning, handle_for, drop_met, vacating, row_gone, left, housing, row_come, came}
+use Rattle.ac_world.specs.Turns.{came_at, changed_by}
 use Rattle.ac_world.specs.Turns.{all_changed, with_rows, regot}
 use Rattle.hub_laws.specs.Wanting.{passing, IsMet}
 use Rattle.hub_laws.proofs.Kept.{Moves, AreGood, IsAimed}
 use Rattle.hub_laws.proofs.Promised.{RegotMet}
 use Rattle.hub_laws.proofs.Finding.{found_handle, find_row-without, find_row-asserted, none_from_next, row_next}
-use Rattle.hub_laws.proofs.Good.{put_good, dropped_good}
+use Rattle.hub_laws.proofs.Good.{with_trees_good, put_good, dropped_good}
 use Rattle.hub_laws.proofs.Keys.{lookup-insert_entry, lookup-without_entry, insert_entry_ascends, remove_entry_ascends}
-use Rattle.hub_laws.proofs.Moving.{put_moves, dropped_moves}
+use Rattle.hub_laws.proofs.Moving.{with_trees_moves, put_moves, dropped_moves}
 use Rattle.hub_laws.proofs.Owned.{HasRows, rows_of_met, met_of_rows, rows_same, rows_less, rows_more}
 use Rattle.ac_world.specs.Lemmas.Asking.{without_ascends, among_without}
 use Rattle.ac_world.specs.Behaviours.{Behaviour}
@@ -48,7 +50,8 @@ keeps_one : (y : Behaviour) (a : ℕ) (c : Change) (u : Turning)
 keeps_one y a (Left k) u = (refl, refl)
 keeps_one y a (Came k) u = by (y.aim k)
   where
-    by : (o : Option Aim) → ((came_at a k o u).resident.got ≡ u.resident.got) × ((came_at a k o u).spreads ≡ u.spreads)
+    by : (o : Option Aim) → ((came_at a (y.group k) k o u).resident.got ≡ u.resident.got)
+        × ((came_at a (y.group k) k o u).spreads ≡ u.spreads)
     by None = (refl, refl)
     by (Some aim) = (refl, refl)
 
@@ -79,6 +82,25 @@ has_key q u = among q (keys_of u.resident.handles)
 among_found : (q : Plain) (met : List (Plain × ℕ)) → among q (keys_of met) ≡ is_some (handle_for q met)
 among_found q met = sym (is_some-lookup (same q) met)
 
+-- ---- facets change
+
+module _ (y : Behaviour) (n a : ℕ) (t : TableState) (g : Option Plain) (u : Turning) (m : Meets y n a t u) where
+  vacating_meets : Meets y n a t (vacating a g u)
+  vacating_meets = record {
+    moves = with_trees_moves a t u.plan (vacated a g u.resident.facets u.plan.table).trees m.moves;
+    good = with_trees_good n a u.plan (vacated a g u.resident.facets u.plan.table).trees m.good;
+    ascend = m.ascend;
+    rows = m.rows;
+  }
+
+  housing_meets : Meets y n a t (housing a g u)
+  housing_meets = record {
+    moves = with_trees_moves a t u.plan (housed a g u.resident.facets u.plan.table).trees m.moves;
+    good = with_trees_good n a u.plan (housed a g u.resident.facets u.plan.table).trees m.good;
+    ascend = m.ascend;
+    rows = m.rows;
+  }
+
 -- ---- a key leaves
 
 -- the row under a handle goes that the actor owns
@@ -92,13 +114,13 @@ dropped_rows a h p r found own =
 
 module _ (y : Behaviour) (n a : ℕ) (t : TableState) where
   module _ (k : Plain) (u : Turning) (m : Meets y n a t u) where
-    left_found : (q : Plain) → handle_for q (left a k u).resident.handles
+    left_found : (q : Plain) → handle_for q (row_gone a k u).resident.handles
         ≡ cond (same k q) None (handle_for q u.resident.handles)
     left_found q = lookup-without_entry order_total order_same q k u.resident.handles m.ascend
 
-    left_key : (q : Plain) → has_key q (left a k u) ≡ (has_key q u && not (same k q))
+    left_key : (q : Plain) → has_key q (left y a k u) ≡ (has_key q u && not (same k q))
     left_key q =
-        among_found q (left a k u).resident.handles ∙ ap is_some (left_found q)
+        among_found q (row_gone a k u).resident.handles ∙ ap is_some (left_found q)
         ∙ by (same k q) (handle_for q u.resident.handles)
         ∙ ap (λ b. b && not (same k q)) (sym (among_found q u.resident.handles))
       where
@@ -109,9 +131,9 @@ module _ (y : Behaviour) (n a : ℕ) (t : TableState) where
         by false (Some h) = refl
 
     left_rows : (o : Option ℕ) → handle_for k u.resident.handles ≡ o
-        → HasRows y a (left a k u).resident.handles (drop_met a o u.plan).table.rows
+        → HasRows y a (row_gone a k u).resident.handles (drop_met a o u.plan).table.rows
     left_rows None none =
-        rows_same y a u.resident.handles (left a k u).resident.handles u.plan.table.rows
+        rows_same y a u.resident.handles (row_gone a k u).resident.handles u.plan.table.rows
         (λ q. left_found q ∙ by q (same k q) refl) m.rows
       where
         by : (q : Plain) (b : Bool) → same k q ≡ b
@@ -120,13 +142,13 @@ module _ (y : Behaviour) (n a : ℕ) (t : TableState) where
         by q false e = refl
     left_rows (Some h) found =
         let met = m.rows.stand k h found in
-        rows_less y a u.resident.handles u.plan.table.rows m.rows k h found (left a k u).resident.handles
+        rows_less y a u.resident.handles u.plan.table.rows m.rows k h found (row_gone a k u).resident.handles
         (dropped a h u.plan).table.rows left_found
         (λ g. ap (find_row g) (dropped_rows a h u.plan met.row met.stands met.fits.owner)
         ∙ find_row-without g h u.plan.table.rows)
 
-    left_meets : Meets y n a t (left a k u)
-    left_meets = record {
+    row_gone_meets : Meets y n a t (row_gone a k u)
+    row_gone_meets = record {
       moves = moves (handle_for k u.resident.handles);
       good = good (handle_for k u.resident.handles);
       ascend = remove_entry_ascends order (is_at (order k)) u.resident.handles m.ascend;
@@ -141,6 +163,9 @@ module _ (y : Behaviour) (n a : ℕ) (t : TableState) where
         good None = m.good
         good (Some h) = dropped_good n a t u.plan m.moves m.good h
 
+    left_meets : Meets y n a t (left y a k u)
+    left_meets = vacating_meets y n a t (y.group k) (row_gone a k u) row_gone_meets
+
   -- and all that leave
   record HaveLeft (ks : List Plain) (u v : Turning) : Type 1 where
     pub meets : Meets y n a t v
@@ -153,7 +178,7 @@ module _ (y : Behaviour) (n a : ℕ) (t : TableState) where
       by true = refl
       by false = refl
   all_left (k ∷ ks) u m =
-      let rest = all_left ks (left a k u) (left_meets k u m) in
+      let rest = all_left ks (left y a k u) (left_meets k u m) in
       record {
         meets = rest.meets;
         keys = λ q.
@@ -177,14 +202,14 @@ module _ (y : Behaviour) (n a : ℕ) (t : TableState) (low : a < 9) (live : is_l
   module _ (k : Plain) (u : Turning) (m : Meets y n a t u) (known : IsAimed y n k) (aim : Aim)
       (aimed : y.aim k ≡ Some aim) where
     placed_found : (q : Plain)
-        → handle_for q (came_at a k (Some aim) u).resident.handles
+        → handle_for q (came_at a (y.group k) k (Some aim) u).resident.handles
         ≡ cond (same k q) (Some u.plan.table.next) (handle_for q u.resident.handles)
     placed_found q = lookup-insert_entry order_total order_same q k u.plan.table.next u.resident.handles
 
     came_key : (q : Plain) → has_key q (came y a k u) ≡ (same q k || has_key q u)
     came_key q =
-        ap (λ o. has_key q (came_at a k o u)) aimed
-        ∙ among_found q (came_at a k (Some aim) u).resident.handles
+        ap (λ o. has_key q (came_at a (y.group k) k o u)) aimed
+        ∙ among_found q (came_at a (y.group k) k (Some aim) u).resident.handles
         ∙ ap is_some (placed_found q) ∙ by (same k q) (handle_for q u.resident.handles)
         ∙ (λ i. same_turns k q i || sym (among_found q u.resident.handles) i)
       where
@@ -192,35 +217,41 @@ module _ (y : Behaviour) (n a : ℕ) (t : TableState) (low : a < 9) (live : is_l
         by true o = refl
         by false o = refl
 
-    came_meets : has_key k u ≡ false → Meets y n a t (came y a k u)
-    came_meets new = subst (λ o. Meets y n a t (came_at a k o u)) (sym aimed) placed
+    -- the row comes in any facet
+    row_come_meets : (facet : ℕ) → has_key k u ≡ false → Meets y n a t (row_come a facet k aim u)
+    row_come_meets facet new = record {
+      moves = put_moves a t u.plan m.moves live facet aim.at.actor aim.at.entity aim.value;
+      good =
+          put_good n a t u.plan m.moves m.good facet aim.at.actor aim.at.entity aim.value (λ l. goes.0) goes.1
+          (λ l. absurd (let f = goes.0 in omega arith));
+      ascend = insert_entry_ascends order_total order_same k u.plan.table.next u.resident.handles m.ascend;
+      rows =
+          rows_more y a u.resident.handles u.plan.table.rows m.rows k u.plan.table.next
+          (row_next a facet aim.at.actor aim.at.entity aim.value u.plan.table)
+          (none_from (handle_for k u.resident.handles) (sym (among_found k u.resident.handles) ∙ new))
+          (none_from_next u.plan.table.next u.plan.table m.moves.table (omega arith))
+          (record {
+            aim = aim;
+            aimed = aimed;
+            owner = refl;
+            target = refl;
+            entity = refl;
+            value = refl;
+          })
+          (row_come a facet k aim u).resident.handles (row_come a facet k aim u).plan.table.rows placed_found
+          (λ h. find_row-asserted h a facet aim.at.actor aim.at.entity aim.value u.plan.table m.moves.table);
+    }
       where
         goes : (9 ≤ aim.at.actor) × (aim.at.actor ≤ n)
         goes = known aim aimed
 
-        placed : Meets y n a t (came_at a k (Some aim) u)
-        placed = record {
-          moves = put_moves a t u.plan m.moves live aim.at.actor aim.at.entity aim.value;
-          good =
-              put_good n a t u.plan m.moves m.good aim.at.actor aim.at.entity aim.value (λ l. goes.0) goes.1
-              (λ l. absurd (let f = goes.0 in omega arith));
-          ascend = insert_entry_ascends order_total order_same k u.plan.table.next u.resident.handles m.ascend;
-          rows =
-              rows_more y a u.resident.handles u.plan.table.rows m.rows k u.plan.table.next
-              (row_next a 0 aim.at.actor aim.at.entity aim.value u.plan.table)
-              (none_from (handle_for k u.resident.handles) (sym (among_found k u.resident.handles) ∙ new))
-              (none_from_next u.plan.table.next u.plan.table m.moves.table (omega arith))
-              (record {
-                aim = aim;
-                aimed = aimed;
-                owner = refl;
-                target = refl;
-                entity = refl;
-                value = refl;
-              })
-              (came_at a k (Some aim) u).resident.handles (came_at a k (Some aim) u).plan.table.rows placed_found
-              (λ h. find_row-asserted h a 0 aim.at.actor aim.at.entity aim.value u.plan.table m.moves.table);
-        }
+  -- and it comes in the facet of its group
+  came_meets : (k : Plain) (u : Turning) → Meets y n a t u → IsAimed y n k → (aim : Aim) → y.aim k ≡ Some aim
+      → has_key k u ≡ false → Meets y n a t (came y a k u)
+  came_meets k u m known aim aimed new =
+      subst (λ o. Meets y n a t (came_at a (y.group k) k o u)) (sym aimed)
+      (row_come_meets k (housing a (y.group k) u) (housing_meets y n a t (y.group k) u m) known aim aimed
+      (housed a (y.group k) u.resident.facets u.plan.table).facet new)
 
   -- and all that come, of which those have a row that pass
   record HaveCome (ks : List Plain) (u v : Turning) : Type 1 where
@@ -264,7 +295,7 @@ module _ (y : Behaviour) (n a : ℕ) (t : TableState) (low : a < 9) (live : is_l
           → HaveCome ks v (all_changed y a (map Came ks) v))
           → HaveCome (k ∷ ks) u (all_changed y a (map Came (k ∷ ks)) u)
       by None is others =
-          let same_turn : came y a k u ≡ u = ap (λ o. came_at a k o u) is in
+          let same_turn : came y a k u ≡ u = ap (λ o. came_at a (y.group k) k o u) is in
           let rest = others u (λ q e. fresh q (behind (same q k) (among q ks) e)) m in
           subst (λ (v : Turning). HaveCome (k ∷ ks) u (all_changed y a (map Came ks) v)) (sym same_turn) (record {
             meets = rest.meets;

@@ -11,9 +11,10 @@ use Rattle.pv_value.specs.Plain.{Plain}
 use Rattle.ac_table.specs.declared.batches.Row.{Row}
 use Rattle.ac_table.specs.declared.batches.Event.{Event}
 use Rattle.ac_table.specs.declared.batches.Event.TheVariants.{Assert, Retract, Message, Sync}
+use Rattle.ac_table.specs.Facets.{Tree}
 use Rattle.ac_table.specs.Tables.{TableState, Actor, find_row, find_actor, without_row}
 use Rattle.ac_table.specs.Lemmas.Lists.{all_weaker}
-use Rattle.ac_world.specs.Outboxes.{Outbox, Plan, drop_row, drop_own, told_to, told}
+use Rattle.ac_world.specs.Outboxes.{Outbox, Plan, with_trees, drop_row, drop_own, told_to, told}
 use Rattle.ac_world.specs.Worlds.{entry_of, with_entry}
 use Rattle.ac_world.specs.Lemmas.Entries.{entry_of_with, entry_of_without, all_append, ascend_none, ascend_push}
 use Rattle.ac_world.specs.Lemmas.Entries.{ascend_with, ascend_without}
@@ -94,6 +95,28 @@ begin_moves a t k = record {
   made_new = λ b. tt;
 }
 
+-- ---- facets change
+
+-- they tell nothing of rows, actors and events
+pub with_trees_moves : (a : ℕ) (t : TableState) (p : Plan) (trees : List (ℕ × Tree)) → Moves a t p
+    → Moves a t (with_trees trees p)
+with_trees_moves a t p trees m = record {
+  table = record {
+    rows_ascend = m.table.rows_ascend;
+    rows_below_next = m.table.rows_below_next;
+    actors_ascend = m.table.actors_ascend;
+    owners_live = m.table.owners_live;
+  };
+  actors = m.actors;
+  later = m.later;
+  stay = m.stay;
+  old = m.old;
+  out_ascends = m.out_ascends;
+  moved = m.moved;
+  made_ascend = m.made_ascend;
+  made_new = m.made_new;
+}
+
 -- ---- a row comes
 
 pub with_entry-above : {X : Type 0} (k : ℕ) (x : X) (es : List (ℕ × X)) → AllByRecursion (λ h. h < k) (keys_of es)
@@ -121,16 +144,17 @@ put_stands {X = X} f b rows new below = split (new.target == b) ∙ sym (stands-
     split false = sym (append-nil _)
 
 pub put_moves : PutMoves
-put_moves a t p m lives target entity v = record {
-  table = asserted_table a 0 target entity v p.table m.table
+put_moves a t p m lives facet target entity v = record {
+  table = asserted_table a facet target entity v p.table m.table
       (ap (λ (xs : List Actor). is_some (find_actor a xs)) m.actors ∙ lives);
   actors = m.actors;
   later = omega (arith, m.later);
   stay = λ h r is other. find_row-push_old h p.table.rows _ r (m.stay h r is other);
-  old = λ h r is. old h r (p.table.next == h) refl (sym (find_row-asserted h a 0 target entity v p.table m.table) ∙ is);
+  old = λ h r is.
+      old h r (p.table.next == h) refl (sym (find_row-asserted h a facet target entity v p.table m.table) ∙ is);
   out_ascends = ascend_with target _ p.out m.out_ascends;
   moved = λ f b. moved_on f b target _ p.out _ _ _ (m.moved f b)
-      (put_stands f b p.table.rows (row_next a 0 target entity v p.table) m.table.rows_below_next);
+      (put_stands f b p.table.rows (row_next a facet target entity v p.table) m.table.rows_below_next);
   made_ascend = λ b. rw (made_in-told b target (Assert p.table.next entity v) p.out) (ascends b (target == b));
   made_new = λ b. rw (made_in-told b target (Assert p.table.next entity v) p.out)
       (all_append _ (made_in (told_to b p.out)) _ (all_weaker _ _ (λ h l. (l.0, omega (arith, l.1))) _ (m.made_new b))
@@ -138,7 +162,7 @@ put_moves a t p m lives target entity v = record {
 }
   where
     old : (h : ℕ) (r : Row) (c : Bool) → (p.table.next == h) ≡ c
-        → cond c (Some (row_next a 0 target entity v p.table)) (find_row h p.table.rows) ≡ Some r
+        → cond c (Some (row_next a facet target entity v p.table)) (find_row h p.table.rows) ≡ Some r
         → (find_row h t.rows ≡ Some r) ⊎ ((t.next ≤ h) × (r.owner ≡ a))
     old h r true here is =
         let owner : a ≡ r.owner = grind (arith, is) in

@@ -36,8 +36,8 @@ pub record IsPlanOf (n a : ℕ) (t : TableState) (p : Plan) : Type 1 where
 acted_plan : (n a : ℕ) (t : TableState) (p : Plan) (x : Act) → 9 ≤ a → is_live a t ≡ true
     → IsValidAct n x → IsPlanOf n a t p → IsPlanOf n a t (acted a x p)
 acted_plan n a t p (act.Assert target entity v) far live valid k = record {
-  moves = put_moves a t p k.moves live target entity v;
-  good = put_good n a t p k.moves k.good target entity v (λ l. absurd (omega (arith, l, far))) valid.0.0
+  moves = put_moves a t p k.moves live 0 target entity v;
+  good = put_good n a t p k.moves k.good 0 target entity v (λ l. absurd (omega (arith, l, far))) valid.0.0
       (λ l. known_objects n v valid.1);
 }
 acted_plan n a t p (act.Retract h) far live valid k =

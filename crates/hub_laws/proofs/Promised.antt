@@ -47,8 +47,8 @@ BeginMoves = (a : ℕ) (t : TableState) → IsTable t → Moves a t (plan_over t
 
 abbrev pub PutMoves : Type 1
 PutMoves =
-    (a : ℕ) (t : TableState) (p : Plan) → Moves a t p → is_live a t ≡ true → (target entity : ℕ) (v : Plain)
-    → Moves a t (put a target entity v p)
+    (a : ℕ) (t : TableState) (p : Plan) → Moves a t p → is_live a t ≡ true → (facet target entity : ℕ) (v : Plain)
+    → Moves a t (put a facet target entity v p)
 
 abbrev pub DroppedMoves : Type 1
 DroppedMoves = (a : ℕ) (t : TableState) (p : Plan) → Moves a t p → (h : ℕ) → Moves a t (dropped a h p)
@@ -63,8 +63,8 @@ BeginGood = (n a : ℕ) (t : TableState) → AllByRecursion (IsGood n) t.rows �
 
 abbrev pub PutGood : Type 1
 PutGood =
-    (n a : ℕ) (t : TableState) (p : Plan) → Moves a t p → AreGood n a p → (target entity : ℕ) (v : Plain)
-    → (a < 9 → 9 ≤ target) → target ≤ n → (target < 9 → IsKnown n v) → AreGood n a (put a target entity v p)
+    (n a : ℕ) (t : TableState) (p : Plan) → Moves a t p → AreGood n a p → (facet target entity : ℕ) (v : Plain)
+    → (a < 9 → 9 ≤ target) → target ≤ n → (target < 9 → IsKnown n v) → AreGood n a (put a facet target entity v p)
 
 abbrev pub DroppedGood : Type 1
 DroppedGood = (n a : ℕ) (t : TableState) (p : Plan) → Moves a t p → AreGood n a p → (h : ℕ) → AreGood n a

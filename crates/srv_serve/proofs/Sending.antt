@@ -19,7 +19,7 @@ use Rattle.gk_sturdy.specs.contracts.bound.Bindings as bindings
 use Rattle.srv_session.specs.contracts.served.Served as served
 use Rattle.srv_session.specs.contracts.served.ServedStep as served_step
 use Rattle.ac_table.specs.contracts.batches.Row as row
-use Rattle.ac_table.specs.contracts.table.Seat as seat
+use Rattle.ac_table.specs.contracts.table.LiveActor as live_actor
 use Rattle.ac_table.specs.contracts.table.Table as table
 use Rattle.ac_world.specs.contracts.gatekeeper.Gatekeeper as gatekeeper
 use Rattle.ac_world.specs.contracts.held.Deliveries as deliveries
@@ -100,11 +100,11 @@ bindings_send = search (crosses, maps.crosses, sendable, value_send, binding_sen
 pub row_send : IsSend row.the_row
 row_send = search (crosses, maps.crosses, sendable, value_send) depth 60 fits 20000
 
-pub seat_send : IsSend seat.the_row
-seat_send = search (crosses, maps.crosses, sendable, value_send) depth 60 fits 20000
+pub live_actor_send : IsSend live_actor.the_row
+live_actor_send = search (crosses, maps.crosses, sendable, value_send) depth 60 fits 20000
 
 pub table_send : IsSend table.the_row
-table_send = search (crosses, maps.crosses, sets.crosses, sendable, row_send, seat_send) depth 60 fits 20000
+table_send = search (crosses, maps.crosses, sets.crosses, sendable, row_send, live_actor_send) depth 60 fits 20000
 
 pub gatekeeper_send : IsSend gatekeeper.the_row
 gatekeeper_send = search (crosses, maps.crosses, sendable, value_send, bindings_send) depth 60 fits 20000

@@ -1,6 +1,6 @@
 -- What the gatekeeper wants changes with the first row of a value that asks, and with the last.
 use Rattle.std.proofs.Common.{◌≡◌, ℕ, List, [], ◌∷◌, ◌++◌, map, Bool, true, false, cond, ◌&&◌, ◌||◌, not, Some, None}
-use Rattle.std.proofs.Common.{Option, refl, ap, sym, ◌∙◌, subst, arith}
+use Rattle.std.proofs.Common.{refl, ap, sym, ◌∙◌, subst, arith}
 use Rattle.std.specs.List.{filter}
 use Rattle.std.specs.List.Sorted.{IsStrictlySortedBy}
 use Rattle.std.specs.Map.{values_of, lookup, remove_entry}
@@ -17,7 +17,7 @@ use Rattle.pv_words.specs.Parts.{same}
 use Rattle.ds_space.specs.Spaces.{Rows}
 use Rattle.ds_space.specs.Changes.{among, without}
 use Rattle.ds_space.specs.declared.space.Change.TheVariants.{Left, Came}
-use Rattle.ds_space.specs.Lemmas.Keys.{same_is, same_self, same_turns}
+use Rattle.ds_space.specs.Lemmas.Keys.{same_is, same_self}
 use Rattle.ds_space.specs.Lemmas.Exact.{without_is}
 use Rattle.ds_space.specs.Lemmas.Lists.{unique, ascending_any, in_order}
 use Rattle.ds_space.specs.Lemmas.Walks.{lacking_ascends}

@@ -23,7 +23,7 @@ use Rattle.ac_world.specs.declared.aims.Aim.{Aim}
 use Rattle.ac_world.specs.Aims.{aim_at, aim_for}
 use Rattle.ac_world.specs.Behaviours.{Behaviour, fanned_weight}
 use Rattle.ac_world.specs.Systems.{changes}
-use Rattle.ac_world.specs.Turns.{Turning, handle_for, drop_met, came_at, changed_by, all_changed}
+use Rattle.ac_world.specs.Turns.{Turning, handle_for, drop_met, row_gone, left, came_at, changed_by, all_changed}
 use Rattle.ac_world.specs.Turns.{with_rows, regot, spreading, by_assertion, by_message, applied, taken_in}
 use Rattle.ac_world.specs.Turns.{say_at, say_all, passed_on, answer_to, turned_by, all_turned}
 
@@ -72,13 +72,20 @@ goes_on_drop_met : (a : ℕ) (o : Option ℕ) (p : Plan) → GoesOn p.table (dro
 goes_on_drop_met a None p = goes_nowhere p.table
 goes_on_drop_met a (Some h) p = goes_on_drop_own a (find_row h p.table.rows) p
 
-goes_on_came_at : (a : ℕ) (k : Plain) (o : Option Aim) (t : Turning) → TurnsOn t (came_at a k o t)
-goes_on_came_at a k None t = goes_nowhere t.plan.table
-goes_on_came_at a k (Some aim) t = record { actors = refl; later = omega arith }
+goes_on_row_gone : (a : ℕ) (k : Plain) (t : Turning) → TurnsOn t (row_gone a k t)
+goes_on_row_gone a k t = goes_on_drop_met a (handle_for k t.resident.handles) t.plan
+
+-- where a facet goes, neither an actor nor a handle does
+goes_on_left : (y : Behaviour) (a : ℕ) (k : Plain) (t : Turning) → TurnsOn t (left y a k t)
+goes_on_left y a k t = (let gone = goes_on_row_gone a k t in record { actors = gone.actors; later = gone.later })
+
+goes_on_came_at : (a : ℕ) (g : Option Plain) (k : Plain) (o : Option Aim) (t : Turning) → TurnsOn t (came_at a g k o t)
+goes_on_came_at a g k None t = goes_nowhere t.plan.table
+goes_on_came_at a g k (Some aim) t = record { actors = refl; later = omega arith }
 
 goes_on_changed_by : (y : Behaviour) (a : ℕ) (c : Change) (t : Turning) → TurnsOn t (changed_by y a c t)
-goes_on_changed_by y a (Left k) t = goes_on_drop_met a (handle_for k t.resident.handles) t.plan
-goes_on_changed_by y a (Came k) t = goes_on_came_at a k (y.aim k) t
+goes_on_changed_by y a (Left k) t = goes_on_left y a k t
+goes_on_changed_by y a (Came k) t = goes_on_came_at a (y.group k) k (y.aim k) t
 
 goes_on_all_changed : (y : Behaviour) (a : ℕ) (cs : List Change) (t : Turning) → TurnsOn t (all_changed y a cs t)
 goes_on_all_changed y a [] t = goes_nowhere t.plan.table

@@ -29,7 +29,9 @@ use Rattle.ac_world.specs.declared.aims.Aim.{Aim}
 use Rattle.ac_world.specs.Aims.{aim_at, aim_for, aim_of}
 use Rattle.ac_world.specs.Behaviours.{Behaviour, dataspace, asks, answer_for, gatekeeper, behaviour_of, fanned_weight}
 use Rattle.ac_world.specs.Systems.{changes}
-use Rattle.ac_world.specs.Turns.{Turning, handle_for, drop_met, left, came_at, came}
+use Rattle.ac_world.specs.Housing.{housed, vacated}
+use Rattle.ac_world.specs.Turns.{Turning, handle_for, drop_met, vacating, row_gone, left, housing, row_come, came_at}
+use Rattle.ac_world.specs.Turns.{came}
 use Rattle.ac_world.specs.Turns.{changed_by, all_changed, with_rows, regot, spreading, by_assertion}
 use Rattle.ac_world.specs.Turns.{by_message, applied, taken_in, say_at, say_all, passed_on, answer_to, turned_by}
 use Rattle.ac_world.specs.Turns.{all_turned, begin_turn, system_turn, deliver}
@@ -43,7 +45,7 @@ use Rattle.hub_valid.specs.Lemmas.Aims.{IsAimed, sent_aims, told_aims, key_aims,
 use Rattle.hub_valid.specs.Lemmas.Values.{all_weaker, all_append, all_ascending, sequence_holds}
 use Rattle.hub_valid.specs.Lemmas.WorldTables.{popped_valid, first_valid}
 use Rattle.hub_valid.specs.Lemmas.WorldPlans.{IsValidPlan, begin_valid, put_valid, dropped_valid, said_valid}
-use Rattle.hub_valid.specs.Lemmas.WorldPlans.{committed_valid}
+use Rattle.hub_valid.specs.Lemmas.WorldPlans.{with_trees_valid, committed_valid}
 use Rattle.hub_valid.specs.Lemmas.Worlds.{table_of, world_with}
 
 -- ---- what is known of each behaviour
@@ -89,23 +91,45 @@ pub record IsValidTurning (n : ℕ) (t : Turning) : Type 0 where
 
 -- ---- how its rows change
 
-left_valid : (n a : ℕ) (k : Plain) (t : Turning) → IsValidTurning n t → IsValidTurning n (left a k t)
-left_valid n a k t v = record { got = v.got; plan = by (handle_for k t.resident.handles) }
+vacating_valid : (n a : ℕ) (g : Option Plain) (t : Turning) → IsValidTurning n t → IsValidTurning n (vacating a g t)
+vacating_valid n a g t v = record {
+  got = v.got;
+  plan = with_trees_valid n (vacated a g t.resident.facets t.plan.table).trees t.plan v.plan;
+}
+
+housing_valid : (n a : ℕ) (g : Option Plain) (t : Turning) → IsValidTurning n t → IsValidTurning n (housing a g t)
+housing_valid n a g t v = record {
+  got = v.got;
+  plan = with_trees_valid n (housed a g t.resident.facets t.plan.table).trees t.plan v.plan;
+}
+
+row_gone_valid : (n a : ℕ) (k : Plain) (t : Turning) → IsValidTurning n t → IsValidTurning n (row_gone a k t)
+row_gone_valid n a k t v = record { got = v.got; plan = by (handle_for k t.resident.handles) }
   where
     by : (o : Option ℕ) → IsValidPlan n (drop_met a o t.plan)
     by None = v.plan
     by (Some h) = dropped_valid n a h t.plan v.plan
 
+left_valid : (y : Behaviour) (n a : ℕ) (k : Plain) (t : Turning) → IsValidTurning n t
+    → IsValidTurning n (left y a k t)
+left_valid y n a k t v = vacating_valid n a (y.group k) (row_gone a k t) (row_gone_valid n a k t v)
+
+row_come_valid : (n a facet : ℕ) (k : Plain) (aim : Aim) (t : Turning) → IsAimed n aim → IsValidTurning n t
+    → IsValidTurning n (row_come a facet k aim t)
+row_come_valid n a facet k aim t is v = record {
+  got = v.got;
+  plan = put_valid n a facet aim.at.actor aim.at.entity aim.value t.plan is.at is.value v.plan;
+}
+
 came_valid : (y : Behaviour) (n a : ℕ) (k : Plain) (t : Turning) → If (y.aim k) (IsAimed n) → IsValidTurning n t
     → IsValidTurning n (came y a k t)
 came_valid y n a k t aims v = by (y.aim k) aims
   where
-    by : (o : Option Aim) → If o (IsAimed n) → IsValidTurning n (came_at a k o t)
+    by : (o : Option Aim) → If o (IsAimed n) → IsValidTurning n (came_at a (y.group k) k o t)
     by None is = v
-    by (Some aim) is = record {
-      got = v.got;
-      plan = put_valid n a aim.at.actor aim.at.entity aim.value t.plan is.at is.value v.plan;
-    }
+    by (Some aim) is =
+        row_come_valid n a (housed a (y.group k) t.resident.facets t.plan.table).facet k aim (housing a (y.group k) t)
+        is (housing_valid n a (y.group k) t v)
 
 -- what a key that comes wants is aimed at an object and holds objects
 abbrev IsValidChange : Behaviour → ℕ → Change → Type 0
@@ -114,7 +138,7 @@ IsValidChange y n (Came k) = If (y.aim k) (IsAimed n)
 
 changed_by_valid : (y : Behaviour) (n a : ℕ) (c : Change) (t : Turning) → IsValidChange y n c → IsValidTurning n t
     → IsValidTurning n (changed_by y a c t)
-changed_by_valid y n a (Left k) t holds v = left_valid n a k t v
+changed_by_valid y n a (Left k) t holds v = left_valid y n a k t v
 changed_by_valid y n a (Came k) t holds v = came_valid y n a k t holds v
 
 all_changed_valid : (y : Behaviour) (n a : ℕ) (cs : List Change) (t : Turning) → AllByRecursion (IsValidChange y n) cs

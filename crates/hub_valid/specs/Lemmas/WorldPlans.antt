@@ -6,11 +6,12 @@ use Rattle.pv_value.specs.Plain.{Plain}
 use Rattle.ac_table.specs.declared.batches.Row.{Row}
 use Rattle.ac_table.specs.declared.batches.Event.{Event}
 use Rattle.ac_table.specs.declared.batches.Event.TheVariants.{Assert, Retract, Message, Sync}
+use Rattle.ac_table.specs.Facets.{Tree}
 use Rattle.ac_table.specs.Tables.{TableState, find_row, asserted, retracted, pushed}
 use Rattle.ac_world.specs.declared.acts.Act.{Act}
 use Rattle.ac_world.specs.declared.acts.Act.TheVariants as act
 use Rattle.ac_world.specs.Outboxes.{Outbox, told_to, told, posted, Plan, plan_over, put, drop_row, drop_own, dropped}
-use Rattle.ac_world.specs.Outboxes.{said, committed, acted, all_acted, retractions}
+use Rattle.ac_world.specs.Outboxes.{said, committed, with_trees, acted, all_acted, retractions}
 use Rattle.ac_world.specs.Worlds.{entry_of}
 use Rattle.ac_world.specs.Lemmas.Entries.{each_with, each_found}
 use Rattle.hub_valid.specs.Lemmas.Filtered.{all_kept}
@@ -69,19 +70,19 @@ pub record IsValidPlan (n : ℕ) (p : Plan) : Type 0 where
 pub begin_valid : (n : ℕ) (t : TableState) → IsValidTable n t → IsValidPlan n (plan_over t)
 begin_valid n t v = record { table = v; told = tt }
 
-asserted_valid : (n owner target entity : ℕ) (x : Plain) (t : TableState) → IsObjectAt n target entity
-    → HoldsObjects n x → IsValidTable n t → IsValidTable n (asserted owner 0 target entity x t)
-asserted_valid n owner target entity x t at holds v = record {
+asserted_valid : (n owner facet target entity : ℕ) (x : Plain) (t : TableState) → IsObjectAt n target entity
+    → HoldsObjects n x → IsValidTable n t → IsValidTable n (asserted owner facet target entity x t)
+asserted_valid n owner facet target entity x t at holds v = record {
   rows = all_append (IsValidRow n (t.next + 1)) t.rows _
       (rows_later n n t.next (t.next + 1) t.rows (omega arith) (omega arith) v.rows)
       ((omega arith, at, holds), tt);
   inboxes = inboxes_later n n t.next (t.next + 1) t.actors (omega arith) (omega arith) v.inboxes;
 }
 
-pub put_valid : (n owner target entity : ℕ) (x : Plain) (p : Plan) → IsObjectAt n target entity → HoldsObjects n x
-    → IsValidPlan n p → IsValidPlan n (put owner target entity x p)
-put_valid n owner target entity x p at holds v = record {
-  table = asserted_valid n owner target entity x p.table at holds v.table;
+pub put_valid : (n owner facet target entity : ℕ) (x : Plain) (p : Plan) → IsObjectAt n target entity
+    → HoldsObjects n x → IsValidPlan n p → IsValidPlan n (put owner facet target entity x p)
+put_valid n owner facet target entity x p at holds v = record {
+  table = asserted_valid n owner facet target entity x p.table at holds v.table;
   told = told_pass (IsValidEvent n (p.table.next + 1)) target (Assert p.table.next entity x) p.out
       (omega arith, at.1, holds)
       (told_weaker (IsValidEvent n p.table.next) (IsValidEvent n (p.table.next + 1)) p.out
@@ -118,13 +119,19 @@ pub said_valid : (n target : ℕ) (e : Event) (p : Plan) → IsValidEvent n p.ta
 said_valid n target e p fits v =
     record { table = v.table; told = told_pass (IsValidEvent n p.table.next) target e p.out fits v.told }
 
+-- facets tell nothing of handles, objects and events
+pub with_trees_valid : (n : ℕ) (trees : List (ℕ × Tree)) (p : Plan) → IsValidPlan n p
+    → IsValidPlan n (with_trees trees p)
+with_trees_valid n trees p v =
+    record { table = record { rows = v.table.rows; inboxes = v.table.inboxes }; told = v.told }
+
 pub committed_valid : (n from : ℕ) (p : Plan) → IsValidPlan n p → IsValidTable n (committed from p)
 committed_valid n from p v = posted_valid n from p.out p.table v.table v.told
 
 -- ---- acts
 
 acted_valid : (n a : ℕ) (x : Act) (p : Plan) → IsValidAct n x → IsValidPlan n p → IsValidPlan n (acted a x p)
-acted_valid n a (act.Assert target entity y) p is v = put_valid n a target entity y p is.0 is.1 v
+acted_valid n a (act.Assert target entity y) p is v = put_valid n a 0 target entity y p is.0 is.1 v
 acted_valid n a (act.Retract h) p is v = dropped_valid n a h p v
 acted_valid n a (act.Message target entity y) p is v = said_valid n target (Message entity y) p (is.0.1, is.1) v
 acted_valid n a (act.Sync target entity peer) p is v = said_valid n target (Sync entity peer) p (is.0.1, is.1) v

@@ -1,10 +1,10 @@
-use Rattle.std.proofs.Common.{◌≡◌, sym, refl, subst, ℕ, List, true}
-use Rattle.ac_table.specs.Maps.{is_key}
-use Rattle.ac_table.specs.declared.facets.Facet.{Facet}
-use Rattle.ac_table.proofs.Placing.{refaceted_from, same_facets, keeps_links, linked_here, grown, key_same}
+use Rattle.std.proofs.Common.{◌≡◌, sym, subst, ℕ, List, true}
 use Rattle.std.specs.BTreeMap.{BTreeMap}
+use Rattle.ac_table.specs.Maps.{is_key}
 use Rattle.ac_table.specs.Placed.{KeepsLinks}
-use Rattle.ac_table.proofs.Placing.{links_same}
+use Rattle.ac_table.specs.declared.facets.Facet.{Facet}
+use Rattle.ac_table.proofs.Placing.{refaceted_from, linked_here, links_same, grown, key_same}
+use Rattle.ac_table.proofs.Refaceting.{relinked, same_relinked, keeps_relinked}
 use Rattle.ac_table.proofs.facets.link.Goals as goal
 
 pub returns-in_default-clause-kept : goal.returns-in_default-clause-kept
@@ -14,46 +14,34 @@ returns-in_default-clause-kept c =
 
 pub returns-in_err-insert-clause-same : goal.returns-in_err-insert-clause-same
 returns-in_err-insert-clause-same c =
-    let x = c.in-Some.it.now in
-    let y : Facet = record { parent = x.parent; below = c.insert.new.self; rows = x.rows } in
-    let new = c.get_mut.follows.lender y in
-    let re = refaceted_from c.args.facet x y c.args.all.now new (sym c.in-Some.ensures.value)
-    (c.get_mut.follows.holds y) in
-    same_facets c.args.facet x y c.args.all.now.entries new.entries re refl refl
+    let y = relinked c.in-Some.it.now c.insert.new.self in
+    same_relinked c.args.facet c.in-Some.it.now c.insert.new.self c.args.all.now (c.get_mut.follows.lender y)
+    (sym c.in-Some.ensures.value) (c.get_mut.follows.holds y)
 
 pub returns-in_err-insert-clause-kept : goal.returns-in_err-insert-clause-kept
 returns-in_err-insert-clause-kept c =
-    let x = c.in-Some.it.now in
-    let y : Facet = record { parent = x.parent; below = c.insert.new.self; rows = x.rows } in
-    let new = c.get_mut.follows.lender y in
-    let re = refaceted_from c.args.facet x y c.args.all.now new (sym c.in-Some.ensures.value)
-    (c.get_mut.follows.holds y) in
-    keeps_links (λ k. true) c.args.facet x y c.args.all.now.entries new.entries re refl
+    let y = relinked c.in-Some.it.now c.insert.new.self in
+    keeps_relinked c.args.facet c.in-Some.it.now c.insert.new.self c.args.all.now (c.get_mut.follows.lender y)
+    (sym c.in-Some.ensures.value) (λ k. true) (c.get_mut.follows.holds y)
     (λ k s have. subst (λ (ks : List ℕ). is_key k ks ≡ true) (sym c.in_err-insert.ensures.err) have)
 
 pub returns-clause-same : goal.returns-clause-same
 returns-clause-same c =
-    let x = c.in-Some.it.now in
-    let y : Facet = record { parent = x.parent; below = c.insert.new.self; rows = x.rows } in
-    let new = c.get_mut.follows.lender y in
-    let re = refaceted_from c.args.facet x y c.args.all.now new (sym c.in-Some.ensures.value)
-    (c.get_mut.follows.holds y) in
-    same_facets c.args.facet x y c.args.all.now.entries new.entries re refl refl
+    let y = relinked c.in-Some.it.now c.insert.new.self in
+    same_relinked c.args.facet c.in-Some.it.now c.insert.new.self c.args.all.now (c.get_mut.follows.lender y)
+    (sym c.in-Some.ensures.value) (c.get_mut.follows.holds y)
 
 pub returns-clause-kept : goal.returns-clause-kept
 returns-clause-kept c =
-    let x = c.in-Some.it.now in
-    let y : Facet = record { parent = x.parent; below = c.insert.new.self; rows = x.rows } in
-    let new = c.get_mut.follows.lender y in
-    let re = refaceted_from c.args.facet x y c.args.all.now new (sym c.in-Some.ensures.value)
-    (c.get_mut.follows.holds y) in
-    keeps_links (λ k. true) c.args.facet x y c.args.all.now.entries new.entries re refl
-    (grown c.args.number x.below.keys c.insert.new.self.keys c.in_ok-insert.ensures.updates.0)
+    let y = relinked c.in-Some.it.now c.insert.new.self in
+    keeps_relinked c.args.facet c.in-Some.it.now c.insert.new.self c.args.all.now (c.get_mut.follows.lender y)
+    (sym c.in-Some.ensures.value) (λ k. true) (c.get_mut.follows.holds y)
+    (grown c.args.number c.in-Some.it.now.below.keys c.insert.new.self.keys c.in_ok-insert.ensures.updates.0)
 
 pub returns-clause-linked : goal.returns-clause-linked
 returns-clause-linked c =
     let x = c.in-Some.it.now in
-    let y : Facet = record { parent = x.parent; below = c.insert.new.self; rows = x.rows } in
+    let y = relinked x c.insert.new.self in
     let new = c.get_mut.follows.lender y in
     let re = refaceted_from c.args.facet x y c.args.all.now new (sym c.in-Some.ensures.value)
     (c.get_mut.follows.holds y) in

@@ -2,7 +2,7 @@ use Rattle.std.proofs.Common.{◌≡◌, ℕ, Bool, true, false, List, subst, ar
 use Rattle.std.specs.BTreeMap.{is_at}
 use Rattle.std.specs.Ordering.{nat_cmp}
 use Rattle.ac_table.specs.Maps.{is_key, SetChangesAt}
-use Rattle.ac_table.proofs.Finding.{is_at_same}
+use Rattle.ac_table.specs.Lemmas.Entries.{is_at_same}
 use Rattle.ac_table.proofs.keeping.push_busy.Goals as goal
 
 set_unchanged : (a : ℕ) (w : Bool) (ks : List ℕ) → is_key a ks ≡ w → SetChangesAt a w ks ks

@@ -2,9 +2,11 @@ use Rattle.std.proofs.Common.{◌∙◌, sym, ap, subst, ℕ, List, arith}
 use Rattle.std.specs.BTreeMap.{insert_entry}
 use Rattle.std.specs.Ordering.{nat_cmp}
 use Rattle.ac_table.specs.Facets.{is_facet, IsLeastFree, IsTree}
+use Rattle.ac_table.specs.Maps.{KeysAscend}
 use Rattle.ac_table.specs.Placed.{tree_in, bare, IsPlaced}
 use Rattle.ac_table.specs.declared.facets.Facet.{Facet}
 use Rattle.ac_table.proofs.Freeing.{IsAdding, added_seen, placed_added_free, placed_added_end, ascend_seen}
+use Rattle.ac_table.proofs.Least.{least_number}
 use Rattle.ac_table.proofs.Placing.{placed_same}
 use Rattle.ac_table.proofs.Sets.{on_false}
 use Rattle.ac_table.proofs.Trees.{root_there}
@@ -87,3 +89,13 @@ returns-else-not-remove-clause-made c = let i = c.self.inside in
     c.insert.new.self.entries c.link.ensures.same c.in_ok-insert.ensures.entries c.below.ensures.parent
     c.below.ensures.rows
     ∙ ap (λ fs. insert_entry nat_cmp fs c.in-Some.number (bare c.args.parent)) c.self.view_is
+
+pub returns-then-not-remove-clause-number : goal.returns-then-not-remove-clause-number
+returns-then-not-remove-clause-number c =
+    least_number c.in-Some.number (tree_in c.args.self.now)
+    (subst (λ fs. KeysAscend (tree_in fs)) c.self.view_is c.self.invariant.tree.ascends) c.in-Some.ensures
+
+pub returns-else-not-remove-clause-number : goal.returns-else-not-remove-clause-number
+returns-else-not-remove-clause-number c =
+    least_number c.in-Some.number (tree_in c.args.self.now)
+    (subst (λ fs. KeysAscend (tree_in fs)) c.self.view_is c.self.invariant.tree.ascends) c.in-Some.ensures

@@ -1,4 +1,5 @@
-use Rattle.std.proofs.Common.{◌≡◌, ap, refl, List, [], ◌∷◌, Option, Some, None, option_copied, slice_get, Bor, arith, ◌∙◌}
+use Rattle.std.proofs.Common.{◌≡◌, ap, refl, List, [], ◌∷◌, Option, Some, None, option_copied, slice_get, Bor, arith}
+use Rattle.std.proofs.Common.{◌∙◌}
 use Rattle.std.specs.Slice.{IsItemAt}
 use Rattle.ac_table.specs.Tables.{Batch}
 use Rattle.ac_table.proofs.inbox.Inbox.front.Goals as goal

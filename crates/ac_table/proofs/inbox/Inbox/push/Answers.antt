@@ -46,7 +46,8 @@ invariant_of-self-2 c =
     let l = c.load_in-load.result in
     let more : c.push_back.new.self.items ≡ i.batches.items ++ b ∷ [] =
     c.in_ok-push_back.ensures.items ∙ ap (λ (bs : List Batch). bs ++ b ∷ []) c.reserve.ensures.items in
+    let loaded : c.load_in-load.result ≡ top_load (load_in b.events) =
+    c.load_in-load.ensures ∙ ap (λ (es : List Event). top_load (load_in es)) c.as_slice.ensures.events in
     subst (λ (bs : List Batch). IsLoaded bs c.add.new.self c.add_sent.new.senders.entries) (sym more)
     (loaded_push i.batches.items b l i.total c.add.new.self i.senders.entries c.add_sent.new.senders.entries
-    c.self.invariant (c.load_in-load.ensures ∙ ap (λ (es : List Event). top_load (load_in es)) c.as_slice.ensures.events) c.add.ensures
-    c.in_ok-add_sent.ensures.added)
+    c.self.invariant loaded c.add.ensures c.in_ok-add_sent.ensures.added)

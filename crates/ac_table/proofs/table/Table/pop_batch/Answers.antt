@@ -1,23 +1,20 @@
 use Rattle.std.proofs.Common.{◌≡◌, ◌∙◌, sym, ap, refl, ℕ, List, Some, Option, None, IfNone, slice_get, drop, [], ◌∷◌}
 use Rattle.std.specs.BTreeMap.{BTreeMap}
 use Rattle.ac_table.specs.Faults.{actor_fault}
-use Rattle.ac_table.specs.Inboxes.{is_busy}
 use Rattle.ac_table.specs.Kept.{state_of, waits_at}
 use Rattle.ac_table.specs.Tables.{Batch, first_batch}
-use Rattle.ac_table.specs.declared.table.Seat.{Seat}
+use Rattle.ac_table.specs.declared.table.LiveActor.{LiveActor}
 use Rattle.ac_table.proofs.Becomes.{popped_is, same_is}
-use Rattle.ac_table.proofs.Counting.{counted_set, counted_within}
+use Rattle.ac_table.proofs.Counting.{counted_within}
 use Rattle.ac_table.proofs.Finding.{fault_from, no_fault, front_of, first_batch-seen}
-use Rattle.ac_table.proofs.Standing.{standing_same}
-use Rattle.std.specs.Map.{values_of}
-use Rattle.ac_table.proofs.Keeps.{reseated_from, kept_reseated, busy_set}
+use Rattle.ac_table.proofs.Renewing.{with_batches, whole_refilled}
 use Rattle.ac_table.proofs.table.Table.pop_batch.Goals as goal
 
 pub returns-in_default-clause-fault : goal.returns-in_default-clause-fault
 returns-in_default-clause-fault c = let i = c.self.inside in (
   sym (ap (actor_fault c.args.actor) c.self.view_is)
-      ∙ fault_from c.args.actor i.next i.rows.entries i.seats.entries (sym c.in_default.ensures.value),
-  ap (λ (m : BTreeMap ℕ Seat). state_of i.next i.rows.entries m.entries) c.get_mut.follows.holds-at-none
+      ∙ fault_from c.args.actor i.next i.rows.entries i.actors.entries (sym c.in_default.ensures.value),
+  ap (λ (m : BTreeMap ℕ LiveActor). state_of i.next i.rows.entries m.entries) c.get_mut.follows.holds-at-none
       ∙ c.self.view_is,
 )
 
@@ -27,55 +24,35 @@ pop_busy-batch-requires-clause-busy c =
 
 pub pop_busy-batch-requires-clause-counted : goal.pop_busy-batch-requires-clause-counted
 pop_busy-batch-requires-clause-counted c = let i = c.self.inside in
-    counted_within c.args.actor i.waiting c.in-Some.seat.now i.seats.entries c.self.invariant.counted
+    counted_within c.args.actor i.waiting c.in-Some.it.now i.actors.entries c.self.invariant.counted
     (sym c.in-Some.ensures.value)
 
 pub invariant_of-self-2 : goal.invariant_of-self-2
 invariant_of-self-2 c = let i = c.self.inside in
-    let k = c.self.invariant.kept in
-    let s = c.in-Some.seat.now in
-    let t : Seat = record {
-      own = s.own;
-      row_weight = s.row_weight;
-      inbox = c.pop_busy-batch.new.inbox;
-      facets = s.facets;
-    } in
-    let new = c.get_mut.follows.lender t in
-    let re = reseated_from c.args.actor s t i.seats new (sym c.in-Some.ensures.value) (c.get_mut.follows.holds t) in
-    record {
-      kept = kept_reseated c.args.actor i.next s t i.rows.entries i.seats.entries new.entries i.busy.keys
-          c.pop_busy-batch.new.busy.keys k re refl refl (busy_set c.args.actor (is_busy t.inbox) (Some t)
-          i.seats.entries new.entries i.busy.keys c.pop_busy-batch.new.busy.keys k.busy_is re.changes
-          c.pop_busy-batch.ensures.busy refl);
-      counted = counted_set c.args.actor i.waiting c.pop_busy-batch.new.waiting s t i.seats.entries new.entries
-          c.self.invariant.counted re.was (c.get_mut.follows.holds t).0 c.pop_busy-batch.ensures.counted;
-      standing = standing_same c.args.actor s t i.seats.entries new.entries (values_of i.rows.entries)
-          c.self.invariant.standing re (λ f h. refl);
-    }
+    let t = with_batches c.in-Some.it.now c.pop_busy-batch.new.inbox in
+    whole_refilled c.args.actor i.next c.in-Some.it.now c.pop_busy-batch.new.inbox i.rows.entries i.actors
+    (c.get_mut.follows.lender t) i.busy.keys c.pop_busy-batch.new.busy.keys i.waiting c.pop_busy-batch.new.waiting
+    c.self.invariant (sym c.in-Some.ensures.value) (c.get_mut.follows.holds t) c.pop_busy-batch.ensures.busy
+    c.pop_busy-batch.ensures.counted
 
 pub returns-clause-fault : goal.returns-clause-fault
 returns-clause-fault c = let i = c.self.inside in
     sym (ap (actor_fault c.args.actor) c.self.view_is)
-    ∙ no_fault c.args.actor i.next i.rows.entries i.seats.entries _ (sym c.in-Some.ensures.value)
+    ∙ no_fault c.args.actor i.next i.rows.entries i.actors.entries _ (sym c.in-Some.ensures.value)
 
 pub returns-clause-batch : goal.returns-clause-batch
 returns-clause-batch c = let i = c.self.inside in
     c.pop_busy-batch.ensures.batch ∙ ap front_of c.in-Some.ensures.value
-    ∙ sym (first_batch-seen c.args.actor i.next i.rows.entries i.seats.entries)
+    ∙ sym (first_batch-seen c.args.actor i.next i.rows.entries i.actors.entries)
     ∙ ap (first_batch c.args.actor) c.self.view_is
 
 pub returns-clause-popped : goal.returns-clause-popped
 returns-clause-popped c = let i = c.self.inside in
-    let s = c.in-Some.seat.now in
-    let t : Seat = record {
-      own = s.own;
-      row_weight = s.row_weight;
-      inbox = c.pop_busy-batch.new.inbox;
-      facets = s.facets;
-    } in
+    let s = c.in-Some.it.now in
+    let t = with_batches s c.pop_busy-batch.new.inbox in
     let new = c.get_mut.follows.lender t in
     let w = c.get_mut.follows.holds t in
-    popped_is c.args.actor i.next s t i.rows.entries i.seats.entries new.entries _ c.self.view_is
+    popped_is c.args.actor i.next s t i.rows.entries i.actors.entries new.entries _ c.self.view_is
     (sym c.in-Some.ensures.value) c.pop_busy-batch.ensures.rest refl w.0
 
 if_none : {X : Type 0} (r : Option X) (P : Type 0) → (r ≡ None → P) → IfNone r P
@@ -89,17 +66,12 @@ none_taken (b ∷ bs) none = absurd cc
 
 pub returns-clause-none : goal.returns-clause-none
 returns-clause-none c = let i = c.self.inside in
-    let s = c.in-Some.seat.now in
-    let t : Seat = record {
-      own = s.own;
-      row_weight = s.row_weight;
-      inbox = c.pop_busy-batch.new.inbox;
-      facets = s.facets;
-    } in
+    let s = c.in-Some.it.now in
+    let t = with_batches s c.pop_busy-batch.new.inbox in
     let new = c.get_mut.follows.lender t in
     let w = c.get_mut.follows.holds t in
     if_none c.pop_busy-batch.result _ (λ none.
     let same : t.inbox ≡ s.inbox =
     c.pop_busy-batch.ensures.rest ∙ none_taken s.inbox (sym c.pop_busy-batch.ensures.batch ∙ none) in
-    same_is c.args.actor i.next s t i.rows.entries i.seats.entries new.entries _ c.self.view_is
+    same_is c.args.actor i.next s t i.rows.entries i.actors.entries new.entries _ c.self.view_is
     (sym c.in-Some.ensures.value) same refl w.0)

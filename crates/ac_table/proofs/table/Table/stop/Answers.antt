@@ -3,19 +3,19 @@ use Rattle.std.specs.Map.{values_of}
 use Rattle.ac_table.specs.Facets.{is_facet, AreBelow}
 use Rattle.ac_table.specs.Kept.{AreStopping, is_key, sum_of_rows}
 use Rattle.ac_table.specs.Tables.{has_facet, handles, stands_in}
-use Rattle.ac_table.specs.declared.table.Seat.{Seat}
 use Rattle.ac_table.proofs.Becomes.{tree_is, stopped_is}
 use Rattle.ac_table.proofs.Counting.{counted_same}
 use Rattle.ac_table.proofs.Freeing.{tree_of_less}
-use Rattle.ac_table.proofs.Keeps.{reseated_from, kept_reseated, busy_same}
+use Rattle.ac_table.proofs.Keeps.{renewed_from}
 use Rattle.ac_table.proofs.Removing.{ascend_from}
-use Rattle.ac_table.proofs.Standing.{standing_same, same_rows_from}
+use Rattle.ac_table.proofs.Renewing.{with_rows, whole_refaceted}
+use Rattle.ac_table.proofs.Standing.{same_rows_from}
 use Rattle.ac_table.proofs.Stopping.{IsStopping, kept_stopped, standing_stopped, weight_split}
 use Rattle.ac_table.proofs.table.Table.stop.Goals as goal
 
 pub remove-requires : goal.remove-requires
 remove-requires c = let i = c.self.inside in
-    let tree = tree_is c.args.actor i.next c.in-Some.seat.now i.rows.entries i.seats.entries
+    let tree = tree_is c.args.actor i.next c.in-Some.it.now i.rows.entries i.actors.entries
     (sym c.in-Some.ensures.value) in
     let d = subst (AreStopping c.args.actor c.args.facet c.args.stopping.facets.keys c.args.stopping.handles.keys
     c.args.stopping.told.items) (sym c.self.view_is) c.requires.stopping in
@@ -27,24 +27,11 @@ remove-requires c = let i = c.self.inside in
 
 pub invariant_of-self-in_err-remove : goal.invariant_of-self-in_err-remove
 invariant_of-self-in_err-remove c = let i = c.self.inside in
-    let s = c.in-Some.seat.now in
-    let t : Seat = record {
-      own = s.own;
-      row_weight = s.row_weight;
-      inbox = s.inbox;
-      facets = c.remove.new.self;
-    } in
-    let new = c.get_mut.follows.lender t in
-    let re = reseated_from c.args.actor s t i.seats new (sym c.in-Some.ensures.value) (c.get_mut.follows.holds t) in
-    record {
-      kept = kept_reseated c.args.actor i.next s t i.rows.entries i.seats.entries new.entries i.busy.keys i.busy.keys
-          c.self.invariant.kept re refl refl (busy_same c.args.actor s t i.seats.entries new.entries i.busy.keys
-          c.self.invariant.kept.busy_is re refl);
-      counted = counted_same c.args.actor i.waiting s t i.seats.entries new.entries c.self.invariant.counted re.was
-          (c.get_mut.follows.holds t).0 refl;
-      standing = standing_same c.args.actor s t i.seats.entries new.entries (values_of i.rows.entries)
-          c.self.invariant.standing re (same_rows_from s.facets t.facets c.in_err-remove.ensures.same);
-    }
+    let s = c.in-Some.it.now in
+    let t = with_rows s s.own s.row_weight c.remove.new.self in
+    whole_refaceted c.args.actor i.next s s.own c.remove.new.self i.rows.entries i.actors (c.get_mut.follows.lender t)
+    i.busy.keys i.waiting c.self.invariant (sym c.in-Some.ensures.value) (c.get_mut.follows.holds t) refl
+    (same_rows_from s.facets c.remove.new.self c.in_err-remove.ensures.same)
 
 pub take_rows-taken-requires : goal.take_rows-taken-requires
 take_rows-taken-requires c = record {
@@ -62,7 +49,7 @@ take_off_all-requires c = let i = c.self.inside in
     let taken = c.take_rows-taken.ensures.taken (stands_in c.args.actor gs) d.rows in
     let out = ap sum_of_rows taken.1 in
     let split = weight_split c.args.actor gs (values_of i.rows.entries) in
-    let was = c.self.invariant.kept.weighed c.args.actor c.in-Some.seat.now (sym c.in-Some.ensures.value) in
+    let was = c.self.invariant.kept.weighed c.args.actor c.in-Some.it.now (sym c.in-Some.ensures.value) in
     let items = ap sum_of_rows c.deref.ensures.value in
     omega (arith, out, split, was, items)
 
@@ -70,15 +57,10 @@ pub invariant_of-self-2 : goal.invariant_of-self-2
 invariant_of-self-2 c = let i = c.self.inside in
     let a = c.args.actor in
     let gs = c.args.stopping.facets.keys in
-    let s = c.in-Some.seat.now in
-    let t : Seat = record {
-      own = c.disown.new.own;
-      row_weight = c.take_off_all.new.row_weight;
-      inbox = s.inbox;
-      facets = c.remove.new.self;
-    } in
+    let s = c.in-Some.it.now in
+    let t = with_rows s c.disown.new.own c.take_off_all.new.row_weight c.remove.new.self in
     let new = c.get_mut.follows.lender t in
-    let re = reseated_from a s t i.seats new (sym c.in-Some.ensures.value) (c.get_mut.follows.holds t) in
+    let re = renewed_from a s t i.actors new (sym c.in-Some.ensures.value) (c.get_mut.follows.holds t) in
     let d = subst (AreStopping a c.args.facet gs c.args.stopping.handles.keys c.args.stopping.told.items)
     (sym c.self.view_is) c.requires.stopping in
     let taken = c.take_rows-taken.ensures.taken (stands_in a gs) d.rows in
@@ -95,12 +77,12 @@ invariant_of-self-2 c = let i = c.self.inside in
       facets = c.in_ok-remove.ensures.gone;
     } in
     record {
-      kept = kept_stopped a i.next gs s t i.rows.entries less i.seats.entries new.entries i.busy.keys
+      kept = kept_stopped a i.next gs s t i.rows.entries less i.actors.entries new.entries i.busy.keys
           c.take_rows-taken.result.items k re st c.take_rows-taken.ensures.keyed taken.0
           c.take_rows-taken.ensures.ordered;
-      counted = counted_same a i.waiting s t i.seats.entries new.entries c.self.invariant.counted re.was
+      counted = counted_same a i.waiting s t i.actors.entries new.entries c.self.invariant.counted re.was
           (c.get_mut.follows.holds t).0 refl;
-      standing = standing_stopped a gs s t i.seats.entries new.entries (values_of i.rows.entries) (values_of less)
+      standing = standing_stopped a gs s t i.actors.entries new.entries (values_of i.rows.entries) (values_of less)
           c.self.invariant.standing re (ascend_from i.rows.entries k.keyed k.rows_ascend) st.facets taken.0;
     }
 
@@ -108,13 +90,8 @@ pub returns-clause-stopped : goal.returns-clause-stopped
 returns-clause-stopped c = let i = c.self.inside in
     let a = c.args.actor in
     let gs = c.args.stopping.facets.keys in
-    let s = c.in-Some.seat.now in
-    let t : Seat = record {
-      own = c.disown.new.own;
-      row_weight = c.take_off_all.new.row_weight;
-      inbox = s.inbox;
-      facets = c.remove.new.self;
-    } in
+    let s = c.in-Some.it.now in
+    let t = with_rows s c.disown.new.own c.take_off_all.new.row_weight c.remove.new.self in
     let new = c.get_mut.follows.lender t in
     let w = c.get_mut.follows.holds t in
     let d = subst (AreStopping a c.args.facet gs c.args.stopping.handles.keys c.args.stopping.told.items)
@@ -123,8 +100,8 @@ returns-clause-stopped c = let i = c.self.inside in
     record {
       facets = gs;
       below = c.requires.stopping.below;
-      state = stopped_is a i.next gs s t i.rows.entries c.take_rows-taken.new.rows.entries i.seats.entries new.entries _
-          c.self.view_is (sym c.in-Some.ensures.value) refl
+      state = stopped_is a i.next gs s t i.rows.entries c.take_rows-taken.new.rows.entries i.actors.entries
+          new.entries _ c.self.view_is (sym c.in-Some.ensures.value) refl
           (tree_of_less gs s.facets t.facets c.in_ok-remove.ensures.gone) taken.0 w.0;
       rows = c.requires.stopping.same ∙ c.requires.stopping.rows;
     }

@@ -13,19 +13,19 @@ use Rattle.ac_table.proofs.table.Table.stopping.Goals as goal
 pub all_below-requires : goal.all_below-requires
 all_below-requires c = let i = c.self.inside in
     subst (λ t. is_facet c.args.facet t ≡ true)
-    (tree_is c.args.actor i.next c.in-Some.seat.now i.rows.entries i.seats.entries (sym c.in-Some.ensures.value))
+    (tree_is c.args.actor i.next c.in-Some.it.now i.rows.entries i.actors.entries (sym c.in-Some.ensures.value))
     (ap (has_facet c.args.actor c.args.facet) c.self.view_is ∙ c.requires)
 
 pub returns-clause-stopping : goal.returns-clause-stopping
 returns-clause-stopping c = let i = c.self.inside in
-    let s = c.in-Some.seat.now in
+    let s = c.in-Some.it.now in
     let was = sym c.in-Some.ensures.value in
     let k = c.self.invariant.kept in
     subst (AreStopping c.args.actor c.args.facet c.in_ok-facets.facets.keys c.in_ok-handles.handles.keys
     c.in_ok-told.told.items) c.self.view_is (record {
       below = subst (λ t. AreBelow c.args.facet t c.in_ok-facets.facets.keys)
-          (sym (tree_is c.args.actor i.next s i.rows.entries i.seats.entries was)) c.in_ok-facets.ensures;
-      rows = gathered c.args.actor c.in_ok-facets.facets.keys c.in_ok-handles.handles.keys s i.seats.entries
+          (sym (tree_is c.args.actor i.next s i.rows.entries i.actors.entries was)) c.in_ok-facets.ensures;
+      rows = gathered c.args.actor c.in_ok-facets.facets.keys c.in_ok-handles.handles.keys s i.actors.entries
           (values_of i.rows.entries) c.self.invariant.standing was
           (ascend_from i.rows.entries k.keyed k.rows_ascend) c.in_ok-handles.ensures.ascending
           c.in_ok-handles.ensures.rows;

@@ -1,6 +1,5 @@
 use Rattle.std.proofs.Common.{◌≡◌, ◌∙◌, ap, arith}
 use Rattle.std.specs.Map.{values_of}
-use Rattle.ac_table.specs.declared.loads.Load.{Load}
 use Rattle.ac_table.specs.Sums.{top, top_load}
 use Rattle.ac_world.specs.Sums.{load_got}
 use Rattle.ac_world.specs.Worlds.{Deliveries}

@@ -1,4 +1,4 @@
-use Rattle.std.proofs.Common.{◌≡◌, Bool, ◌&&◌, nat_le, ap, ◌∙◌, rules}
+use Rattle.std.proofs.Common.{◌≡◌, ◌&&◌, nat_le, ap, ◌∙◌, rules}
 use Rattle.ac_table.specs.Tables.{is_live}
 use Rattle.ds_space.specs.declared.space.Applied.TheVariants.{Done, Over}
 use Rattle.ac_world.specs.Behaviours.{Behaviour}
@@ -44,7 +44,7 @@ returns-in_ok-add-in-Over-clause-turns g c =
     let spreads : c.add.new.self ≡ by_assertion t.plan.table from c.in-Over.weight t.spreads =
     c.in_ok-add-in-Over.ensures ∙ ap (λ b. spread_by b from c.in-Over.weight t.spreads) ends in (
       (λ i. record {
-        resident = record { got = told.0 i; handles = t.resident.handles };
+        resident = record { got = told.0 i; handles = t.resident.handles; facets = t.resident.facets };
         plan = t.plan;
         spreads = spreads i;
       })

@@ -1,6 +1,6 @@
 use Rattle.std.proofs.Common.{◌∙◌}
 use Rattle.ac_world.specs.Turns.{changed_by, all_changed}
-use Rattle.ac_world.proofs.Changing.{turns_then, all_changed-push, live_changed}
+use Rattle.ac_world.proofs.Changing.{turns_then, all_changed-push}
 use Rattle.ac_world.proofs.turning.Turning.change_all.Goals as goal
 
 pub loop-change-preserved : goal.loop-change-preserved
@@ -14,6 +14,5 @@ loop-change-preserved g c =
           (λ y. all_changed y a c.loop-change.yielded) (λ y. changed_by y a x) _
           (λ y t. all_changed-push y a c.loop-change.yielded x t) so_far.done c.in_ok-change.ensures.turns;
       bound = c.in_ok-change.ensures.bound ∙ so_far.bound;
-      live = live_changed g.Y.System.rows behaviour a a x c.loop-change.self c.change.new.self
-          so_far.live c.in_ok-change.ensures.turns;
+      stands = c.in_ok-change.ensures.stands;
     }

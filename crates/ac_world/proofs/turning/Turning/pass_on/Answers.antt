@@ -1,4 +1,4 @@
-use Rattle.std.proofs.Common.{◌≡◌, Bool, ◌&&◌, nat_le, refl, ap, subst, ◌∙◌, rules}
+use Rattle.std.proofs.Common.{◌≡◌, ◌&&◌, nat_le, refl, ap, subst, ◌∙◌, rules}
 use Rattle.std.specs.Map.{values_of}
 use Rattle.ds_space.specs.declared.space.Fan.TheVariants.{Each, Over}
 use Rattle.ac_table.specs.Tables.{is_live}

@@ -1,6 +1,6 @@
 use Rattle.std.proofs.Common.{◌∙◌}
 use Rattle.ac_world.specs.Turns.{turned_by, all_turned}
-use Rattle.ac_world.proofs.Changing.{turns_then, all_turned-push, live_turned}
+use Rattle.ac_world.proofs.Changing.{turns_then, all_turned-push}
 use Rattle.ac_world.proofs.turning.Turning.turn_all.Goals as goal
 
 pub loop-event-preserved : goal.loop-event-preserved
@@ -15,6 +15,5 @@ loop-event-preserved g c =
           (λ y. all_turned y a from c.loop-event.yielded) (λ y. turned_by y a from e) _
           (λ y t. all_turned-push y a from c.loop-event.yielded e t) so_far.done c.in_ok-turning.ensures.turns;
       bound = c.in_ok-turning.ensures.bound ∙ so_far.bound;
-      live = live_turned g.Y.System.rows behaviour a a from e c.loop-event.turning c.in_ok-turning.turning
-          so_far.live c.in_ok-turning.ensures.turns;
+      stands = c.in_ok-turning.ensures.stands;
     }

@@ -1,9 +1,17 @@
+use Rattle.std.proofs.Common.{◌+◌, ◌∷◌, arith}
+use Rattle.ac_world.specs.Keeping.{resident_by, residents_by}
+use Rattle.ac_world.proofs.Housings.{housed_joined}
 use Rattle.ac_world.proofs.Numbers.{next_is_new, world_joined}
 use Rattle.ac_world.proofs.world.World.arrive.Goals as goal
 
 pub add_actor-requires : goal.add_actor-requires
-add_actor-requires g c = next_is_new c.self.inside.opened c.self.inside.table c.self.invariant
+add_actor-requires g c = next_is_new c.self.inside.opened c.self.inside.table c.self.invariant.0
 
 pub invariant_of-self : goal.invariant_of-self
 invariant_of-self g c =
-    rw c.in_ok-add_actor.ensures.joined (world_joined c.self.inside.opened c.self.inside.table c.self.invariant)
+    let i = c.self.inside in (
+      rw c.in_ok-add_actor.ensures.joined (world_joined i.opened i.table c.self.invariant.0),
+      housed_joined (16 + (i.opened + 1)) i.table c.add_actor.new.self
+          ((0, resident_by (λ k. k.got) i.gatekeeper) ∷ residents_by i.spaces.entries) (omega arith)
+          c.in_ok-add_actor.ensures.joined c.self.invariant.1,
+    )

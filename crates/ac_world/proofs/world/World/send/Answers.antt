@@ -1,14 +1,21 @@
-use Rattle.std.proofs.Common.{ap, ◌∙◌}
-use Rattle.ac_world.specs.Outboxes.{Plan}
-use Rattle.ac_world.proofs.Lives.{numbers, numbers-all_acted}
-use Rattle.ac_world.proofs.Numbers.{world_sent}
+use Rattle.std.proofs.Common.{◌≡◌, ◌∷◌, ap, ◌∙◌}
+use Rattle.ac_world.specs.Keeping.{resident_by, residents_by}
+use Rattle.ac_world.specs.Outboxes.{Plan, plan_over, all_acted, committed}
+use Rattle.ac_world.proofs.Housings.{housed_sent}
+use Rattle.ac_world.proofs.Lives.{numbers}
+use Rattle.ac_world.proofs.Numbers.{numbers-all_acted, world_sent}
 use Rattle.ac_world.proofs.world.World.send.Goals as goal
 
 pub invariant_of-result : goal.invariant_of-result
 invariant_of-result g c =
-    world_sent c.args.actor c.self.inside.opened c.act_all.new.self c.in_ok-commit.field-0 c.self.inside.table
-    c.in_ok-commit.ensures
-    (ap (λ (p : Plan). numbers p.table) c.in_ok-act_all.ensures
-    ∙ numbers-all_acted c.args.actor c.args.acts.items c.new-plan.result
-    ∙ ap (λ (p : Plan). numbers p.table) c.new-plan.ensures)
-    c.self.invariant
+    let i = c.self.inside in
+    let a = c.args.actor in
+    let acts = c.args.acts.items in
+    let done : c.act_all.new.self ≡ all_acted a acts (plan_over i.table) =
+    c.in_ok-act_all.ensures ∙ ap (all_acted a acts) c.new-plan.ensures in (
+      world_sent a i.opened c.act_all.new.self c.in_ok-commit.field-0 i.table c.in_ok-commit.ensures
+          (ap (λ (p : Plan). numbers p.table) done ∙ numbers-all_acted a acts (plan_over i.table)) c.self.invariant.0,
+      housed_sent a acts i.table c.in_ok-commit.field-0
+          ((0, resident_by (λ k. k.got) i.gatekeeper) ∷ residents_by i.spaces.entries)
+          (c.in_ok-commit.ensures ∙ ap (committed a) done) c.self.invariant.1,
+    )
