@@ -1,6 +1,19 @@
-//! Tests of the top call that no file of rows can bring about: with threads at hand, and over a
-//! sink of another kind. Calls of the crates below it are made by rows.
+//! Tests of the top call that no file of rows can bring about: with threads at hand, over a sink of
+//! another kind, and sessions of `serve` beside one another, which no clause says. Calls of the
+//! crates below it are made by rows.
 #![tactic(auto)]
 
 #[cfg(test)]
-mod top;
+mod beside;
+#[cfg(test)]
+mod fronts;
+#[cfg(test)]
+mod guests;
+#[cfg(test)]
+mod overlap;
+#[cfg(test)]
+mod room;
+#[cfg(test)]
+mod running;
+#[cfg(test)]
+mod statuses;

@@ -82,7 +82,8 @@ module _ {T S R : Type 0} {g : Ghosts T S R} where
   among_more n (p ∷ ps) qs (inl is) = inl is
   among_more n (p ∷ ps) qs (inr a) = inr (among_more n ps qs a)
 
-  behind : (n : ℕ) (q : Pass T S R g) (qs : List (Pass T S R g)) (A : Type 0) → A ⊎ IsAmong n qs → A ⊎ IsAmong n (q ∷ qs)
+  behind : (n : ℕ) (q : Pass T S R g) (qs : List (Pass T S R g)) (A : Type 0) → A ⊎ IsAmong n qs
+      → A ⊎ IsAmong n (q ∷ qs)
   behind n q qs A (inl a) = inl a
   behind n q qs A (inr b) = inr (inr b)
 
@@ -133,7 +134,8 @@ module _ {T S R : Type 0} {g : Ghosts T S R} where
   pub none_by_split : (v w : View T S R) (ps qs : List (Pass T S R g)) (p : Pass T S R g) → qs ≡ ps ++ p ∷ []
       → HasOneMore v w → (view p).name ≡ v.kids + 1 → NoneIsLost v ps → NoneIsLost w qs
   none_by_split v w ps qs p e more name none =
-      let Kept : List (Pass T S R g) → Type 0 = λ rs. NoneIsLost w rs in subst Kept (sym e) (split v w ps p more name none)
+      let Kept : List (Pass T S R g) → Type 0 = λ rs. NoneIsLost w rs in
+      subst Kept (sym e) (split v w ps p more name none)
 
   -- one of the first passes is none of the second ones, and was joined
   pub none_by_join : (v u : View T S R) (c : Joined S R) (ps qs : List (Pass T S R g)) (name : ℕ) → u.kids ≡ v.kids

@@ -14,7 +14,7 @@ ghost use Rattle.hub_packets.specs.Refusals.{IsWhyRefused, IsRefusedFor};
 ghost use Rattle.hub_packets.specs.Counting.{taking_cause, counted_cause};
 
 use crate::refusals::{Refusal, refuse_for};
-use ac_world::{Act, FIRST_CONNECTION, Load, World};
+use ac_world::{Act, BEFORE_CONNECTIONS, FIRST_CONNECTION, Load, World};
 use ds_space::Space;
 use hub_machine::{BACKLOG, BACKLOG_WEIGHT, Fault, HANDLES, ROWS_WEIGHT, TURN_EVENTS, over};
 use pv_value::{NoMemory, Node, Value, weight};
@@ -110,7 +110,7 @@ impl Admitting {
         requires { connection ≤ 2 ^ 31 }
         ensures { result ≡ before_all connection ports world.now }
     {
-        let actor = 16 + connection;
+        let actor = BEFORE_CONNECTIONS + connection;
         Admitting {
             acts: Vec::new(alloc),
             made: BTreeMap::new(alloc),

@@ -82,16 +82,17 @@ fn a_put_that_fails_leaves_what_came_before(rt: HostRuntime) -> Result<(), Fail>
     Ok(())
 }
 
-fn texts_of_faults(alloc: Global) -> Result<String, AllocError> {
+/// Whether the texts of the faults, one after another, are this.
+fn faults_read(alloc: Global, wanted: &str) -> Result<bool, AllocError> {
     let (host, no_memory) = (HostFault::Failed, HostFault::NoMemory);
     let (read, write) = (ReadFault::Failed, WriteFault);
-    format!(in alloc; "{host}; {no_memory}; {read}; {write}")
+    let texts = format!(in alloc; "{host}; {no_memory}; {read}; {write}")?;
+    Ok(texts.as_str() == wanted)
 }
 
 #[test]
 fn the_texts_of_faults(rt: HostRuntime) -> Result<(), Fail> {
-    let texts = texts_of_faults(rt.alloc())?;
     let wanted = "the file or the port failed; out of memory; the source failed; the sink failed";
-    assert!(rt; texts.as_str() == wanted);
+    assert!(rt; faults_read(rt.alloc(), wanted)?);
     Ok(())
 }

@@ -4,7 +4,7 @@ ghost use Rattle.rl_wire.specs.Crossing.{crossed_in, fault_in, IsWhyNotIn};
 ghost use Rattle.rl_wire.specs.Crossing.{wire_of, named_by, reference_in, wire_fault, first_fault};
 ghost use Rattle.rl_wire.specs.Crossing.{reference_fault, size_fault};
 
-use crate::FIRST_ACTOR;
+use crate::BEFORE_CONNECTIONS;
 use crate::faults::WireFault;
 use crate::held::held_in;
 use crate::rebuilding::{Way, crossed};
@@ -77,7 +77,7 @@ pub fn wire_in(
     }
     let way = Inward {
         ports,
-        actor: FIRST_ACTOR + connection,
+        actor: BEFORE_CONNECTIONS + connection,
     };
     let kept = crossed(alloc, &way, value)?;
     check_size(&kept)?;

@@ -19,5 +19,5 @@ pub use laws::{attenuated_references_are_caps, references_come_back};
 pub use outward::wire_out;
 pub use wires::Wire;
 
-/// The actor of connection 0: that of connection k is so many on.
-const FIRST_ACTOR: u32 = 16;
+/// Connection k, counted from 1, is actor k above this one.
+const BEFORE_CONNECTIONS: u32 = 16;

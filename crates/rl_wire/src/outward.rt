@@ -8,7 +8,7 @@ ghost use Rattle.rl_wire.specs.Crossing.{fault_out, foreign_of, reference_out, a
 ghost use Rattle.rl_wire.specs.Crossing.{wire_value, crossed, held_in, is_own};
 ghost use Rattle.rl_wire.specs.Changes.{others_in};
 
-use crate::FIRST_ACTOR;
+use crate::BEFORE_CONNECTIONS;
 use crate::held::held_in;
 use crate::rebuilding::{Way, crossed};
 use crate::wires::{caveats_in, wire_value};
@@ -78,7 +78,7 @@ pub fn wire_out(
     ensures undone { OnErr result (ports.new ≡ ports.old) }
 {
     let count = ports.exports();
-    match exported_and_crossed(alloc, ports, FIRST_ACTOR + connection, value) {
+    match exported_and_crossed(alloc, ports, BEFORE_CONNECTIONS + connection, value) {
         Ok(told) => Ok(told),
         Err(fault) => {
             ports.forget(count);

@@ -45,6 +45,9 @@ pub none_closed : (o : Option ℕ) (before now : List Pair) (spent : Bool) → H
 none_closed (Some k) before now spent come = closed_at (Some (Opened k)) before now spent come.0
 none_closed None before now spent come = closed_at come.0 before now spent come.2
 
+-- what an arrival adds
+pub ruleset welcomes = (one_opened, none_opened, none_closed)
+
 -- ---- a close
 
 pub one_closed : (k : ℕ) (before now : List Pair) (spent : Bool) → IsDone (Close k) before now spent

@@ -167,9 +167,10 @@ impl<'g, S: Space + Drop, J: Judge + Drop, R: Source + Drop, W: Sink + Drop> Des
     ghost is_second = { λ number job. (job.connection ≡ number) × (is_reading job.half ≡ true)
         × (own_pairs (view job.seat.pass) ≡ []) };
 
-    /// The writer is the first job. Where the reader doesn't start, the close of the connection ends
-    /// the writer, which finishes the link. A reader alone would wait for a peer that waits for it.
-    #[tactic(auto, using(crate::proofs::Adding::one_opened, crate::proofs::Adding::none_opened, crate::proofs::Adding::none_closed))]
+    /// The writer is the first job. Where the reader doesn't start, the close of the connection
+    /// ends the writer, which finishes the link. A reader alone would wait for a peer that waits
+    /// for it.
+    #[tactic(auto, using(crate::proofs::Adding::welcomes))]
     fn welcome<Rt: Wait>(
         &mut self,
         rt: &Rt,

@@ -10,6 +10,7 @@ ghost use Rattle.srv_turns.specs.Gathering.{IsGathered, IsPaused, IsShut, end_at
 
 use crate::committing::Turns;
 use crate::receiving::PIECE;
+use ac_world::BEFORE_CONNECTIONS;
 use hub_machine::{Reply, Step};
 use out_ports::ports::Sink;
 use out_ports::streams::{WriteFault, write_all};
@@ -104,7 +105,7 @@ fn make_turns<Rt: Wait, T: Turns>(
 {
     gathered.clear();
     for _ in rt.forever() {
-        match turns.commit(rt, Step::Turn(16 + connection)) {
+        match turns.commit(rt, Step::Turn(BEFORE_CONNECTIONS + connection)) {
             Ok(reply) => {
                 if let Some(pause) = after_turn(alloc, reply, gathered) {
                     return pause;

@@ -116,7 +116,8 @@ still_begins left more n v begins =
     let f = front_longer left more in
     subst (λ (x : List ℕ). BeginsWith x n v) (sym f.1) (begins_longer (front_of left) f.0 n v begins)
 
-pub still_stands : (left more : List ℕ) (f : Fault BinKind) → Stands (front_of left) f → Stands (front_of (left ++ more)) f
+pub still_stands : (left more : List ℕ) (f : Fault BinKind) → Stands (front_of left) f
+    → Stands (front_of (left ++ more)) f
 still_stands left more f stands =
     let l = front_longer left more in
     subst (λ (x : List ℕ). Stands x f) (sym l.1) (stands_longer (front_of left) l.0 f stands)

@@ -1,5 +1,5 @@
-//! Statuses, and links that end at once.
-use crate::running::ends_with;
+//! Statuses of words that serve, with links that end at once, and of words that don't.
+use crate::running::{ends_with, no_host};
 use out_ports::memory::{MemFile, MemHost, MemLink, MemListen, MemSink, MemSource};
 use std::alloc::{AllocError, Global};
 use std::sync::Wait;
@@ -86,5 +86,22 @@ fn other_numbers_are_bad_words(rt: HostRuntime) -> Result<(), Fail> {
         let words = ("c", numbers.0, numbers.1);
         assert!(rt; serves(&rt, rt.alloc(), words, b"", false, wanted)?);
     }
+    Ok(())
+}
+
+/// Whether the words are refused.
+fn are_refused<Rt: Threads + Wait + Sync>(
+    rt: &Rt,
+    alloc: Global,
+    words: &[&str],
+) -> Result<bool, Fail> {
+    let mut host = no_host(alloc);
+    ends_with(rt, alloc, words, &mut host, (2, b"", b"dsd: bad words\n"))
+}
+
+#[test]
+fn words_that_begin_with_serve_are_refused(rt: HostRuntime) -> Result<(), Fail> {
+    assert!(rt; are_refused(&rt, rt.alloc(), &["serve"])?);
+    assert!(rt; are_refused(&rt, rt.alloc(), &["server", "run"])?);
     Ok(())
 }

@@ -1,5 +1,5 @@
 //! Eight sessions at once: each link's second answer comes once all eight have given their first.
-use crate::guests::{Door, Guest, Hearer, Link, Piece};
+use crate::guests::{Part, Piece, door_with, link_for};
 use crate::running::ends_with;
 use std::alloc::{AllocError, Global};
 use std::sync::Wait;
@@ -15,33 +15,16 @@ fn piece(alloc: Global, least: u64) -> Result<Piece, AllocError> {
     Ok(Piece { least, bytes })
 }
 
-/// A link whose second piece waits until so many pieces were given by all.
-fn link<'a>(
-    alloc: Global,
-    gave: &'a AtomicU64,
-    lost: &'a AtomicU64,
-) -> Result<Link<'a>, AllocError> {
+/// Two pieces, of which the second waits until eight were given.
+fn part(alloc: Global) -> Result<Part, AllocError> {
     let mut pieces = Vec::new(alloc);
     pieces.push(piece(alloc, 8)?)?;
     pieces.push(piece(alloc, 0)?)?;
-    let reads = Guest {
-        counter: gave,
-        gave,
-        lost,
+    Ok(Part {
         pieces,
-        last: 0,
-        given: 0,
-        ended: false,
-        faults: 0,
-    };
-    let writes = Hearer {
-        heard: lost,
         texts: Vec::new(alloc),
-        held: Vec::new(alloc),
-        finishes: 0,
-        faults: 0,
-    };
-    Ok(Link { reads, writes })
+        last: 0,
+    })
 }
 
 /// Whether eight links are served, and none gave up.
@@ -50,15 +33,9 @@ fn eight_at_once<Rt: Threads + Wait + Sync>(rt: &Rt, alloc: Global) -> Result<bo
     let lost = AtomicU64::new(0);
     let mut links = Vec::new(alloc);
     for _ in 0..8 {
-        links.push(link(alloc, &gave, &lost)?)?;
+        links.push(link_for(alloc, part(alloc)?, &gave, &gave, &lost))?;
     }
-    let mut door = Door {
-        config: Vec::new(alloc),
-        links,
-        address: None,
-        gave: 0,
-        stops: 0,
-    };
+    let mut door = door_with(Vec::new(alloc), links);
     let words = ["serve", "a", "c", "2", "8"];
     let wanted: (u8, &[u8], &[u8]) = (0, b"<served 8 0>\n", b"");
     let ended = ends_with(rt, alloc, &words, &mut door, wanted)?;

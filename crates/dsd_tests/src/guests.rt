@@ -17,18 +17,27 @@ pub struct Piece {
     pub bytes: Vec<u8>,
 }
 
+/// What one gives and is to hear, both in reverse, and how high the counter is before the link
+/// ends.
+#[derive(Drop)]
+pub struct Part {
+    pub pieces: Vec<Piece>,
+    pub texts: Vec<Vec<u8>>,
+    pub last: u64,
+}
+
 /// The reading half of a link. `pieces` stand in reverse. A piece that is given counts in `gave`.
 /// The end comes once the counter is at `last`. What gives up counts in `lost`.
 #[derive(Drop)]
 pub struct Guest<'a> {
-    pub counter: &'a AtomicU64,
-    pub gave: &'a AtomicU64,
-    pub lost: &'a AtomicU64,
-    pub pieces: Vec<Piece>,
-    pub last: u64,
-    pub given: u64,
-    pub ended: bool,
-    pub faults: u64,
+    counter: &'a AtomicU64,
+    gave: &'a AtomicU64,
+    lost: &'a AtomicU64,
+    pieces: Vec<Piece>,
+    last: u64,
+    given: u64,
+    ended: bool,
+    faults: u64,
 }
 
 /// Waits until the counter is so high, or it or another gives up.
@@ -78,11 +87,11 @@ impl<'a> Source for Guest<'a> {
 /// before it came. `texts` stand in reverse.
 #[derive(Drop)]
 pub struct Hearer<'a> {
-    pub heard: &'a AtomicU64,
-    pub texts: Vec<Vec<u8>>,
-    pub held: Vec<u8>,
-    pub finishes: u64,
-    pub faults: u64,
+    heard: &'a AtomicU64,
+    texts: Vec<Vec<u8>>,
+    held: Vec<u8>,
+    finishes: u64,
+    faults: u64,
 }
 
 /// Whether the text stands somewhere in the bytes.
@@ -135,18 +144,57 @@ impl<'a> Sink for Hearer<'a> {
 /// A link's two halves.
 #[derive(Drop)]
 pub struct Link<'a> {
-    pub reads: Guest<'a>,
-    pub writes: Hearer<'a>,
+    reads: Guest<'a>,
+    writes: Hearer<'a>,
+}
+
+/// A link for this part. Its pieces wait for the counter, in which its texts count.
+pub fn link_for<'a>(
+    alloc: Global,
+    part: Part,
+    counter: &'a AtomicU64,
+    gave: &'a AtomicU64,
+    lost: &'a AtomicU64,
+) -> Link<'a> {
+    let reads = Guest {
+        counter,
+        gave,
+        lost,
+        pieces: part.pieces,
+        last: part.last,
+        given: 0,
+        ended: false,
+        faults: 0,
+    };
+    let writes = Hearer {
+        heard: counter,
+        texts: part.texts,
+        held: Vec::new(alloc),
+        finishes: 0,
+        faults: 0,
+    };
+    Link { reads, writes }
 }
 
 /// A host with one file and these links, which are given from the last one on.
 #[derive(Drop)]
 pub struct Door<'a> {
-    pub config: Vec<u8>,
-    pub links: Vec<Link<'a>>,
-    pub address: Option<String>,
-    pub gave: u64,
-    pub stops: u64,
+    config: Vec<u8>,
+    links: Vec<Link<'a>>,
+    address: Option<String>,
+    gave: u64,
+    stops: u64,
+}
+
+/// A host with this file and these links.
+pub fn door_with<'a>(config: Vec<u8>, links: Vec<Link<'a>>) -> Door<'a> {
+    Door {
+        config,
+        links,
+        address: None,
+        gave: 0,
+        stops: 0,
+    }
 }
 
 impl<'a> Listen for Door<'a> {

@@ -3,10 +3,10 @@ use denote.Param.Send.{sendable}
 use Rattle.std.proofs.Crossing.{crosses}
 use Rattle.srv_session.proofs.seated.Seated.TheSendSync as seated
 use Rattle.srv_serve.proofs.Sending.{served_send, served_step_send}
-use Rattle.serve_tests.proofs.beside.Counts.TheSendSync as counts
-use Rattle.serve_tests.proofs.beside.Held.TheSendSync as held
-use Rattle.serve_tests.proofs.beside.Reader.TheSendSync as reader
-use Rattle.serve_tests.proofs.beside.fn.two_readers.scope.Goals as goal
+use Rattle.dsd_tests.proofs.beside.Counts.TheSendSync as counts
+use Rattle.dsd_tests.proofs.beside.Held.TheSendSync as held
+use Rattle.dsd_tests.proofs.beside.Reader.TheSendSync as reader
+use Rattle.dsd_tests.proofs.beside.fn.two_readers.scope.Goals as goal
 
 pub start_in-requires-send-J : goal.start_in-requires-send-J
 start_in-requires-send-J g c κs within =

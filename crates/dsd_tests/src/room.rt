@@ -1,6 +1,6 @@
 //! A room of twenty: each resolves the room's reference, says that it is there, observes who is and
 //! what is said, and says something once it was told of all that.
-use crate::guests::{Door, Guest, Hearer, Link, Piece};
+use crate::guests::{Part, Piece, door_with, link_for};
 use crate::running::ends_with;
 use std::alloc::{AllocError, Global};
 use std::sync::Wait;
@@ -88,31 +88,12 @@ fn texts(alloc: Global, letter: u8) -> Result<Vec<Vec<u8>>, AllocError> {
 }
 
 /// One of the twenty. Its link ends once it heard itself.
-fn link<'a>(
-    alloc: Global,
-    letter: u8,
-    heard: &'a AtomicU64,
-    gave: &'a AtomicU64,
-    lost: &'a AtomicU64,
-) -> Result<Link<'a>, AllocError> {
-    let reads = Guest {
-        counter: heard,
-        gave,
-        lost,
+fn part(alloc: Global, letter: u8) -> Result<Part, AllocError> {
+    Ok(Part {
         pieces: pieces(alloc, letter)?,
-        last: 3,
-        given: 0,
-        ended: false,
-        faults: 0,
-    };
-    let writes = Hearer {
-        heard,
         texts: texts(alloc, letter)?,
-        held: Vec::new(alloc),
-        finishes: 0,
-        faults: 0,
-    };
-    Ok(Link { reads, writes })
+        last: 3,
+    })
 }
 
 /// Whether all twenty are served, and none waited in vain.
@@ -125,15 +106,9 @@ fn twenty_meet<Rt: Threads + Wait + Sync>(rt: &Rt, alloc: Global) -> Result<bool
     let lost = AtomicU64::new(0);
     let mut links = Vec::new(alloc);
     for (letter, counter) in NAMES.iter().zip(heard.iter()) {
-        links.push(link(alloc, *letter, counter, &gave, &lost)?)?;
+        links.push(link_for(alloc, part(alloc, *letter)?, counter, &gave, &lost))?;
     }
-    let mut door = Door {
-        config: Vec::from_slice(alloc, CONFIG)?,
-        links,
-        address: None,
-        gave: 0,
-        stops: 0,
-    };
+    let mut door = door_with(Vec::from_slice(alloc, CONFIG)?, links);
     let words = ["serve", "a", "c", "2", "20"];
     let wanted: (u8, &[u8], &[u8]) = (0, b"<served 20 0>\n", b"");
     let ended = ends_with(rt, alloc, &words, &mut door, wanted)?;
