@@ -103,35 +103,6 @@ fn goes_and_comes(alloc: Global) -> Result<bool, Fail> {
     Ok(stand(&room, &[(7, None), (11, Some(2)), (13, Some(3))]))
 }
 
-/// Thirty observations, each by another object of the connection.
-fn crowd(alloc: Global) -> Result<Vec<Act>, Fail> {
-    let mut acts = Vec::new(alloc);
-    for object in 1..31 {
-        let text = format!(in alloc; "<Observe <group <rec P> {{}}> #:[17 {object}]>")?;
-        acts.push(asserts(alloc, text.as_str())?)?;
-    }
-    acts.push(asserts(alloc, "<P 1>")?)?;
-    Ok(acts)
-}
-
-/// Whether thirty observations have thirty facets, of which none is left once the connection has
-/// ended: the next observation has facet 1.
-fn all_go(alloc: Global) -> Result<bool, Fail> {
-    let room = told(alloc, room(alloc)?, crowd(alloc)?)?;
-    let full = stand(&room, &[(32, Some(1)), (46, Some(15)), (61, Some(30))]);
-    let (room, _) = room.end(alloc, PEER)?.turn(alloc, SPACE)?;
-    let gone = stand(&room, &[(32, None), (46, None), (61, None)]);
-    let (room, _) = room.arrive()?;
-    if !room.live(18) {
-        return Ok(false);
-    }
-    let mut acts = Vec::new(alloc);
-    acts.push(asserts(alloc, "<Observe <group <rec P> {}> #:[18 1]>")?)?;
-    acts.push(asserts(alloc, "<P 1>")?)?;
-    let (room, _) = room.send(alloc, 18, acts)?.turn(alloc, SPACE)?;
-    Ok(full && gone && stand(&room, &[(64, Some(1))]))
-}
-
 #[test]
 fn each_observation_has_its_facet(rt: HostRuntime) -> Result<(), Fail> {
     assert!(rt; has_its_facet(rt.alloc())?);
@@ -147,11 +118,5 @@ fn a_facet_stays_with_a_row(rt: HostRuntime) -> Result<(), Fail> {
 #[test]
 fn a_facet_goes_with_its_last_row(rt: HostRuntime) -> Result<(), Fail> {
     assert!(rt; goes_and_comes(rt.alloc())?);
-    Ok(())
-}
-
-#[test]
-fn facets_of_thirty_observations_go(rt: HostRuntime) -> Result<(), Fail> {
-    assert!(rt; all_go(rt.alloc())?);
     Ok(())
 }
