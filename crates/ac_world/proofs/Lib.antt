@@ -2,6 +2,7 @@ pub mod Changing
 pub mod Dropping
 pub mod Houses
 pub mod Housings
+pub mod Known
 pub mod Lives
 pub mod Numbers
 pub mod Pushes

@@ -12,6 +12,10 @@ use Rattle.ac_table.specs.Sums.{top}
 use Rattle.ac_world.specs.Sums.{load_got, sum_of_held, weight_found}
 use Rattle.ac_world.specs.Worlds.{Held, Deliveries, entry_of, with_entry, without_entry}
 
+-- what one delivery weighs
+abbrev weight_held : Held → ℕ
+weight_held x = weight x.value
+
 -- one comes in place of what was under its handle
 pub put_weight : (h : ℕ) (x : Held) (got : Deliveries) → KeysAscend got
     → sum_of_held (with_entry h x got) + weight_found (entry_of h got) ≡ sum_of_held got + top (weight x.value)
@@ -40,17 +44,17 @@ length_values (e ∷ es) = grind (arith, length_values es)
 -- fewer than 2 ^ 63 deliveries leave room for one more
 pub weight_fits : (got : Deliveries) → length got < 2 ^ 63 → sum_of_held got < 2 ^ 127
 weight_fits got few =
-    let fits = sum_of-fits (λ (x : Held). weight x.value) (values_of got) in
+    let fits = sum_of-fits weight_held (values_of got) in
     omega (arith, fits, few, length_values got)
 
 pub count_got : (got : Deliveries) → (load_got (values_of got)).count ≡ length got
 count_got [] = refl
 count_got (e ∷ es) = grind (arith, count_got es)
 
-whole_got : (got : Deliveries) → whole_of (λ (x : Held). weight x.value) (values_of got) ≡ (load_got (values_of got)).weight
+whole_got : (got : Deliveries) → whole_of weight_held (values_of got) ≡ (load_got (values_of got)).weight
 whole_got [] = refl
 whole_got (e ∷ es) = ap (λ (n : ℕ). weight e.1.value + n) (whole_got es)
 
 -- what is kept is told as what they weigh
 pub weight_told : (got : Deliveries) → top (sum_of_held got) ≡ top (load_got (values_of got)).weight
-weight_told got = sum_of-top (λ (x : Held). weight x.value) (values_of got) ∙ ap top (whole_got got)
+weight_told got = sum_of-top weight_held (values_of got) ∙ ap top (whole_got got)

@@ -1,6 +1,6 @@
 //! What arrives of what is sent through references, and where.
-ghost use Rattle.std.specs.Prelude.{◌≡◌, IfOk, option_copied};
-ghost use Rattle.ac_world.specs.Aims.{aim_by, aim_at, observer_in, aim_for, observation_of};
+ghost use Rattle.std.specs.Prelude.{◌≡◌, IfOk, option_copied, option_and_then};
+ghost use Rattle.ac_world.specs.Aims.{aim_by, aim_at, observer_in, observation_of};
 
 use ds_space::Reference;
 use pv_value::{NoMemory, Node, Value};
@@ -16,7 +16,7 @@ pub struct Aim {
 }
 
 /// What the caveats of a reference let pass of a value.
-pub(crate) fn aim_by<J: Judge>(
+fn aim_by<J: Judge>(
     alloc: Global,
     judge: &J,
     value: &Value,
@@ -34,8 +34,24 @@ pub(crate) fn aim_by<J: Judge>(
     Ok(Some(Aim { at, value }))
 }
 
-/// What arrives of a value that is sent through the reference that another value writes. The actor
-/// may be gone.
+/// What arrives of a value that is sent through a reference, where there is one.
+pub(crate) fn aim_through<J: Judge>(
+    alloc: Global,
+    judge: &J,
+    value: &Value,
+    cap: &Option<Cap>,
+) -> Result<Option<Aim>, NoMemory>
+    ensures { IfOk result (λ aim. aim
+        ≡ option_and_then (aim_by (J.schema judge.now) value.now) cap.now) }
+{
+    match cap {
+        Some(cap) => aim_by(alloc, judge, value, cap),
+        None => Ok(None),
+    }
+}
+
+/// What arrives of a value that is sent through the reference that another value writes, which is
+/// read. The actor may be gone.
 pub fn aim_at<J: Judge>(
     alloc: Global,
     judge: &J,
@@ -44,10 +60,7 @@ pub fn aim_at<J: Judge>(
 ) -> Result<Option<Aim>, NoMemory>
     ensures { IfOk result (λ aim. aim ≡ aim_at (J.schema judge.now) value.now reference.now) }
 {
-    match Cap::of_value(alloc, reference)? {
-        Some(cap) => aim_by(alloc, judge, value, &cap),
-        None => Ok(None),
-    }
+    aim_through(alloc, judge, value, &Cap::of_value(alloc, reference)?)
 }
 
 /// The observation o to which a key `[o c]` belongs.
@@ -73,20 +86,5 @@ pub(crate) fn observer_in(observation: &Value) -> Option<&Value>
     match &observer.node {
         Node::Emb(inside) => Some(inside),
         _ => None,
-    }
-}
-
-/// What arrives of a value that is sent to the one that observes.
-pub fn aim_for<J: Judge>(
-    alloc: Global,
-    judge: &J,
-    value: &Value,
-    observation: &Value,
-) -> Result<Option<Aim>, NoMemory>
-    ensures { IfOk result (λ aim. aim ≡ aim_for (J.schema judge.now) value.now observation.now) }
-{
-    match observer_in(observation) {
-        Some(observer) => aim_at(alloc, judge, value, observer),
-        None => Ok(None),
     }
 }

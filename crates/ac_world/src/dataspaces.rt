@@ -4,7 +4,7 @@ ghost use Rattle.ac_world.specs.Aims.{observation_of};
 ghost use Rattle.ac_world.specs.Behaviours.{dataspace};
 
 use crate::aims::{Aim, observation_of};
-use crate::readings::{Reading, aim_of};
+use crate::readings::Readings;
 use crate::systems::System;
 use ds_space::{Applied, Fan, Space, SpaceEvent};
 use pv_value::{NoMemory, Value};
@@ -12,14 +12,10 @@ use sr_pass::Judge;
 use std::alloc::Global;
 use std::marker::Model;
 
-/// A dataspace, and the reference that it read last: keys of one observation come one behind
-/// another, and name one reference.
-///
-/// Contracts see the rows alone.
+/// A dataspace. Contracts see its rows.
 #[derive(Drop)]
 pub struct Dataspace<S: Space + Drop> {
     space: S,
-    last: Option<Reading>,
 }
 
 impl<S: Space + Drop> Model for Dataspace<S> {
@@ -41,7 +37,6 @@ impl<S: Space + Drop> Dataspace<S> {
     {
         Dataspace {
             space: S::fresh(alloc),
-            last: None,
         }
     }
 }
@@ -60,10 +55,9 @@ impl<S: Space + Drop> System for Dataspace<S> {
     ghost grouped = { λ ds s. refl };
 
     fn apply(self, alloc: Global, event: SpaceEvent) -> Result<Applied<Self>, NoMemory> {
-        let Dataspace { space, last } = self;
-        match space.apply(alloc, event)? {
-            Applied::Done(space, changes) => Ok(Applied::Done(Dataspace { space, last }, changes)),
-            Applied::Over(space, weight) => Ok(Applied::Over(Dataspace { space, last }, weight)),
+        match self.space.apply(alloc, event)? {
+            Applied::Done(space, changes) => Ok(Applied::Done(Dataspace { space }, changes)),
+            Applied::Over(space, weight) => Ok(Applied::Over(Dataspace { space }, weight)),
         }
     }
 
@@ -76,12 +70,13 @@ impl<S: Space + Drop> System for Dataspace<S> {
     }
 
     fn aim<J: Judge>(
-        &mut self,
+        &self,
         alloc: Global,
         judge: &J,
+        readings: &mut Readings,
         key: &Value,
     ) -> Result<Option<Aim>, NoMemory> {
-        aim_of(alloc, judge, &mut self.last, key)
+        readings.aim_of(alloc, judge, key)
     }
 
     fn fan(&self, alloc: Global, message: &Value) -> Result<Fan, NoMemory> {

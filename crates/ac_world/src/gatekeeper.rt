@@ -14,7 +14,8 @@ ghost use Rattle.ac_world.specs.Staying.{StaysIn};
 ghost use Rattle.ac_world.specs.Systems.{IsAppliedBy};
 
 use crate::actors::FIRST_OTHER;
-use crate::aims::{Aim, aim_for};
+use crate::aims::Aim;
+use crate::readings::Readings;
 use crate::systems::System;
 use ds_space::{Applied, Change, Changes, Fan, SpaceEvent, reference_of};
 use gk_sturdy::{Bindings, reply};
@@ -137,12 +138,13 @@ impl System for Gatekeeper {
     }
 
     fn aim<J: Judge>(
-        &mut self,
+        &self,
         alloc: Global,
         judge: &J,
+        readings: &mut Readings,
         key: &Value,
     ) -> Result<Option<Aim>, NoMemory> {
-        answer_for(alloc, judge, &self.bindings, key)
+        answer_for(alloc, judge, readings, &self.bindings, key)
     }
 
     fn fan(&self, alloc: Global, _message: &Value) -> Result<Fan, NoMemory> {
@@ -186,6 +188,7 @@ fn asks_as(word: &Text, observer: &Value) -> bool
 fn answer_for<J: Judge>(
     alloc: Global,
     judge: &J,
+    readings: &mut Readings,
     bindings: &Bindings,
     key: &Value,
 ) -> Result<Option<Aim>, NoMemory>
@@ -199,7 +202,7 @@ fn answer_for<J: Judge>(
         return Ok(None);
     };
     let reply = reply(alloc, bindings, step)?;
-    aim_for(alloc, judge, &reply, key)
+    readings.aim_for(alloc, judge, &reply, key)
 }
 
 /// Whether a value is an embedded reference to an object of a watcher or of a connection.

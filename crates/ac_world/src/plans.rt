@@ -11,8 +11,9 @@ ghost use Rattle.ac_world.specs.Aims.{aim_for};
 ghost use Rattle.ac_world.specs.Turns.{say_at, say_all, answer_to};
 
 use crate::acts::Act;
-use crate::aims::{Aim, aim_at, aim_for};
+use crate::aims::Aim;
 use crate::outboxes::Outbox;
+use crate::readings::Readings;
 use ac_table::{Event, Table};
 use ds_space::{FanList, Fanned};
 use pv_value::{NoMemory, Value};
@@ -163,11 +164,12 @@ impl Plan {
         &mut self,
         alloc: Global,
         judge: &J,
+        readings: &mut Readings,
         peer: &Value,
     ) -> Result<(), NoMemory>
         ensures { OnOk result (self.new ≡ answer_to (J.schema judge.now) peer.now self.old) }
     {
-        let aim = aim_at(alloc, judge, &Value::boolean(true), peer)?;
+        let aim = readings.aim_at(alloc, judge, &Value::boolean(true), peer)?;
         self.say_at(aim)
     }
 
@@ -176,13 +178,14 @@ impl Plan {
         &mut self,
         alloc: Global,
         judge: &J,
+        readings: &mut Readings,
         fanned: Fanned,
     ) -> Result<(), NoMemory>
         ensures { OnOk result (self.new ≡ say_at (aim_for (J.schema judge.now)
             (sequence (plains fanned.captures)) fanned.observe) self.old) }
     {
         let Fanned { observe, captures } = fanned;
-        let aim = aim_for(alloc, judge, &Value::sequence(captures), &observe)?;
+        let aim = readings.aim_for(alloc, judge, &Value::sequence(captures), &observe)?;
         self.say_at(aim)
     }
 
@@ -191,12 +194,13 @@ impl Plan {
         &mut self,
         alloc: Global,
         judge: &J,
+        readings: &mut Readings,
         list: FanList,
     ) -> Result<(), NoMemory>
         ensures { OnOk result (self.new ≡ say_all (J.schema judge.now) list.items self.old) }
     {
         for fanned in list {
-            self.say_fanned(alloc, judge, fanned)?;
+            self.say_fanned(alloc, judge, readings, fanned)?;
         }
         Ok(())
     }

@@ -1,111 +1,128 @@
-//! References that were read once.
-ghost use Rattle.std.specs.Prelude.{◌≡◌, IfOk};
+//! References that were read, each kept by its value.
+ghost use Rattle.std.specs.Prelude.{◌≡◌, IfOk, OnOk};
+ghost use Rattle.sr_caveat.specs.Caps.{cap_of};
 ghost use Rattle.ac_world.specs.Aims.{aim_at, aim_for, aim_of};
 
-use crate::aims::{Aim, aim_by, observer_in};
+use crate::aims::{Aim, aim_at, aim_through, observer_in};
 use pv_value::{NoMemory, Node, Value};
 use sr_caveat::Cap;
 use sr_pass::Judge;
 use std::alloc::Global;
+use std::collections::BTreeMap;
 use std::marker::Model;
 
-/// The value of a reference, and the reference that it writes, where it is the value of one.
+/// So many references are kept at most. Where one more is read, all are forgotten.
+const READINGS: usize = 64;
+
+/// Values that a system actor has sent through, and of each the reference that it writes, where it
+/// is the value of one.
 ///
-/// Contracts see the value alone.
+/// Contracts see nothing of it.
 #[derive(Drop)]
-pub(crate) struct Reading {
-    value: Value,
-    cap: Option<Cap>,
+pub struct Readings {
+    by_value: BTreeMap<Value, Option<Cap>>,
 }
 
-impl Model for Reading {
-    ghost use Rattle.std.specs.Prelude.{◌≡◌};
+impl Model for Readings {
+    ghost use Rattle.std.specs.Prelude.{◌≡◌, ◌≤◌, Option, Some};
+    ghost use Rattle.std.specs.Map.{lookup};
+    ghost use Rattle.std.specs.BTreeMap.{btree_map_len, is_at};
     ghost use Rattle.pv_value.specs.Plain.{Plain};
-    ghost use Rattle.pv_value.specs.Lemmas.Coded.{plain_code};
-    ghost use Rattle.sr_caveat.specs.Caps.{cap_of};
+    ghost use Rattle.pv_value.specs.Order.{order};
+    ghost use Rattle.sr_caveat.specs.Caps.{Cap as CapOf, cap_of};
 
-    ghost Value = { Plain };
+    ghost Value = { Unit {0} };
 
-    ghost coded = { plain_code };
+    ghost view = { λ r. tt };
 
-    ghost view = { λ r. r.value };
-
-    ghost invariant = { λ r. r.cap ≡ cap_of r.value };
+    ghost invariant = { λ r. (btree_map_len r.by_value ≤ 64)
+        × ((v : Plain) (c : Option CapOf)
+        → lookup (is_at (order v)) r.by_value.entries ≡ Some c → c ≡ cap_of v) };
 }
 
-impl Reading {
-    fn new(alloc: Global, value: &Value) -> Result<Reading, NoMemory>
-        ensures { IfOk result (λ r. r ≡ value.now) }
-    {
-        let cap = Cap::of_value(alloc, value)?;
-        let value = value.copy()?;
-        Ok(Reading { value, cap })
-    }
-
-    /// The reading of a value: the last one, where it is of that value, or a new one.
-    pub(crate) fn of(
-        alloc: Global,
-        last: Option<Reading>,
-        value: &Value,
-    ) -> Result<Reading, NoMemory>
-        ensures { IfOk result (λ r. r ≡ value.now) }
-    {
-        match last {
-            Some(reading) if reading.value == *value => Ok(reading),
-            _ => Reading::new(alloc, value),
+impl Readings {
+    /// Nothing was read.
+    pub fn new(alloc: Global) -> Readings {
+        Readings {
+            by_value: BTreeMap::new(alloc),
         }
     }
 
-    /// What arrives of a value that is sent through the reference.
-    pub(crate) fn aim<J: Judge>(
-        &self,
+    /// One more, of a value that isn't among them.
+    fn keep(&mut self, value: Value, cap: Option<Cap>) -> Result<(), NoMemory>
+        requires { cap ≡ cap_of value }
+    {
+        if self.by_value.len() >= READINGS {
+            self.by_value.clear();
+        }
+        self.by_value.insert(value, cap)?;
+        Ok(())
+    }
+
+    /// What arrives of a value that is sent through the reference that another value writes. The
+    /// actor may be gone.
+    pub fn aim_at<J: Judge>(
+        &mut self,
         alloc: Global,
         judge: &J,
         value: &Value,
+        reference: &Value,
     ) -> Result<Option<Aim>, NoMemory>
-        ensures { IfOk result (λ aim. aim ≡ aim_at (J.schema judge.now) value.now self.now) }
+        ensures { IfOk result (λ aim. aim ≡ aim_at (J.schema judge.now) value.now reference.now) }
     {
-        match &self.cap {
-            Some(cap) => aim_by(alloc, judge, value, cap),
+        if !has_caveats(reference) {
+            return aim_at(alloc, judge, value, reference);
+        }
+        if let Some(cap) = self.by_value.get(reference) {
+            return aim_through(alloc, judge, value, cap);
+        }
+        let cap = Cap::of_value(alloc, reference)?;
+        let aim = aim_through(alloc, judge, value, &cap)?;
+        self.keep(reference.copy()?, cap)?;
+        Ok(aim)
+    }
+
+    /// What arrives of a value that is sent to the one that observes.
+    pub fn aim_for<J: Judge>(
+        &mut self,
+        alloc: Global,
+        judge: &J,
+        value: &Value,
+        observation: &Value,
+    ) -> Result<Option<Aim>, NoMemory>
+        ensures { IfOk result
+            (λ aim. aim ≡ aim_for (J.schema judge.now) value.now observation.now) }
+    {
+        match observer_in(observation) {
+            Some(observer) => self.aim_at(alloc, judge, value, observer),
             None => Ok(None),
         }
     }
+
+    /// What arrives of what a key `[o c]` wants, c, at the object that o names.
+    pub fn aim_of<J: Judge>(
+        &mut self,
+        alloc: Global,
+        judge: &J,
+        key: &Value,
+    ) -> Result<Option<Aim>, NoMemory>
+        ensures { IfOk result (λ aim. aim ≡ aim_of (J.schema judge.now) key.now) }
+    {
+        let Node::Seq(items) = &key.node else {
+            return Ok(None);
+        };
+        let [observation, captures] = items.as_slice() else {
+            return Ok(None);
+        };
+        self.aim_for(alloc, judge, captures, observation)
+    }
 }
 
-/// What arrives of what a key `[o c]` wants, c, at the object that o names. The reference is read
-/// where it isn't the last one that was.
-pub(crate) fn aim_of<J: Judge>(
-    alloc: Global,
-    judge: &J,
-    last: &mut Option<Reading>,
-    key: &Value,
-) -> Result<Option<Aim>, NoMemory>
-    ensures { IfOk result (λ aim. aim ≡ aim_of (J.schema judge.now) key.now) }
-{
-    let Node::Seq(items) = &key.node else {
-        return Ok(None);
-    };
-    let [observation, captures] = items.as_slice() else {
-        return Ok(None);
-    };
-    aim_at_observer(alloc, judge, last, captures, observation)
-}
-
-/// What arrives of a value that is sent to the one that observes.
-fn aim_at_observer<J: Judge>(
-    alloc: Global,
-    judge: &J,
-    last: &mut Option<Reading>,
-    value: &Value,
-    observation: &Value,
-) -> Result<Option<Aim>, NoMemory>
-    ensures { IfOk result (λ aim. aim ≡ aim_for (J.schema judge.now) value.now observation.now) }
-{
-    let Some(observer) = observer_in(observation) else {
-        return Ok(None);
-    };
-    let reading = Reading::of(alloc, last.take(), observer)?;
-    let aim = reading.aim(alloc, judge, value)?;
-    *last = Some(reading);
-    Ok(aim)
+/// Whether a value is as long as that of a reference with caveats. To read a shorter one, as most
+/// are, takes no more than to look for it, and what is kept has room for the others.
+fn has_caveats(reference: &Value) -> bool {
+    match &reference.node {
+        Node::Seq(items) => items.as_slice().len() > 2,
+        _ => false,
+    }
 }

@@ -1,7 +1,8 @@
-//! A system actor: what it has got, the handle of its own row for each key that it wants, and the
-//! facets in which these rows stand.
+//! A system actor: what it has got, the handle of its own row for each key that it wants, the
+//! facets in which these rows stand, and the references that it has read.
 ghost use Rattle.std.specs.Prelude.{◌≡◌, []};
 
+use crate::readings::Readings;
 use crate::systems::System;
 use pv_value::Value;
 use std::alloc::Global;
@@ -13,10 +14,11 @@ pub struct Resident<Y: System + Drop> {
     pub system: Y,
     pub handles: BTreeMap<Value, u64>,
     pub facets: BTreeMap<Value, u32>,
+    pub readings: Readings,
 }
 
 impl<Y: System + Drop> Resident<Y> {
-    /// It has no rows of its own.
+    /// It has no rows of its own, and has read nothing.
     pub fn new(alloc: Global, system: Y) -> Resident<Y>
         ensures system { result.system ≡ system }
         ensures handles { result.handles.entries ≡ [] }
@@ -26,6 +28,7 @@ impl<Y: System + Drop> Resident<Y> {
             system,
             handles: BTreeMap::new(alloc),
             facets: BTreeMap::new(alloc),
+            readings: Readings::new(alloc),
         }
     }
 }

@@ -10,6 +10,7 @@ ghost use Rattle.ac_world.specs.Staying.{StaysIn};
 ghost use Rattle.ac_world.specs.Systems.{IsAppliedBy, IsFanBy};
 
 use crate::aims::Aim;
+use crate::readings::Readings;
 use ds_space::{Applied, Fan, SpaceEvent};
 use pv_value::{NoMemory, Value};
 use sr_pass::Judge;
@@ -44,18 +45,16 @@ pub trait System {
     fn group(key: &Value) -> Option<&Value>
         ensures { option_copied result ≡ grouping key.now };
 
-    /// What arrives of what a key wants. It may remember what it has read; all else stays.
+    /// What arrives of what a key wants.
     fn aim<J: Judge>(
-        &mut self,
+        &self,
         alloc: Global,
         judge: &J,
+        readings: &mut Readings,
         key: &Value,
     ) -> Result<Option<Aim>, NoMemory>
-        ensures aim { IfOk result
-            (λ aim. aim ≡ (behaviour (J.schema judge.now) self.old).aim key.now) }
-        ensures rows { rows self.new ≡ rows self.old }
-        ensures behaviour { (ds : List Definition) → behaviour ds self.new ≡ behaviour ds self.old }
-        ensures bound { bound self.new ≡ bound self.old };
+        ensures { IfOk result
+            (λ aim. aim ≡ (behaviour (J.schema judge.now) self.now).aim key.now) };
 
     /// To whom a message goes.
     fn fan(&self, alloc: Global, message: &Value) -> Result<Fan, NoMemory>

@@ -6,7 +6,7 @@ ghost use Rattle.ds_space.specs.Spaces.{IsNew};
 ghost use Rattle.ac_world.specs.Keeping.{Stands, TurnsBy, turning_by};
 ghost use Rattle.ac_world.specs.Housing.{housed};
 ghost use Rattle.ac_world.specs.Turns.{housing, vacating, left, came, changed_by, all_changed};
-ghost use Rattle.ac_world.specs.Turns.{applied, taken_in};
+ghost use Rattle.ac_world.specs.Turns.{applied, taken_in, say_all};
 ghost use Rattle.ac_world.specs.Turns.{passes_on, turned_by, all_turned};
 
 use crate::actors::{FIRST_CONNECTION, FIRST_OTHER};
@@ -16,7 +16,7 @@ use crate::residents::Resident;
 use crate::spreads::Spreads;
 use crate::systems::System;
 use ac_table::Event;
-use ds_space::{Applied, Change, Changes, Fan, SpaceEvent};
+use ds_space::{Applied, Change, Changes, Fan, FanList, SpaceEvent};
 use pv_value::{NoMemory, Value};
 use sr_pass::Judge;
 use std::alloc::Global;
@@ -105,7 +105,12 @@ impl<Y: System + Drop> Turning<Y> {
         ensures bound { OnOk result (Y.bound self.new.resident.system
             ≡ Y.bound self.old.resident.system) }
     {
-        let Some(Aim { at, value }) = self.resident.system.aim(alloc, judge, &key)? else {
+        let Resident {
+            system,
+            readings,
+            ..
+        } = &mut self.resident;
+        let Some(Aim { at, value }) = system.aim(alloc, judge, readings, &key)? else {
             return Ok(());
         };
         let facet = self.house(actor, &key)?;
@@ -182,6 +187,7 @@ impl<Y: System + Drop> Turning<Y> {
             system,
             handles,
             facets,
+            readings,
         } = resident;
         match system.apply(alloc, event)? {
             Applied::Done(system, changes) => {
@@ -189,6 +195,7 @@ impl<Y: System + Drop> Turning<Y> {
                     system,
                     handles,
                     facets,
+                    readings,
                 };
                 let mut turning = Turning {
                     resident,
@@ -205,6 +212,7 @@ impl<Y: System + Drop> Turning<Y> {
                     system,
                     handles,
                     facets,
+                    readings,
                 };
                 Ok(Turning {
                     resident,
@@ -238,6 +246,18 @@ impl<Y: System + Drop> Turning<Y> {
         self.apply(alloc, judge, actor, from, SpaceEvent::Add(handle, value))
     }
 
+    /// The captures of a message, to each that observes it.
+    fn say_all<J: Judge>(&mut self, alloc: Global, judge: &J, list: FanList) -> Result<(), NoMemory>
+        ensures turns { OnOk result (turning_by Y.rows self.new
+            ≡ record (turning_by Y.rows self.old) {
+              plan = say_all (J.schema judge.now) list.items self.old.plan;
+            }) }
+        ensures system { OnOk result (self.new.resident.system ≡ self.old.resident.system) }
+    {
+        let readings = &mut self.resident.readings;
+        self.plan.say_all(alloc, judge, readings, list)
+    }
+
     /// A message goes to those to whom the actor passes it on.
     fn pass_on<J: Judge>(
         &mut self,
@@ -252,7 +272,7 @@ impl<Y: System + Drop> Turning<Y> {
             ≡ Y.bound self.old.resident.system) }
     {
         match self.resident.system.fan(alloc, message)? {
-            Fan::Each(list) => self.plan.say_all(alloc, judge, list)?,
+            Fan::Each(list) => self.say_all(alloc, judge, list)?,
             Fan::Over(weight) => {
                 let ends = from >= FIRST_CONNECTION && self.plan.table.live(from);
                 self.spreads.add(ends, from, weight)?;
@@ -293,7 +313,8 @@ impl<Y: System + Drop> Turning<Y> {
                 Ok(self)
             }
             Event::Sync(_, peer) => {
-                self.plan.answer(alloc, judge, &peer)?;
+                let readings = &mut self.resident.readings;
+                self.plan.answer(alloc, judge, readings, &peer)?;
                 Ok(self)
             }
         }

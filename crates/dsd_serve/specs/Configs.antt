@@ -4,6 +4,7 @@ use Rattle.out_ports.specs.Ports.{IsFile}
 use Rattle.hub_machine.specs.State.{State}
 use Rattle.sc_config.specs.Courses.{stops, bad, not_built}
 use Rattle.sc_config.specs.Configs.{IsConfigured, IsCourseOf}
+use Rattle.dsd_top.specs.Limits.{most_file}
 use Rattle.dsd_top.specs.Schemas.{Files}
 use Rattle.dsd_top.specs.declared.faults.Fault.{Fault}
 use Rattle.dsd_top.specs.declared.faults.Fault.TheVariants as fault
@@ -11,18 +12,18 @@ use Rattle.dsd_top.specs.declared.faults.Fault.TheVariants as fault
 -- its text has at most 1,048,576 bytes, and its steps lead to this state
 abbrev pub IsConfigIn : Files → List ℕ → State → Type 0
 IsConfigIn files name s =
-    (text : List ℕ) × IsFile files name text × (length text ≤ 1048576) × IsConfigured text s
+    (text : List ℕ) × IsFile files name text × (length text ≤ most_file) × IsConfigured text s
 
 -- a text is too long, or refused, with this number
 abbrev pub IsBadTextAt : List ℕ → ℕ → Type 0
-IsBadTextAt text n = ((1048576 < length text) × (n ≡ 0)) ⊎ ((length text ≤ 1048576) × IsCourseOf text (stops (bad n)))
+IsBadTextAt text n = ((most_file < length text) × (n ≡ 0)) ⊎ ((length text ≤ most_file) × IsCourseOf text (stops (bad n)))
 
 abbrev pub IsBadConfigAt : Files → List ℕ → ℕ → Type 0
 IsBadConfigAt files name n = (text : List ℕ) × IsFile files name text × IsBadTextAt text n
 
 -- its event n isn't built yet
 abbrev pub IsUnbuiltTextAt : List ℕ → ℕ → Type 0
-IsUnbuiltTextAt text n = (length text ≤ 1048576) × IsCourseOf text (stops (not_built n))
+IsUnbuiltTextAt text n = (length text ≤ most_file) × IsCourseOf text (stops (not_built n))
 
 abbrev pub IsUnbuiltConfigAt : Files → List ℕ → ℕ → Type 0
 IsUnbuiltConfigAt files name n =

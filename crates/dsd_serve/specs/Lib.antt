@@ -1,3 +1,4 @@
 pub mod Causes
 pub mod Configs
+pub mod Limits
 pub mod Serving

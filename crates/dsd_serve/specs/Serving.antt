@@ -4,6 +4,7 @@ use Rattle.out_ports.specs.Ports.{raised, RoseBy}
 use Rattle.srv_loop.specs.declared.tally.Tally.{Tally}
 use Rattle.srv_loop.specs.Tallies.{HasEnded}
 use Rattle.dsd_top.specs.Commands.{is_serve, AreOfTable}
+use Rattle.dsd_serve.specs.Limits.{most_workers, most_links}
 
 -- at an address, by a configuration in a file, with so many workers, for so many connections
 pub record Serving : Type 0 where
@@ -19,8 +20,8 @@ words_for s = codes "serve" ∷ s.address ∷ s.config ∷ decimal s.workers ∷
 -- the words ask to serve so, with 1 to 16 workers and for 1 to 1,000 connections
 pub record IsServing (words : List (List ℕ)) (s : Serving) : Type 0 where
   pub words_are : words ≡ words_for s
-  pub workers : (1 ≤ s.workers) × (s.workers ≤ 16)
-  pub connections : (1 ≤ s.connections) × (s.connections ≤ 1000)
+  pub workers : (1 ≤ s.workers) × (s.workers ≤ most_workers)
+  pub connections : (1 ≤ s.connections) × (s.connections ≤ most_links)
 
 abbrev pub AskToServe : List (List ℕ) → Type 0
 AskToServe words = (s : Serving) × IsServing words s

@@ -2,6 +2,7 @@
 ghost use Rattle.std.specs.Prelude.{◌≡◌, ◌≤◌, length, IfOk, IfErr, IsErrOf};
 ghost use Rattle.out_ports.specs.Ports.{Rose};
 ghost use Rattle.sc_config.specs.Configs.{IsConfigured};
+ghost use Rattle.dsd_top.specs.Limits.{most_file};
 ghost use Rattle.dsd_top.specs.declared.faults.Fault.TheVariants as fault;
 ghost use Rattle.dsd_serve.specs.Configs.{IsConfigIn, IsWhyTextRefused, IsWhyRefused};
 
@@ -19,7 +20,7 @@ fn hub_of<S: Space + Drop, F: Predicate + Drop>(
     text: &[u8],
     predicate: F,
 ) -> Result<Hub<S, Guards<F>>, Fault>
-    ensures hub { IfOk result (λ hub. (length text.now ≤ 1048576) × IsConfigured text.now hub) }
+    ensures hub { IfOk result (λ hub. (length text.now ≤ most_file) × IsConfigured text.now hub) }
     ensures refused { IfErr result (IsWhyTextRefused text.now) }
 {
     if text.len() > FILE_BYTES {

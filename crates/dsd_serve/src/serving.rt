@@ -3,6 +3,7 @@ ghost use Rattle.std.specs.Prelude.{◌≡◌, ◌≢◌, ◌≤◌, ◌+◌, �
 ghost use Rattle.std.specs.Prelude.{IfOk, IfErr, OnOk, OnErr, IsErrOf};
 ghost use Rattle.out_ports.specs.Ports.{Rose, Appends, AppendsFront};
 ghost use Rattle.dsd_top.specs.declared.faults.Fault.TheVariants as fault;
+ghost use Rattle.dsd_serve.specs.Limits.{most_links};
 ghost use Rattle.dsd_serve.specs.Causes.{IsWhyUnserved, status_for};
 ghost use Rattle.dsd_serve.specs.Causes.{IsWritingFault, IsListeningFault};
 ghost use Rattle.dsd_serve.specs.Serving.{AreAccepts, IsServed, served_line, rest_in};
@@ -101,7 +102,7 @@ pub(crate) fn serve_and_tell<Rt: Threads + Wait + Sync, O: Sink, H: Host>(
 where
     H::R: Send + Drop,
     H::W: Send + Drop,
-    requires { serving.now.connections ≤ 1000 }
+    requires { serving.now.connections ≤ most_links }
     ensures done { OnOk result (IsServed Appends
         (λ a f. AreAccepts serving.now.connections a f (H.gave host.old) (H.gave host.new)
         (H.stops host.old) (H.stops host.new) (H.faults host.old) (H.faults host.new))

@@ -2,6 +2,7 @@
 use Rattle.std.proofs.Common.{◌≡◌, ℕ, ◌+◌, ◌≤◌, true, false, List, [], ◌∷◌, ◌++◌, length, sym, ap, ◌∙◌, arith}
 use Rattle.std.proofs.Common.{length-append}
 use Rattle.pv_value.specs.Plain.{Plain}
+use Rattle.sc_events.specs.Limits.{most_input}
 use Rattle.sc_events.specs.declared.inputs.Form.{Form as Input}
 use Rattle.sc_events.specs.declared.inputs.Values.{Values}
 use Rattle.sc_events.specs.Readings.{AreReadAs}
@@ -38,7 +39,7 @@ module _ (input : Input) (make : Plain → List ℕ) (bytes : List ℕ) (n : ℕ
       made = is ∙ ap (λ o. o ++ make v) done.made ∙ sym (made-more make done.vs v);
     }
 
-  module _ (short : length bytes ≤ 67108864) where
+  module _ (short : length bytes ≤ most_input) where
     pub all_read : ((vs : List Plain) → AreSoFar input bytes vs values → AreReadAs input bytes vs true)
         → AreMade input make bytes out
     all_read read = (short, done.vs, read done.vs done.read, done.made)

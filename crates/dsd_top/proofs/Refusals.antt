@@ -3,10 +3,11 @@ use Rattle.std.proofs.Common.{◌≢◌, ℕ, ◌≤◌, List, length, refl, inl
 use Rattle.ps_read.specs.Answers.{IsSchemaFault}
 use Rattle.ps_read.specs.declared.faults.SchemaFault.{SchemaFault}
 use Rattle.ps_read.specs.declared.faults.SchemaFault.TheVariants as schema
+use Rattle.dsd_top.specs.Limits.{most_file}
 use Rattle.dsd_top.specs.Schemas.{IsRefusedAt, place_in}
 use Rattle.dsd_top.specs.Works.{IsTextFaultOf, refused_for}
 
-module _ (text name : List ℕ) (short : length text ≤ 1048576) where
+module _ (text name : List ℕ) (short : length text ≤ most_file) where
   at_place : (f : SchemaFault) → (f ≢ schema.NoMemory) → IsSchemaFault text f → IsRefusedAt text name (place_in f)
   at_place f not is = inr (short, inl (f, not, is, refl))
 

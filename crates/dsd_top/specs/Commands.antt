@@ -3,6 +3,7 @@ use Rattle.std.specs.Prelude.{◌≡◌, ℕ, ◌-◌, ◌^◌, ◌==◌, List, 
 use Rattle.std.specs.Prelude.{nat_eq, nat_le, Option, Some, None, if◌then◌else◌}
 use Rattle.std.specs.List.{flat_map, starts_with}
 use Rattle.std.specs.Str.{bytes_eq}
+use Rattle.dsd_top.specs.Limits.{most_caveats}
 pub use Rattle.dsd_top.specs.Asked.{texts, Checking, Minting}
 use Rattle.dsd_top.specs.Loading.{IsLoadLine}
 use Rattle.dsd_top.specs.Minting.{IsReferenceLine}
@@ -14,6 +15,7 @@ use Rattle.dsd_top.specs.declared.words.Notice.{Notice}
 use Rattle.dsd_top.specs.declared.words.Notice.TheVariants.{Usage, Version, Reference, Load}
 use Rattle.dsd_top.specs.declared.words.Request.{Request}
 use Rattle.dsd_top.specs.declared.words.Request.TheVariants.{Do, Tell}
+use Rattle.sc_load.specs.Limits.{most_items}
 
 -- what one word asks for
 abbrev pub named : List ℕ → Option Request
@@ -41,10 +43,10 @@ load_by n m = None
 abbrev pub named_before : List ℕ → List ℕ → List ℕ → List (List ℕ) → Option Request
 named_before w x y ws =
     if bytes_eq w (codes "check") && (length ws == 0) then Some (Do (Check (record { file = x; name = y })))
-    else (if bytes_eq w (codes "mint") && nat_le (length ws) 32
+    else (if bytes_eq w (codes "mint") && nat_le (length ws) most_caveats
     then Some (Tell (Reference (record { oid = x; key = y; caveats = ws })))
     else (if bytes_eq w (codes "load") && (length ws == 0)
-    then load_by (number_within 0 (2 ^ 64 - 1) x) (number_within 1 20000 y)
+    then load_by (number_within 0 (2 ^ 64 - 1) x) (number_within 1 most_items y)
     else None))
 
 -- what the words ask for

@@ -1,6 +1,7 @@
 pub mod Asked
 pub mod Commands
 pub mod Forms
+pub mod Limits
 pub mod Lines
 pub mod Loading
 pub mod Makings

@@ -1,6 +1,7 @@
 -- What is made of an input alone, and why nothing is.
 use Rattle.std.specs.Prelude.{◌≡◌, ℕ, ◌<◌, List, length}
 use Rattle.hub_laws.specs.Settled.{HoldsFromScratch}
+use Rattle.sc_events.specs.Limits.{most_input}
 use Rattle.sc_events.specs.declared.inputs.Form.{Form as Input}
 use Rattle.sc_events.specs.declared.inputs.Form.TheVariants as input
 use Rattle.sc_report.specs.Reports.{RanState, report_of}
@@ -48,7 +49,7 @@ IsMalformedAt Written bytes n = IsBadAt input.Text bytes n
 
 -- of values, limit 1 alone: the input has more than 67,108,864 bytes
 abbrev pub IsTooLong : List ℕ → ℕ → Type 0
-IsTooLong bytes w = (w ≡ 1) × (67108864 < length bytes)
+IsTooLong bytes w = (w ≡ 1) × (most_input < length bytes)
 
 -- limit w is passed
 abbrev pub PassesLimit : Making → List ℕ → ℕ → Type 0

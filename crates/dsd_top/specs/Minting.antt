@@ -10,6 +10,7 @@ use Rattle.sr_caveat.specs.Embedded.{has_embedded}
 use Rattle.gk_sturdy.specs.Refs.{ref_value}
 use Rattle.gk_sturdy.specs.declared.refs.SturdyRef.{SturdyRef}
 use Rattle.gk_sturdy.specs.Chain.{minted, narrowed}
+use Rattle.dsd_top.specs.Limits.{most_key}
 use Rattle.dsd_top.specs.Asked.{Minting}
 use Rattle.dsd_top.specs.declared.minting.WordsFault.{WordsFault}
 use Rattle.dsd_top.specs.declared.minting.WordsFault.TheVariants.{Bad, NoMemory}
@@ -20,7 +21,7 @@ IsPlainText text v = AreValuesOf text (v ∷ []) × (has_embedded v ≡ false)
 
 -- the text is a key of at most 64 bytes, in pairs of hexadecimal digits of either case
 abbrev pub IsKey : List ℕ → List ℕ → Type 0
-IsKey text key = (decode_of text ≡ Ok key) × (length key ≤ 64)
+IsKey text key = (decode_of text ≡ Ok key) × (length key ≤ most_key)
 
 -- the reference with a caveat more for each text, behind the others
 abbrev pub IsNarrowedBy : List (List ℕ) → SturdyRef → SturdyRef → Type 0
@@ -51,7 +52,7 @@ IsLone vs v = (vs ≡ v ∷ []) × (has_embedded v ≡ false)
 
 -- the bytes are these, at most 64
 abbrev pub IsShort : List ℕ → List ℕ → Type 0
-IsShort bytes key = (key ≡ bytes) × (length key ≤ 64)
+IsShort bytes key = (key ≡ bytes) × (length key ≤ most_key)
 
 -- why digits are no bytes
 abbrev pub digits_fault : FromHexError → WordsFault

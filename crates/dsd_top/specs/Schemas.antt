@@ -6,6 +6,7 @@ use Rattle.ps_schema.specs.Names.{knows}
 use Rattle.ps_read.specs.Answers.{IsSchemaOf, IsSchemaFault}
 use Rattle.ps_read.specs.declared.faults.SchemaFault.{SchemaFault}
 use Rattle.ps_read.specs.declared.faults.SchemaFault.TheVariants.{BadSchema, NotSupported, NoMemory}
+use Rattle.dsd_top.specs.Limits.{most_file}
 use Rattle.dsd_top.specs.Asked.{Checking}
 
 -- a host's files, as names and contents, where it tells them
@@ -16,7 +17,7 @@ Files = Option (List (List ℕ × List ℕ))
 
 -- it has at most 1,048,576 bytes, and is these definitions, one of them of the name
 abbrev pub IsSchemaWith : List ℕ → List ℕ → List Definition → Type 0
-IsSchemaWith text name ds = (length text ≤ 1048576) × IsSchemaOf text ds × (knows ds name ≡ true)
+IsSchemaWith text name ds = (length text ≤ most_file) × IsSchemaOf text ds × (knows ds name ≡ true)
 
 -- how many values stand before the first that can't stand there; 0, where something else is wrong
 abbrev pub place_in : SchemaFault → ℕ
@@ -36,8 +37,8 @@ Lacks text name = (ds : List Definition) × IsSchemaOf text ds × (knows ds name
 -- it is too long, or no schema, or doesn't know the name, and this is the number of that
 abbrev pub IsRefusedAt : List ℕ → List ℕ → ℕ → Type 0
 IsRefusedAt text name n =
-    ((1048576 < length text) × (n ≡ 0))
-    ⊎ ((length text ≤ 1048576) × (IsNoSchemaAt text n ⊎ (Lacks text name × (n ≡ 0))))
+    ((most_file < length text) × (n ≡ 0))
+    ⊎ ((length text ≤ most_file) × (IsNoSchemaAt text n ⊎ (Lacks text name × (n ≡ 0))))
 
 -- ---- by the file
 

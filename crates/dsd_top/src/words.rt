@@ -4,6 +4,7 @@ ghost use Rattle.dsd_top.specs.Commands.{texts, request_of, named, named_with, n
 ghost use Rattle.dsd_top.specs.Commands.{load_by};
 ghost use Rattle.dsd_top.specs.Numbers.{number_within};
 ghost use Rattle.dsd_top.specs.Commands.{usage, version, is_serve as begins_with_serve};
+ghost use Rattle.sc_load.specs.Limits.{most_items};
 
 use crate::numbers::number_within;
 use std::marker::Model;
@@ -103,13 +104,14 @@ pub struct Loading {
 
 impl Model for Loading {
     ghost use Rattle.std.specs.Prelude.{◌≤◌};
+    ghost use Rattle.sc_load.specs.Limits.{most_items};
     ghost use Rattle.dsd_top.specs.Asked.{Loading};
 
     ghost Value = { Loading };
 
     ghost view = { λ l. record { start = l.start; count = l.count } };
 
-    ghost invariant = { λ l. (1 ≤ l.count) × (l.count ≤ 20000) };
+    ghost invariant = { λ l. (1 ≤ l.count) × (l.count ≤ most_items) };
 }
 
 impl Loading {
@@ -122,7 +124,7 @@ impl Loading {
     pub fn count(&self) -> u32
         ensures count { result ≡ self.now.count }
         ensures some { 1 ≤ result }
-        ensures few { result ≤ 20000 }
+        ensures few { result ≤ most_items }
     {
         self.count
     }
@@ -220,7 +222,7 @@ fn find_before<'a>(
 /// What `load` asks for, by its two numbers.
 fn find_load<'a>(start: &str, count: &str) -> Option<Request<'a>>
     ensures { result ≡ load_by
-        (number_within 0 (2 ^ 64 - 1) start.now) (number_within 1 20000 count.now) }
+        (number_within 0 (2 ^ 64 - 1) start.now) (number_within 1 most_items count.now) }
 {
     let start = number_within(start, 0, u64::MAX)?;
     let count = number_within(count, 1, ITEMS)? as u32;

@@ -15,6 +15,7 @@ use Rattle.ac_world.specs.Worlds.{WorldState, actor_of, ended_of, gone, is_syste
 use Rattle.ac_world.specs.Lemmas.Entries.{each_with, each_without, each_found, KeysAscend, ascend_none}
 use Rattle.rl_packet.specs.declared.packets.TurnEvent.{TurnEvent}
 use Rattle.rl_ports.specs.Ports.{PortsState, ports_to, with_exports}
+use Rattle.hub_machine.specs.Limits.{most_events}
 use Rattle.hub_machine.specs.declared.faults.Fault.{Fault}
 use Rattle.hub_machine.specs.declared.steps.Reply.{Reply}
 use Rattle.hub_machine.specs.declared.steps.Reply.TheVariants.{Worn, Halted, Idle}
@@ -118,7 +119,7 @@ judged_in_order : (k : ℕ) (ports : PortsState) (es : List TurnEvent) (d : Admi
 judged_in_order k ports es (refused f) s orderly all is =
     finished_in_order [] (failed k f s) (failed_in_order k f s all)
 judged_in_order k ports es (admitted x) s orderly all is =
-    finished_in_order [] (accepted k x (nameless k s)) (by (over 1024 3 (length es)) is)
+    finished_in_order [] (accepted k x (nameless k s)) (by (over most_events 3 (length es)) is)
   where
     start : Admitting
     start = before_all k ports s.world

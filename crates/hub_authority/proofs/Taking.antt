@@ -13,6 +13,7 @@ use Rattle.rl_packet.specs.declared.packets.Event.{Event}
 use Rattle.rl_packet.specs.declared.packets.Event.TheVariants.{Assert, Retract, Message, Sync}
 use Rattle.rl_packet.specs.declared.packets.TurnEvent.{TurnEvent}
 use Rattle.rl_ports.specs.Ports.{PortsState}
+use Rattle.hub_machine.specs.Limits.{most_events}
 use Rattle.hub_machine.specs.declared.faults.Fault.{Fault}
 use Rattle.hub_machine.specs.Faults.{over}
 use Rattle.hub_machine.specs.State.{State, ports_of}
@@ -178,4 +179,4 @@ taken_does s k es ports orderly there taken =
     worn true is = absurd cc
     worn false is =
         subst (λ o. (packet_at k o es s).reply ≡ Taken → DoesWhatIsAsked k ports es s (packet_at k o es s).state)
-        (sym there) (admit (over 1024 3 (length es))) is
+        (sym there) (admit (over most_events 3 (length es))) is

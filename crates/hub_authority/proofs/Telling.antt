@@ -20,6 +20,7 @@ use Rattle.ac_world.specs.Behaviours.{Behaviour, behaviour_of}
 use Rattle.rl_packet.specs.declared.packets.TurnEvent.{TurnEvent}
 use Rattle.rl_ports.specs.Ports.{PortsState, ports_to, with_exports}
 use Rattle.rl_wire.specs.Crossing.{all_exported}
+use Rattle.hub_machine.specs.Limits.{most_connections, last_dataspace}
 use Rattle.hub_machine.specs.declared.faults.Fault.{Fault}
 use Rattle.hub_machine.specs.Faults.{error_of}
 use Rattle.hub_machine.specs.State.{State, ports_of}
@@ -127,23 +128,27 @@ arrive_tells k space s = worn (is_worn s (Arrive space))
         tells_then k s (opened space s) _ [] _ (arrival_tells k space s) (keeps_finished k [] (opened space s))
 
     halted : (b : Bool) → Tells k s
-        (arrive_unless (cond b (Some Halted) (cond (nat_le 32 (length s.connections)) (Some Full) None)) space s).state
+        (arrive_unless
+        (cond b (Some Halted) (cond (nat_le most_connections (length s.connections)) (Some Full) None)) space s).state
         [] (opened_as k space
-        (arrive_unless (cond b (Some Halted) (cond (nat_le 32 (length s.connections)) (Some Full) None)) space s).reply)
+        (arrive_unless
+        (cond b (Some Halted) (cond (nat_le most_connections (length s.connections)) (Some Full) None)) space s).reply)
     halted true = quiet
-    halted false = full (nat_le 32 (length s.connections))
+    halted false = full (nat_le most_connections (length s.connections))
 
     barred : (b : Bool) → Tells k s (arrive_unless (cond b (Some Barred)
-        (cond s.stopped (Some Halted) (cond (nat_le 32 (length s.connections)) (Some Full) None))) space s).state
+        (cond s.stopped (Some Halted) (cond (nat_le most_connections (length s.connections)) (Some Full) None)))
+        space s).state
         [] (opened_as k space (arrive_unless (cond b (Some Barred)
-        (cond s.stopped (Some Halted) (cond (nat_le 32 (length s.connections)) (Some Full) None))) space s).reply)
+        (cond s.stopped (Some Halted) (cond (nat_le most_connections (length s.connections)) (Some Full) None)))
+        space s).reply)
     barred true = quiet
     barred false = halted s.stopped
 
     worn : (b : Bool) → Tells k s (cond b (unchanged s Worn) (arrive_unless (refusal space s) space s)).state []
         (opened_as k space (cond b (unchanged s Worn) (arrive_unless (refusal space s) space s)).reply)
     worn true = quiet
-    worn false = barred (nat_lt 8 space)
+    worn false = barred (nat_lt last_dataspace space)
 
 -- ---- a packet
 

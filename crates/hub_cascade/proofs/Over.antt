@@ -17,6 +17,7 @@ use Rattle.ac_world.specs.Turns.{After as TurnOf, begin_turn, all_turned, system
 use Rattle.ac_world.specs.Worlds.{WorldState, actor_of, without_entry, is_system, binding}
 use Rattle.rl_packet.specs.declared.packets.TurnEvent.{TurnEvent}
 use Rattle.rl_ports.specs.Ports.{PortsState}
+use Rattle.hub_machine.specs.Limits.{most_deliveries, most_deliveries_weight}
 use Rattle.hub_machine.specs.declared.faults.Fault.{Fault}
 use Rattle.hub_machine.specs.declared.faults.Fault.TheVariants.{Overrun}
 use Rattle.hub_machine.specs.State.{State, opening, ports_of, is_there}
@@ -158,11 +159,14 @@ both_none true c f g is = absurd cc
 both_none false true f g is = absurd cc
 both_none false false f g is = (refl, refl)
 
-pub within_numbers : (l : Load) → overrun_by (top_load l) ≡ None → (l.count ≤ 65536) × (l.weight ≤ 16777216)
+pub within_numbers : (l : Load) → overrun_by (top_load l) ≡ None
+    → (l.count ≤ most_deliveries) × (l.weight ≤ most_deliveries_weight)
 within_numbers l is =
-    let tests = both_none (nat_lt 65536 (top l.count)) (nat_lt 16777216 (top l.weight)) (Overrun 1 (top l.count))
-    (Overrun 2 (top l.weight)) is in
-    (below_top l.count 65536 (omega arith) tests.0, below_top l.weight 16777216 (omega arith) tests.1)
+    let tests = both_none (nat_lt most_deliveries (top l.count)) (nat_lt most_deliveries_weight (top l.weight))
+    (Overrun 1 (top l.count)) (Overrun 2 (top l.weight)) is in (
+      below_top l.count most_deliveries (omega arith) tests.0,
+      below_top l.weight most_deliveries_weight (omega arith) tests.1,
+    )
 
 live_within : (k : ℕ) (s : State) → is_there k s ≡ true → overrun_of k s ≡ None → IsWithin (actor_of k) s.world
 live_within k s there within =

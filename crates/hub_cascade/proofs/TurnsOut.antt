@@ -13,6 +13,7 @@ use Rattle.ac_world.specs.Turns.{After as TurnOf, turn_first, system_turn, conne
 use Rattle.ac_world.specs.Worlds.{WorldState, actor_of, entry_of, with_entry, without_entry, is_system}
 use Rattle.ac_world.specs.Lemmas.Entries.{put_other}
 use Rattle.rl_ports.specs.Ports.{PortsState, with_exports}
+use Rattle.hub_machine.specs.Limits.{most_deliveries, most_deliveries_weight}
 use Rattle.hub_machine.specs.declared.faults.Fault.{Fault}
 use Rattle.hub_machine.specs.State.{State, ports_of}
 use Rattle.hub_machine.specs.Endings.{failed, finished, overrun_by, overrun_of}
@@ -35,8 +36,9 @@ use Rattle.hub_cascade.proofs.Told.{still_waits, tells_nothing, ended_back}
 
 -- ---- less is within, too
 
-within_numbers_back : (l : Load) → l.count ≤ 65536 → l.weight ≤ 16777216 → overrun_by (top_load l) ≡ None
-within_numbers_back l few light = rw (below 65536 l.count few, below 16777216 l.weight light) refl
+within_numbers_back : (l : Load) → l.count ≤ most_deliveries → l.weight ≤ most_deliveries_weight
+    → overrun_by (top_load l) ≡ None
+within_numbers_back l few light = rw (below most_deliveries l.count few, below most_deliveries_weight l.weight light) refl
   where
     below : (m n : ℕ) → n ≤ m → nat_lt m (top n) ≡ false
     below m n l = grind (arith, nat_tests, l)

@@ -7,12 +7,13 @@ use Rattle.ac_table.specs.declared.batches.Batch.{Batch}
 use Rattle.ac_table.specs.Tables.{Actor, find_actor, is_live}
 use Rattle.ac_world.specs.Sums.{deliveries}
 use Rattle.ac_world.specs.Worlds.{WorldState, actor_of}
+use Rattle.hub_machine.specs.Limits.{most_deliveries, most_deliveries_weight}
 use Rattle.hub_machine.specs.State.{State}
 
 -- the assertions that an actor has got, and the assertions, messages and syncs that wait for it, are no more than
 -- 65,536, and weigh no more than 16,777,216
 abbrev pub IsWithin : ℕ → WorldState → Type 0
-IsWithin a w = ((deliveries a w).count ≤ 65536) × ((deliveries a w).weight ≤ 16777216)
+IsWithin a w = ((deliveries a w).count ≤ most_deliveries) × ((deliveries a w).weight ≤ most_deliveries_weight)
 
 -- from s to t everybody is live who was, and nobody else
 abbrev pub SparesAll : State → State → Type 0

@@ -9,6 +9,7 @@ use Rattle.ac_world.specs.Worlds.{WorldState, is_system}
 use Rattle.ac_world.specs.Turns.{turn, turn_first, turn_with, system_turn, connection_turn}
 use Rattle.ac_world.specs.declared.turns.Turned.{Turned}
 use Rattle.ac_world.specs.declared.turns.Turned.TheVariants.{Ran, Taken, Idle, Gone}
+use Rattle.hub_machine.specs.Limits.{last_dataspace, most_connections}
 use Rattle.hub_machine.specs.State.{State}
 use Rattle.hub_machine.specs.Machine.{refusal}
 use Rattle.hub_machine.specs.declared.steps.Reply.TheVariants.{Barred, Halted, Full}
@@ -62,10 +63,11 @@ told_soundly a s t (Taken b) valid next world is =
 
 -- where nothing is against it, the dataspace is one
 pub is_let_in : (space : ℕ) (s : State) → refusal space s ≡ None → space ≤ 8
-is_let_in space s is = by (nat_lt 8 space) refl is
+is_let_in space s is = by (nat_lt last_dataspace space) refl is
   where
-    by : (b : Bool) → nat_lt 8 space ≡ b → (if b then Some Barred
-        else if s.stopped then Some Halted else if nat_le 32 (length s.connections) then Some Full else None) ≡ None
+    by : (b : Bool) → nat_lt last_dataspace space ≡ b → (if b then Some Barred
+        else if s.stopped then Some Halted
+        else if nat_le most_connections (length s.connections) then Some Full else None) ≡ None
         → space ≤ 8
     by true over is = absurd cc
     by false over is = grind (arith, nat_tests, over)

@@ -10,6 +10,7 @@ use Rattle.std.specs.List.Sorted.{IsStrictlySortedBy}
 use Rattle.std.specs.Map.{keys_of, values_of}
 use Rattle.std.specs.Ordering.{nat_cmp, match_ordering}
 use Rattle.pv_value.specs.Plain.{Plain}
+use Rattle.ds_space.specs.Limits.{most_wanted_weight}
 use Rattle.ds_space.specs.Spaces.{Rows, changed, has_row}
 use Rattle.ds_space.specs.declared.space.SpaceEvent.TheVariants.{Add}
 use Rattle.ds_space.specs.declared.space.Change.{Change}
@@ -119,8 +120,8 @@ IsGotOrPassed h v old new = (new ≡ with_entry h v old) ⊎ (new ≡ old)
 got-taken_in : (y : Behaviour) (a from h : ℕ) (v : Plain) (t : Turning)
     → IsGotOrPassed h v t.resident.got (taken_in y a from h v t).resident.got
 got-taken_in y a from h v t =
-    one_of (has_row h t.resident.got) (nat_lt 33554432 (y.weight (values_of (changed t.resident.got (Add h v)))))
-    _ _ refl
+    one_of (has_row h t.resident.got)
+    (nat_lt most_wanted_weight (y.weight (values_of (changed t.resident.got (Add h v))))) _ _ refl
     (got-regot y a (with_entry h v t.resident.got) t)
   where
     one_of : (b c : Bool) (s u : Turning) → s.resident.got ≡ t.resident.got
@@ -132,7 +133,7 @@ got-taken_in y a from h v t =
 
 got-passed_on : (ds : List Definition) (from : ℕ) (fs : List Fanned) (t : Turning)
     → (passed_on ds from fs t).resident.got ≡ t.resident.got
-got-passed_on ds from fs t = one_of (nat_lt 33554432 (fanned_weight fs)) _ _ refl refl
+got-passed_on ds from fs t = one_of (nat_lt most_wanted_weight (fanned_weight fs)) _ _ refl refl
   where
     one_of : (b : Bool) (s u : Turning) → s.resident.got ≡ t.resident.got → u.resident.got ≡ t.resident.got
         → (if b then s else u).resident.got ≡ t.resident.got

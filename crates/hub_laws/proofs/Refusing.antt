@@ -16,6 +16,7 @@ use Rattle.ac_world.specs.Worlds.{WorldState, actor_of, entry_of, is_system}
 use Rattle.ac_world.specs.Lemmas.Entries.{put_found, put_other}
 use Rattle.rl_packet.specs.declared.packets.TurnEvent.{TurnEvent}
 use Rattle.rl_ports.specs.Ports.{PortsState}
+use Rattle.hub_machine.specs.Limits.{last_dataspace, most_connections}
 use Rattle.hub_machine.specs.declared.faults.Fault.{Fault}
 use Rattle.hub_machine.specs.State.{State, ports_of, is_there}
 use Rattle.hub_machine.specs.Admission.{Admitted, refused, admitted, admission}
@@ -140,7 +141,7 @@ module _ (s : State) (are_live : AreLive s.world.table) (f : Fault) where
   close_left k (Some ports) is = absurd cc
 
   arrive_left : (space : ℕ) → (arrive_unless (refusal space s) space s).reply ≡ Refused f → ⊥
-  arrive_left space is = by (nat_lt 8 space) s.stopped (nat_le 32 (length s.connections)) is
+  arrive_left space is = by (nat_lt last_dataspace space) s.stopped (nat_le most_connections (length s.connections)) is
     where
       by : (b c d : Bool)
           → (arrive_unless (cond b (Some Barred) (cond c (Some Halted) (cond d (Some Full) None))) space s).reply

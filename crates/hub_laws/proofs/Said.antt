@@ -11,6 +11,7 @@ use Rattle.pv_value.specs.Order.{order}
 use Rattle.pv_value.specs.Sets.{ascending_by}
 use Rattle.dp_pattern.specs.Patterns.{Pattern}
 use Rattle.dp_pattern.specs.Matching.{matched}
+use Rattle.ds_space.specs.Limits.{most_wanted_weight}
 use Rattle.ds_space.specs.Wants.{observer_of, captured}
 use Rattle.ds_space.specs.declared.space.Fanned.{Fanned}
 use Rattle.ds_space.specs.Fans.{fan_for, fan_of, fan_weight}
@@ -108,14 +109,14 @@ fan_told ds b m (o ∷ os) =
 -- ---- a message
 
 passed_says : (ds : List Definition) (from : ℕ) (m : Plain) (t : Turning)
-    → fan_weight (values_of t.resident.got) m ≤ 33554432
+    → fan_weight (values_of t.resident.got) m ≤ most_wanted_weight
     → OnlySays (λ b. messages_over ds b (values_of t.resident.got) m) t.plan (passes_on (dataspace ds) from m t).plan
-passed_says ds from m t light = by (nat_lt 33554432 (fan_weight vs m)) refl
+passed_says ds from m t light = by (nat_lt most_wanted_weight (fan_weight vs m)) refl
   where
     vs : List Plain
     vs = values_of t.resident.got
 
-    by : (c : Bool) → nat_lt 33554432 (fan_weight vs m) ≡ c
+    by : (c : Bool) → nat_lt most_wanted_weight (fan_weight vs m) ≡ c
         → OnlySays (λ b. messages_over ds b vs m) t.plan
         (cond c (spreading (by_message t.plan.table from (fan_weight vs m)) t)
         (record t { plan = say_all ds (fan_of vs m) t.plan })).plan
@@ -157,7 +158,7 @@ say_all_outbox ds (f ∷ fs) p is =
 
 passed_outbox : (ds : List Definition) (from : ℕ) (fs : List Fanned) (t : Turning) → IsOutbox t.plan.out
     → IsOutbox (passed_on ds from fs t).plan.out
-passed_outbox ds from fs t is = by (nat_lt 33554432 (fanned_weight fs))
+passed_outbox ds from fs t is = by (nat_lt most_wanted_weight (fanned_weight fs))
   where
     by : (c : Bool) → IsOutbox
         (cond c (spreading (by_message t.plan.table from (fanned_weight fs)) t)
@@ -167,7 +168,7 @@ passed_outbox ds from fs t is = by (nat_lt 33554432 (fanned_weight fs))
 
 at_space : (a from entity : ℕ) (m : Plain) (w : WorldState) → is_space a ≡ true → is_live a w.table ≡ true
     → first_batch a w.table ≡ Some (record { from = from; events = Message entity m ∷ [] })
-    → fan_weight (values_of (resident_of a w).got) m ≤ 33554432 → (b : ℕ)
+    → fan_weight (values_of (resident_of a w).got) m ≤ most_wanted_weight → (b : ℕ)
     → find_actor b (turn a w).world.table.actors
     ≡ grown a (messages_over w.schema b (values_of (resident_of a w).got) m) (find_actor b (popped a w.table).actors)
 at_space a from entity m w space live first light b = by (is_live a w.table) (first_batch a w.table) live first

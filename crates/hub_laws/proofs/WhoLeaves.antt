@@ -19,6 +19,7 @@ use Rattle.ac_world.specs.Worlds.{actor_of, entry_of, without_entry, is_system, 
 use Rattle.ac_world.specs.Lemmas.Entries.{put_found, put_other}
 use Rattle.rl_packet.specs.declared.packets.TurnEvent.{TurnEvent}
 use Rattle.rl_ports.specs.Ports.{PortsState}
+use Rattle.hub_machine.specs.Limits.{most_deliveries, most_deliveries_weight}
 use Rattle.hub_machine.specs.declared.faults.Fault.{Fault}
 use Rattle.hub_machine.specs.declared.faults.Fault.TheVariants.{Overrun, Spread}
 use Rattle.hub_machine.specs.State.{State, ports_of, is_there}
@@ -46,9 +47,9 @@ use Rattle.hub_laws.proofs.Staying.{taken_by_connection}
 -- ---- the faults for which a step's end ends connections
 
 overrun_is : (l : Load) (f : Fault) → overrun_by l ≡ Some f → IsOverrun f
-overrun_is l f is = by (nat_lt 65536 l.count) (nat_lt 16777216 l.weight) refl refl is
+overrun_is l f is = by (nat_lt most_deliveries l.count) (nat_lt most_deliveries_weight l.weight) refl refl is
   where
-    by : (b c : Bool) → nat_lt 65536 l.count ≡ b → nat_lt 16777216 l.weight ≡ c
+    by : (b c : Bool) → nat_lt most_deliveries l.count ≡ b → nat_lt most_deliveries_weight l.weight ≡ c
         → option_or (cond {A = Option Fault} b (Some (Overrun 1 l.count)) None)
         (cond {A = Option Fault} c (Some (Overrun 2 l.weight)) None) ≡ Some f → IsOverrun f
     by true c many heavy is = let same : Overrun 1 l.count ≡ f = cc in

@@ -11,6 +11,7 @@ use Rattle.ac_table.specs.Sums.{top_load}
 use Rattle.ac_world.specs.Sums.{deliveries}
 use Rattle.ac_world.specs.Turns.{turn}
 use Rattle.ac_world.specs.Worlds.{actor_of, entry_of, is_system}
+use Rattle.hub_machine.specs.Limits.{most_deliveries, most_deliveries_weight}
 use Rattle.hub_machine.specs.declared.faults.Fault.{Fault}
 use Rattle.hub_machine.specs.declared.faults.Fault.TheVariants.{Overrun, Spread}
 use Rattle.hub_machine.specs.Endings.{overrun_by}
@@ -88,7 +89,7 @@ IsSpread xs a f = (w : ℕ) × (is_named xs (record { actor = a; weight = w }) �
 
 -- too much is held and waits
 abbrev pub IsOverrun : Fault → Type 0
-IsOverrun f = (n : ℕ) × (((f ≡ Overrun 1 n) × (65536 < n)) ⊎ ((f ≡ Overrun 2 n) × (16777216 < n)))
+IsOverrun f = (n : ℕ) × (((f ≡ Overrun 1 n) × (most_deliveries < n)) ⊎ ((f ≡ Overrun 2 n) × (most_deliveries_weight < n)))
 
 -- in s too much is held and waits for connection k: it is told what was counted or weighed
 abbrev pub IsOver : ℕ → State → Fault → Type 0

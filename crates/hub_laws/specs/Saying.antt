@@ -8,6 +8,7 @@ use Rattle.pv_value.specs.Sets.{ascending_by}
 use Rattle.ps_schema.specs.declared.Definition.{Definition}
 use Rattle.dp_pattern.specs.Patterns.{Pattern}
 use Rattle.dp_pattern.specs.Matching.{matched}
+use Rattle.ds_space.specs.Limits.{most_wanted_weight}
 use Rattle.ds_space.specs.Wants.{observer_of}
 use Rattle.ds_space.specs.Fans.{fan_weight}
 use Rattle.ac_table.specs.declared.batches.Event.{Event}
@@ -47,7 +48,7 @@ pub record OnlySays (said : ℕ → List Event) (t u : Plan) : Type 0 where
 abbrev pub SaysMessages : Type 0
 SaysMessages =
     ((ds : List Definition) (a from entity : ℕ) (m : Plain) (t : Turning)
-    → fan_weight (values_of t.resident.got) m ≤ 33554432
+    → fan_weight (values_of t.resident.got) m ≤ most_wanted_weight
     → OnlySays (λ b. messages_over ds b (values_of t.resident.got) m) t.plan
     (turned_by (dataspace ds) a from (Message entity m) t).plan)
     × ((ds : List Definition) (bs : List Binding) (a from entity : ℕ) (m : Plain) (t : Turning)
@@ -66,7 +67,7 @@ abbrev pub MessagesArrive : Type 0
 MessagesArrive =
     ((a from entity : ℕ) (m : Plain) (w : WorldState) → is_space a ≡ true → is_live a w.table ≡ true
     → first_batch a w.table ≡ Some (record { from = from; events = Message entity m ∷ [] })
-    → fan_weight (values_of (resident_of a w).got) m ≤ 33554432 → (b : ℕ)
+    → fan_weight (values_of (resident_of a w).got) m ≤ most_wanted_weight → (b : ℕ)
     → find_actor b (turn a w).world.table.actors
     ≡ grown a (messages_over w.schema b (values_of (resident_of a w).got) m)
     (find_actor b (popped a w.table).actors))

@@ -6,6 +6,7 @@ use Rattle.std.proofs.Common.{inl, inr}
 use Rattle.std.proofs.lemmas.Bool.Decides.{nat_tests}
 use Rattle.ac_world.specs.Worlds.{WorldState}
 use Rattle.rl_packet.specs.declared.packets.TurnEvent.{TurnEvent}
+use Rattle.hub_machine.specs.Limits.{most_events}
 use Rattle.hub_machine.specs.Faults.{Fault, Limit}
 use Rattle.rl_ports.specs.Ports.{PortsState}
 use Rattle.hub_machine.specs.State.{State, ports_of}
@@ -60,9 +61,9 @@ is_refused k w (d ∷ ds) e later x f free is =
 
 is_cause : (k : ℕ) (ports : PortsState) (w : WorldState) (es : List TurnEvent) (f : Fault)
     → admission k ports w es ≡ refused f → IsCause k ports w es f
-is_cause k ports w es f is = by (nat_lt 1024 (length es)) refl is
+is_cause k ports w es f is = by (nat_lt most_events (length es)) refl is
   where
-    by : (b : Bool) → nat_lt 1024 (length es) ≡ b
+    by : (b : Bool) → nat_lt most_events (length es) ≡ b
         → unless (cond b (Some (Limit 3 (length es))) None) (all_admitted k w es (before_all k ports w)) ≡ refused f
         → IsCause k ports w es f
     by true many is = let same : f ≡ Limit 3 (length es) = cc in inl (grind (arith, nat_tests, many), same)
@@ -71,11 +72,11 @@ is_cause k ports w es f is = by (nat_lt 1024 (length es)) refl is
 cause_refuses : (k : ℕ) (ports : PortsState) (w : WorldState) (es : List TurnEvent) (f : Fault)
     → IsCause k ports w es f → admission k ports w es ≡ refused f
 cause_refuses k ports w es f (inl c) =
-    let many : nat_lt 1024 (length es) ≡ true = grind (arith, nat_tests, c.0) in
+    let many : nat_lt most_events (length es) ≡ true = grind (arith, nat_tests, c.0) in
     ap (λ b. unless (cond b (Some (Limit 3 (length es))) None) (all_admitted k w es (before_all k ports w))) many
     ∙ ap refused (sym c.1)
 cause_refuses k ports w es f (inr c) =
-    let few : nat_lt 1024 (length es) ≡ false = grind (arith, nat_tests, c.0) in
+    let few : nat_lt most_events (length es) ≡ false = grind (arith, nat_tests, c.0) in
     ap (λ b. unless (cond b (Some (Limit 3 (length es))) None) (all_admitted k w es (before_all k ports w))) few
     ∙ (ap (λ ds. all_admitted k w ds (before_all k ports w)) c.1.are
     ∙ is_refused k w c.1.before c.1.event c.1.later (before_all k ports w) f c.1.free c.1.cause)

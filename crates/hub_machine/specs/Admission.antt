@@ -23,6 +23,7 @@ use Rattle.sr_pass.specs.Passing.{passed}
 use Rattle.rl_wire.specs.Crossing.{crossed_in, fault_in}
 use Rattle.rl_wire.specs.declared.faults.WireFault.{WireFault}
 use Rattle.rl_wire.specs.declared.faults.WireFault.TheVariants as wire
+use Rattle.hub_machine.specs.Limits.{most_events, most_handles, most_rows_weight, most_backlog, most_backlog_weight}
 use Rattle.hub_machine.specs.Faults.{Fault, UnknownOid, HandleInUse, UnknownHandle, Limit, ◌<|>◌, where_it_is, over}
 use Rattle.rl_ports.specs.declared.ports.Inbound.{Inbound}
 use Rattle.rl_ports.specs.declared.ports.Inbound.TheVariants.{Row, Refused}
@@ -96,7 +97,7 @@ abbrev pub let_through : WorldState → Cap → Plain → Option Plain
 let_through w to v = passed w.schema to.caveats v
 
 abbrev pub load_cause : Load → Option Fault
-load_cause l = over 65536 10 l.count <|> over 16777216 11 l.weight
+load_cause l = over most_backlog 10 l.count <|> over most_backlog_weight 11 l.weight
 
 abbrev pub handle_cause : ℕ → Admitting → Option Fault
 handle_cause h x = where_it_is (is_in_use h x.ports) (HandleInUse h)
@@ -105,13 +106,13 @@ handle_cause h x = where_it_is (is_in_use h x.ports) (HandleInUse h)
 abbrev pub row_cause : WorldState → Cap → Option Plain → Admitting → Option Fault
 row_cause w to None x = None
 row_cause w to (Some v) x =
-    over 4194304 5 (rows_with (weighed v) x) <|> load_cause (load_with w to (weighed v) x)
+    over most_rows_weight 5 (rows_with (weighed v) x) <|> load_cause (load_with w to (weighed v) x)
 
 abbrev pub assertion_cause : ℕ → WorldState → Cap → Plain → ℕ → Admitting → Option Fault
 assertion_cause k w to v h x =
     value_cause k v x
     <|> handle_cause h x
-    <|> over 4096 4 (top (length x.ports.handles + 1))
+    <|> over most_handles 4 (top (length x.ports.handles + 1))
     <|> row_cause w to (let_through w to (kept k v x)) x
 
 abbrev pub retraction_cause : ℕ → Admitting → Option Fault
@@ -218,4 +219,4 @@ all_admitted k w (e ∷ es) x = unless (cause_of k w e x) (all_admitted k w es (
 
 -- the number of events is looked at first
 abbrev pub admission : ℕ → PortsState → WorldState → List TurnEvent → Admitted
-admission k ports w es = unless (over 1024 3 (length es)) (all_admitted k w es (before_all k ports w))
+admission k ports w es = unless (over most_events 3 (length es)) (all_admitted k w es (before_all k ports w))

@@ -3,6 +3,7 @@
 use Rattle.std.specs.Prelude.{◌≡◌, ◌↔◌, ℕ, ◌<◌, ◌≤◌, ◌⊎◌, List, [], ◌∷◌, ◌++◌, false, length, Some, None}
 use Rattle.ac_world.specs.Worlds.{WorldState}
 use Rattle.rl_packet.specs.declared.packets.TurnEvent.{TurnEvent}
+use Rattle.hub_machine.specs.Limits.{most_events}
 use Rattle.hub_machine.specs.Faults.{Fault, Limit}
 use Rattle.rl_ports.specs.Ports.{PortsState}
 use Rattle.hub_machine.specs.State.{State, ports_of}
@@ -32,8 +33,8 @@ pub record IsFirstCause (k : ℕ) (w : WorldState) (es : List TurnEvent) (x : Ad
 
 abbrev pub IsCause : ℕ → PortsState → WorldState → List TurnEvent → Fault → Type 0
 IsCause k ports w es f =
-    ((1024 < length es) × (f ≡ Limit 3 (length es)))
-    ⊎ ((length es ≤ 1024) × IsFirstCause k w es (before_all k ports w) f)
+    ((most_events < length es) × (f ≡ Limit 3 (length es)))
+    ⊎ ((length es ≤ most_events) × IsFirstCause k w es (before_all k ports w) f)
 
 -- a packet of a live connection is refused for exactly its cause
 abbrev pub RefusedForItsCause : Type 0

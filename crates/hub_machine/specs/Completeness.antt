@@ -2,6 +2,7 @@
 -- handles are right; and that a turn takes exactly the first batch.
 use Rattle.std.specs.Prelude.{◌≡◌, ℕ, ◌+◌, ◌-◌, ◌≤◌, List, [], ◌∷◌, Bool, true, false, length, Option, Some, None}
 use Rattle.pv_value.specs.Plain.{Plain}
+use Rattle.sr_caveat.specs.Limits.{value_weight, value_depth}
 use Rattle.sr_caveat.specs.declared.caps.Cap.{Cap}
 use Rattle.ac_table.specs.declared.batches.Batch.{Batch}
 use Rattle.ac_table.specs.Tables.{first_batch}
@@ -12,6 +13,7 @@ use Rattle.rl_packet.specs.declared.packets.Event.TheVariants.{Assert, Retract, 
 use Rattle.rl_packet.specs.declared.packets.TurnEvent.{TurnEvent}
 use Rattle.rl_ports.specs.Ports.{PortsState, is_in_use}
 use Rattle.rl_wire.specs.Crossing.{held_in, first_fault, nested}
+use Rattle.hub_machine.specs.Limits.{most_events, most_handles, most_rows_weight, most_backlog, most_backlog_weight}
 use Rattle.hub_machine.specs.Faults.{Fault}
 use Rattle.hub_machine.specs.State.{State, ports_of}
 use Rattle.hub_machine.specs.Admission.{Admitting, before_all, after, kept, weighed, rows_with, load_with, inside}
@@ -25,10 +27,10 @@ use Rattle.hub_machine.specs.declared.steps.Reply.TheVariants.{Refused, Ran, Tak
 -- ---- packets
 
 abbrev pub IsLight : Plain → Type 0
-IsLight v = (weighed v ≤ 1048576) × (nested v ≤ 48)
+IsLight v = (weighed v ≤ value_weight) × (nested v ≤ value_depth)
 
 abbrev pub MayWait : Load → Type 0
-MayWait l = (l.count ≤ 65536) × (l.weight ≤ 16777216)
+MayWait l = (l.count ≤ most_backlog) × (l.weight ≤ most_backlog_weight)
 
 -- each export that it names is there, no reference in it has too many caveats or is too heavy, and as the server keeps
 -- it the value is neither too heavy nor too deep
@@ -38,11 +40,11 @@ IsFineValue k v x = (first_fault x.ports.exports (held_in v) ≡ None) × IsLigh
 -- the row is light enough and may wait; where the caveats refuse the value there is none
 abbrev pub IsFineRow : WorldState → Cap → Option Plain → Admitting → Type 0
 IsFineRow w to None x = Unit {0}
-IsFineRow w to (Some v) x = (rows_with (weighed v) x ≤ 4194304) × MayWait (load_with w to (weighed v) x)
+IsFineRow w to (Some v) x = (rows_with (weighed v) x ≤ most_rows_weight) × MayWait (load_with w to (weighed v) x)
 
 abbrev pub IsFineAssertion : ℕ → WorldState → Cap → Plain → ℕ → Admitting → Type 0
 IsFineAssertion k w to v h x =
-    IsFineValue k v x × (is_in_use h x.ports ≡ false) × (length x.ports.handles + 1 ≤ 4096)
+    IsFineValue k v x × (is_in_use h x.ports ≡ false) × (length x.ports.handles + 1 ≤ most_handles)
     × IsFineRow w to (let_through w to (kept k v x)) x
 
 abbrev pub IsFineMessage : WorldState → Cap → Option Plain → Admitting → Type 0
@@ -69,7 +71,7 @@ AreFine k w (e ∷ es) x = IsFineAt k w (cap_at e.oid x.ports) e.event x × AreF
 
 abbrev pub IsFineFor : ℕ → Option PortsState → List TurnEvent → State → Type 0
 IsFineFor k None es s = ⊥
-IsFineFor k (Some ports) es s = (length es ≤ 1024) × AreFine k s.world es (before_all k ports s.world)
+IsFineFor k (Some ports) es s = (length es ≤ most_events) × AreFine k s.world es (before_all k ports s.world)
 
 abbrev pub IsFinePacket : ℕ → List TurnEvent → State → Type 0
 IsFinePacket k es s = IsFineFor k (ports_of k s) es s

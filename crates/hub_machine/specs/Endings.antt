@@ -6,6 +6,7 @@ use Rattle.ac_table.specs.declared.loads.Load.{Load}
 use Rattle.ac_table.specs.Sums.{top_load}
 use Rattle.ac_world.specs.Sums.{deliveries}
 use Rattle.ac_world.specs.Worlds.{ended_of, actor_of, with_entry, without_entry}
+use Rattle.hub_machine.specs.Limits.{most_deliveries, most_deliveries_weight}
 use Rattle.hub_machine.specs.Faults.{Fault, Spread, ◌<|>◌, overrun}
 use Rattle.hub_machine.specs.State.{State, is_there}
 
@@ -45,7 +46,7 @@ all_spread_out (x ∷ xs) s = all_spread_out xs (spread_out x s)
 -- ---- then each live connection for which too much is held and waits, ascending
 
 abbrev pub overrun_by : Load → Option Fault
-overrun_by l = overrun 65536 1 l.count <|> overrun 16777216 2 l.weight
+overrun_by l = overrun most_deliveries 1 l.count <|> overrun most_deliveries_weight 2 l.weight
 
 abbrev pub overrun_of : ℕ → State → Option Fault
 overrun_of k s = if is_there k s then overrun_by (top_load (deliveries (actor_of k) s.world)) else None

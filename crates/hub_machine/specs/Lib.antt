@@ -5,6 +5,7 @@ pub mod Endings
 pub mod Faults
 pub mod Laws
 pub mod Lemmas
+pub mod Limits
 pub mod Machine
 pub mod Replays
 pub mod State

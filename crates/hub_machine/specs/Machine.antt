@@ -25,6 +25,7 @@ use Rattle.rl_ports.specs.declared.ports.PortsFault.{PortsFault}
 use Rattle.rl_ports.specs.declared.ports.PortsFault.TheVariants.{Exports, Weight, NoMemory}
 use Rattle.rl_ports.specs.Ports.{PortsState, ports_to, with_exports}
 use Rattle.rl_wire.specs.Crossing.{crossed_out, foreign_in, all_exported, fault_out}
+use Rattle.hub_machine.specs.Limits.{most_connections, last_dataspace, worn_handle, worn_connections}
 use Rattle.hub_machine.specs.Faults.{Fault, Overrun, error_of}
 use Rattle.rl_packet.specs.Wired.{IsTurnEvent}
 use Rattle.std.specs.List.{AllByRecursion}
@@ -82,8 +83,8 @@ opened space s = record s {
 -- why none comes
 abbrev pub refusal : ℕ → State → Option Reply
 refusal space s =
-    if nat_lt 8 space then Some Barred
-    else if s.stopped then Some Halted else if nat_le 32 (length s.connections) then Some Full else None
+    if nat_lt last_dataspace space then Some Barred
+    else if s.stopped then Some Halted else if nat_le most_connections (length s.connections) then Some Full else None
 
 abbrev pub arrive_unless : Option Reply → ℕ → State → After
 arrive_unless (Some r) space s = unchanged s r
@@ -203,8 +204,8 @@ work_by (Some a) s = if is_system a then turn_of a s else rest s
 
 -- the numbers are used up: handles, or for an arrival those of connections
 abbrev pub is_worn : State → Step → Bool
-is_worn s (Arrive space) = nat_le (2 ^ 62) s.world.table.next || nat_le (2 ^ 31) s.world.opened
-is_worn s e = nat_le (2 ^ 62) s.world.table.next
+is_worn s (Arrive space) = nat_le worn_handle s.world.table.next || nat_le worn_connections s.world.opened
+is_worn s e = nat_le worn_handle s.world.table.next
 
 abbrev pub done : State → Step → After
 done s (Bind b) = bind_unless (is_barred b s) b s

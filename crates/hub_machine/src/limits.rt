@@ -1,4 +1,10 @@
 //! The limits. Each is the most that is taken; one more is refused, or ends the connection.
+ghost use Rattle.std.specs.Prelude.{◌≡◌};
+ghost use Rattle.hub_machine.specs.Limits.{most_events, most_handles, most_rows_weight};
+ghost use Rattle.hub_machine.specs.Limits.{most_backlog, most_backlog_weight};
+ghost use Rattle.hub_machine.specs.Limits.{most_deliveries, most_deliveries_weight};
+ghost use Rattle.hub_machine.specs.Limits.{most_connections, last_dataspace};
+ghost use Rattle.hub_machine.specs.Limits.{worn_handle, worn_connections};
 
 pub use ds_space::WANTED_WEIGHT;
 
@@ -34,3 +40,18 @@ pub const WORN_HANDLE: u64 = 1 << 62;
 
 /// No connection comes where so many were opened.
 pub const WORN_CONNECTIONS: u32 = 1 << 31;
+
+/// These are the limits that the definitions have.
+pub fn limits_are_as_defined()
+    ensures events { TURN_EVENTS ≡ most_events }
+    ensures handles { HANDLES ≡ most_handles }
+    ensures rows { ROWS_WEIGHT ≡ most_rows_weight }
+    ensures backlog { BACKLOG ≡ most_backlog }
+    ensures backlog_weight { BACKLOG_WEIGHT ≡ most_backlog_weight }
+    ensures deliveries { DELIVERIES ≡ most_deliveries }
+    ensures deliveries_weight { DELIVERIES_WEIGHT ≡ most_deliveries_weight }
+    ensures connections { CONNECTIONS ≡ most_connections }
+    ensures dataspaces { DATASPACES ≡ last_dataspace }
+    ensures handle { WORN_HANDLE ≡ worn_handle }
+    ensures opened { WORN_CONNECTIONS ≡ worn_connections }
+{}

@@ -4,6 +4,7 @@ ghost use Rattle.rl_wire.specs.Crossing.{fault_out};
 ghost use Rattle.hub_machine.specs.Machine.{sent_event, told_value, foreign_told};
 ghost use Rattle.hub_packets.specs.Refusals.{IsWhyRefused};
 ghost use Rattle.hub_packets.specs.Telling.{foreign_among, ports_after, export_cause};
+ghost use Rattle.rl_ports.specs.Limits.{most_exports};
 
 use crate::refusals::Refusal;
 use ac_table::{BatchEvents, Event as Told};
@@ -66,7 +67,7 @@ pub fn all_to_send(
         (λ sent. sent.items ≡ map (sent_event ports.new.exports connection) events) }
     ensures exports { OnOk result
         (ports.new ≡ ports_after (foreign_among connection events) ports.old) }
-    ensures few { OnOk result (length ports.new.exports ≤ 4096) }
+    ensures few { OnOk result (length ports.new.exports ≤ most_exports) }
     ensures free { OnOk result
         (fault_out ports.old.exports (foreign_among connection events) ≡ None) }
     ensures cause { IfErr result

@@ -10,6 +10,7 @@ use Rattle.ac_world.specs.Turns.{turn}
 use Rattle.ac_world.specs.declared.turns.Turned.TheVariants as turned
 use Rattle.rl_packet.specs.declared.packets.TurnEvent.{TurnEvent}
 use Rattle.rl_packet.specs.Wired.{IsTurnEvent}
+use Rattle.rl_ports.specs.Limits.{most_exports}
 use Rattle.rl_ports.specs.Ports.{PortsState}
 use Rattle.sr_caveat.specs.declared.caps.Cap.{Cap}
 use Rattle.sr_caveat.specs.Caps.{cap_of, IsSound}
@@ -74,4 +75,4 @@ ExportingIsValid =
 abbrev pub SentIsSound : Type 0
 SentIsSound =
     (n next k : ℕ) (exports : List Plain) (b : Batch) → IsValidBatch n next b → next ≤ 2 ^ 63
-    → length exports ≤ 4096 → AllByRecursion IsTurnEvent (map (sent_event exports k) b.events)
+    → length exports ≤ most_exports → AllByRecursion IsTurnEvent (map (sent_event exports k) b.events)

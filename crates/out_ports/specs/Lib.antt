@@ -1,4 +1,5 @@
 pub mod Calls
+pub mod Limits
 pub mod MemHost
 pub mod MemListen
 pub mod MemSink

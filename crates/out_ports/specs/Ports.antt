@@ -4,6 +4,7 @@ use Rattle.std.specs.Prelude.{◌≡◌, ℕ, ◌+◌, ◌-◌, ◌^◌, ◌<◌
 use Rattle.std.specs.Prelude.{List, [], ◌∷◌, ◌++◌, length, take, drop, Option, None, Some, IfSome}
 use Rattle.std.specs.Str.{bytes_eq}
 use Rattle.std.specs.Option.{option_map}
+use Rattle.out_ports.specs.Limits.{most_read}
 use Rattle.out_ports.specs.declared.ports.Took.{Took}
 use Rattle.out_ports.specs.declared.ports.Took.TheVariants as took
 use Rattle.out_ports.specs.declared.ports.Put.{Put}
@@ -103,7 +104,7 @@ contents_of name (file ∷ files) = if bytes_eq file.0 name then Some file.1 els
 
 -- the bytes of a file that a host gives: all, or the first 1,048,577
 unfoldable pub file_front : List ℕ → List ℕ
-file_front bytes = take 1048577 bytes
+file_front bytes = take most_read bytes
 
 -- the bytes are the front of the file of that name, where the files are told
 abbrev pub IsFile : Option (List (List ℕ × List ℕ)) → List ℕ → List ℕ → Type 0

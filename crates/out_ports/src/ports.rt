@@ -6,6 +6,7 @@
 //! spawner took is told by some and not by others.
 ghost use Rattle.std.specs.Prelude.{◌≡◌, ℕ, ◌<◌, ◌≤◌, Bool, false, ⊤, List, length, Option};
 ghost use Rattle.std.specs.Prelude.{vec_len, IfOk, IsErrOf, OnOk, OnErr};
+ghost use Rattle.out_ports.specs.Limits.{most_read};
 ghost use Rattle.out_ports.specs.declared.ports.HostFault.TheVariants.{NoMemory};
 ghost use Rattle.out_ports.specs.Ports.{raised, Rose, FitsBuffer, IsTaken, given_after};
 ghost use Rattle.out_ports.specs.Ports.{ended_after, FitsPiece, IsPut, gave_after, stops_after};
@@ -184,7 +185,7 @@ pub trait Host: Listen {
 
     /// The first [`FILE_READ`] bytes of a file.
     fn file(&mut self, alloc: Global, name: &str) -> Result<Vec<u8>, HostFault>
-        ensures size { IfOk result (λ bytes. vec_len bytes ≤ 1048577) }
+        ensures size { IfOk result (λ bytes. vec_len bytes ≤ most_read) }
         ensures content { IfOk result (λ bytes. IsFile (Self.files self.old) name.now bytes.items) }
         ensures cause { IsErrOf result HostFault.Failed →
             Rose (Self.file_faults self.old) (Self.file_faults self.new) }

@@ -2,6 +2,7 @@
 ghost use Rattle.std.specs.Prelude.{◌≡◌, ◌≤◌, None, take, IfOk, IfSome, IsErrOf, vec_len};
 ghost use Rattle.std.specs.Option.{option_map};
 ghost use Rattle.std.specs.String.{string_bytes};
+ghost use Rattle.out_ports.specs.Limits.{most_read};
 ghost use Rattle.out_ports.specs.Ports.{raised, Rose};
 ghost use Rattle.out_ports.specs.declared.ports.HostFault.TheVariants as fault;
 
@@ -145,8 +146,8 @@ impl<'a, Rt: Files + Net<Listener = TcpListener, Stream = TcpStream>> Host for R
 /// The first bytes of a file, as many as are read of one, or all where it has fewer.
 fn front_of<I: Source>(alloc: Global, file: &mut I) -> Result<Vec<u8>, HostFault>
     ensures content { IfOk result (λ front. IfSome (I.left file.old) (λ bytes.
-        front.items ≡ take 1048577 bytes)) }
-    ensures size { IfOk result (λ front. vec_len front ≤ 1048577) }
+        front.items ≡ take most_read bytes)) }
+    ensures size { IfOk result (λ front. vec_len front ≤ most_read) }
     ensures cause { IsErrOf result fault.Failed → Rose (I.faults file.old) (I.faults file.new) }
 {
     match read_front(alloc, file, FILE_READ) {

@@ -9,6 +9,8 @@ use Rattle.dp_pattern.specs.Written.{pattern_of}
 use Rattle.sr_caveat.specs.Caps.{Cap, IsSound, caveats_from}
 use Rattle.sr_caveat.specs.Embedded.{has_embedded, any_embedded}
 use Rattle.gk_sturdy.specs.declared.bound.Binding.{Binding}
+use Rattle.hub_machine.specs.Limits.{last_dataspace}
+use Rattle.sc_events.specs.Limits.{most_drain}
 pub use Rattle.sc_events.specs.declared.events.ScriptEvent.{ScriptEvent}
 pub use Rattle.sc_events.specs.declared.events.ScriptEvent.TheVariants.{Bind, Open, Bytes, Close, Turn, Drain, LongDrain}
 pub use Rattle.sc_events.specs.declared.events.ScriptEvent.TheVariants.{Schema, Unbuilt}
@@ -26,11 +28,11 @@ name_in v = number_below (2 ^ 32) v
 
 -- the gatekeeper, 0, or a dataspace
 abbrev pub arrival_in : Plain → Option ℕ
-arrival_in v = number_below 9 v
+arrival_in v = number_below (suc last_dataspace) v
 
 -- a dataspace
 abbrev pub space_in : Plain → Option ℕ
-space_in (integer (pos (suc n))) = if nat_lt n 8 then Some (suc n) else None
+space_in (integer (pos (suc n))) = if nat_lt n last_dataspace then Some (suc n) else None
 space_in v = None
 
 -- ---- events with one field
@@ -47,7 +49,7 @@ turn_event v = option_map Turn (name_in v)
 
 -- `<drain n>`, n up to 1,000,000, or more
 abbrev pub drain_event : Plain → Option ScriptEvent
-drain_event (integer (pos n)) = if nat_le n 1000000 then Some (Drain n) else Some LongDrain
+drain_event (integer (pos n)) = if nat_le n most_drain then Some (Drain n) else Some LongDrain
 drain_event v = None
 
 -- `<schema text>`

@@ -10,13 +10,11 @@ ghost use Rattle.sc_events.specs.Events.{event_of_record, event_of};
 
 use dp_pattern::parse;
 use gk_sturdy::Binding;
+use hub_machine::DATASPACES;
 use pv_value::{Blob, NoMemory, Node, Text, Value};
 use pv_words::worded;
 use sr_caveat::{Cap, Caveats, has_embedded, parse_caveat};
 use std::alloc::Global;
-
-/// Dataspaces have the numbers from 1 to this.
-const DATASPACES: i128 = 8;
 
 /// The most turns of one drain.
 const DRAIN_TURNS: i128 = 1_000_000;
@@ -59,7 +57,7 @@ fn arrival_in(value: &Value) -> Option<u8>
     ensures { result ≡ arrival_in value.now }
 {
     match &value.node {
-        Node::Int(n) if *n >= 0 && *n <= DATASPACES => Some(*n as u8),
+        Node::Int(n) if *n >= 0 && *n <= i128::from(DATASPACES) => Some(*n as u8),
         _ => None,
     }
 }
@@ -69,7 +67,7 @@ fn space_in(value: &Value) -> Option<u8>
     ensures { result ≡ space_in value.now }
 {
     match &value.node {
-        Node::Int(n) if *n >= 1 && *n <= DATASPACES => Some(*n as u8),
+        Node::Int(n) if *n >= 1 && *n <= i128::from(DATASPACES) => Some(*n as u8),
         _ => None,
     }
 }

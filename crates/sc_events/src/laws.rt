@@ -1,12 +1,14 @@
-//! The law of inputs.
+//! The laws of inputs.
 ghost use Rattle.std.specs.Prelude.{◌≡◌, ℕ, Bool, List, ◌++◌};
 ghost use Rattle.pv_value.specs.Plain.{Plain};
 ghost use Rattle.pv_binary.specs.OneOfThree.{AreBytes};
+ghost use Rattle.sc_events.specs.Limits.{most_input};
 ghost use Rattle.sc_events.specs.declared.inputs.Form.{Form};
 ghost use Rattle.sc_events.specs.Readings.{AreReadAs};
 ghost use Rattle.sc_events.specs.SoFar.{AreSoFar};
 ghost use Rattle.sc_events.specs.declared.inputs.Values.{Values};
 
+use crate::inputs::INPUT_BYTES;
 use pv_binary::{one_of_three, spellings_are_unique};
 use pv_text::texts_are_read_one_way;
 
@@ -25,3 +27,8 @@ pub fn one_reading()
     one_of_three();
     texts_are_read_one_way();
 }
+
+/// The limit is the one that the definitions have.
+pub fn limit_is_as_defined()
+    ensures { INPUT_BYTES ≡ most_input }
+{}

@@ -11,4 +11,4 @@ mod laws;
 
 pub use events::{ScriptEvent, event_of, reference_to};
 pub use inputs::{Form, INPUT_BYTES, NextFault, Values};
-pub use laws::one_reading;
+pub use laws::{limit_is_as_defined, one_reading};

@@ -6,6 +6,7 @@ use Rattle.pv_words.specs.Words.{labelled, number}
 use Rattle.rl_packet.specs.Wired.{is_wired, IsTurnEvent}
 use Rattle.rl_packet.specs.declared.packets.Event.TheVariants.{Assert}
 use Rattle.rl_packet.specs.declared.packets.TurnEvent.{TurnEvent}
+use Rattle.sc_load.specs.Limits.{most_items}
 use Rattle.sc_load.specs.Loads.{next, after, given, loads, events_of}
 use Rattle.sc_load.proofs.Wiring.{one_more}
 
@@ -32,7 +33,7 @@ loaded_more start i k x v es drawn is before =
     λ j. before j ++ asserted (load j) (i + k) ∷ [] in
     let one : suc k ≡ k + 1 = omega arith in all ∙ ap (events_of (loads start) i) one
 
-pub may_more : (i d : ℕ) (v : Plain) (es : List TurnEvent) → i ≤ 20000 → v ≡ load_of i d
+pub may_more : (i d : ℕ) (v : Plain) (es : List TurnEvent) → i ≤ most_items → v ≡ load_of i d
     → AllByRecursion IsTurnEvent es → AllByRecursion IsTurnEvent (es ++ asserted v i ∷ [])
 may_more i d v es few is all =
     let wired : is_wired v ≡ true = ap is_wired is in

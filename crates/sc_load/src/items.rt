@@ -3,6 +3,7 @@ ghost use Rattle.std.specs.Prelude.{◌≡◌, ◌+◌, ◌≤◌, [], ◌∷◌
 ghost use Rattle.pv_value.specs.Plain.{plains, pairs, dictionary, sequence, embedded};
 ghost use Rattle.pv_value.specs.View.{key_and_value};
 ghost use Rattle.pv_words.specs.Words.{labelled, number};
+ghost use Rattle.sc_load.specs.Limits.{most_items};
 ghost use Rattle.sc_load.specs.Loads.{fields_of, pattern_of, own_object, observation};
 ghost use Rattle.sc_load.specs.Loads.{observes, loads, events_of, after, given};
 
@@ -85,7 +86,7 @@ fn own_object(alloc: Global, object: u64) -> Result<Value, NoMemory>
 
 /// What observes an item.
 fn observation(alloc: Global, item: u64) -> Result<Value, NoMemory>
-    requires { item ≤ 20000 }
+    requires { item ≤ most_items }
     ensures { IfOk result (λ v. v ≡ observation item) }
 {
     let pattern = pattern_of(alloc, item)?;
@@ -94,7 +95,7 @@ fn observation(alloc: Global, item: u64) -> Result<Value, NoMemory>
 
 /// The observations of so many items, from one on.
 pub(crate) fn observations(alloc: Global, first: u64, count: u64) -> Result<Turn, NoMemory>
-    requires { first + count ≤ 20000 }
+    requires { first + count ≤ most_items }
     ensures { IfOk result (λ turn. turn ≡ events_of observes first count) }
 {
     let mut events = Vec::new(alloc);
@@ -113,7 +114,7 @@ pub(crate) fn loads(
     first: u64,
     count: u64,
 ) -> Result<Turn, NoMemory>
-    requires { first + count ≤ 20000 }
+    requires { first + count ≤ most_items }
     ensures turn { IfOk result (λ turn. (start : ℕ) → draws.old.number ≡ after start first
         → turn ≡ events_of (loads start) first count) }
     ensures draws { IfOk result (λ turn. (start : ℕ) → draws.old.number ≡ after start first

@@ -4,6 +4,7 @@ ghost use Rattle.std.specs.Prelude.{IfOk, OnOk};
 ghost use Rattle.std.specs.List.{flat_map};
 ghost use Rattle.pv_value.specs.Plain.{Plain};
 ghost use Rattle.pv_binary.specs.Written.{written};
+ghost use Rattle.sc_load.specs.Limits.{most_items};
 ghost use Rattle.sc_load.specs.Loads.{observes, loads, opens, bytes_event, sent_by};
 ghost use Rattle.sc_load.specs.Loads.{all_turns, load_bytes};
 
@@ -56,7 +57,7 @@ fn send(alloc: Global, script: &mut Vec<u8>, connection: u64, turn: Turn) -> Res
 
 /// Of `n` items all are observed.
 fn observe_all(alloc: Global, script: &mut Vec<u8>, n: u64) -> Result<(), NoMemory>
-    requires { n ≤ 20000 }
+    requires { n ≤ most_items }
     ensures { OnOk result (script.new.items
         ≡ script.old.items ++ flat_map written (all_turns observes n)) }
 {
@@ -70,7 +71,7 @@ fn observe_all(alloc: Global, script: &mut Vec<u8>, n: u64) -> Result<(), NoMemo
 
 /// Of `n` items each asserts what it drew.
 fn load_all(alloc: Global, script: &mut Vec<u8>, start: u64, n: u64) -> Result<(), NoMemory>
-    requires { n ≤ 20000 }
+    requires { n ≤ most_items }
     ensures { OnOk result (script.new.items
         ≡ script.old.items ++ flat_map written (all_turns (loads start) n)) }
 {
@@ -87,7 +88,7 @@ fn load_all(alloc: Global, script: &mut Vec<u8>, start: u64, n: u64) -> Result<(
 /// it is held as values at a time.
 pub fn load_script(alloc: Global, start: u64, n: u32) -> Result<Blob, NoMemory>
     requires some { 1 ≤ n }
-    requires few { n ≤ 20000 }
+    requires few { n ≤ most_items }
     ensures { IfOk result (λ bytes. bytes ≡ load_bytes start n) }
 {
     let n = u64::from(n);

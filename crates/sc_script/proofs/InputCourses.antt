@@ -4,6 +4,7 @@ use Rattle.std.proofs.Common.{inr, sym, subst}
 use Rattle.pv_value.specs.Plain.{Plain}
 use Rattle.ps_schema.specs.declared.Definition.{Definition}
 use Rattle.rl_stream.specs.Nexts.{Decider, Decides}
+use Rattle.sc_events.specs.Limits.{most_input}
 use Rattle.sc_events.specs.declared.inputs.Form.{Form}
 use Rattle.sc_events.specs.declared.inputs.Values.{Values}
 use Rattle.sc_events.specs.Events.{event_of}
@@ -31,14 +32,14 @@ IsDone form bytes place values s = input.IsDone by form bytes place values (λ r
 
 module _ (form : Form) (bytes : List ℕ) where
   -- no value is there
-  pub none_there : (s : RunState) → length bytes ≤ 67108864 → AreReadAs form bytes [] true → IsAt (beginning []) s
+  pub none_there : (s : RunState) → length bytes ≤ most_input → AreReadAs form bytes [] true → IsAt (beginning []) s
       → RanAs form bytes s
   none_there s short read at N d = (beginning [], inr (short, input.none_there by form bytes read (N, d)), at)
 
-  pub none_read : length bytes ≤ 67108864 → AreReadAs form bytes [] false → StopsAt form bytes (fault.Bad 0)
+  pub none_read : length bytes ≤ most_input → AreReadAs form bytes [] false → StopsAt form bytes (fault.Bad 0)
   none_read short read N d = inr (short, input.none_read by form bytes read (N, d))
 
-  stopped : length bytes ≤ 67108864 → (o : Option Cause) → input.StopsWith by form bytes o → StopsWith form bytes o
+  stopped : length bytes ≤ most_input → (o : Option Cause) → input.StopsWith by form bytes o → StopsWith form bytes o
   stopped short None stop = tt
   stopped short (Some c) stop = λ N d. inr (short, stop (N, d))
 
@@ -53,7 +54,7 @@ module _ (form : Form) (bytes : List ℕ) where
           (λ i. one i.0 i.1)
 
     -- the input is read on in some way
-    module _ (short : length bytes ≤ 67108864)
+    module _ (short : length bytes ≤ most_input)
         (on : (ws : List Plain) × (whole : Bool) × AreReadAs form bytes (v ∷ ws) whole) where
       first_refused : IsVerdict (text_in (event_of v)) None → StopsAt form bytes (fault.Schema 0)
       first_refused refused N d = inr (short, input.first_refused by form bytes values v read on refused (N, d))
@@ -95,7 +96,7 @@ module _ (form : Form) (bytes : List ℕ) where
         input.one_done by form bytes n values next (λ r. IsAt r s) v done read (λ r. IsAt r now) (λ i. one i.0 i.1)
 
     -- the input is read on in some way
-    module _ (short : length bytes ≤ 67108864)
+    module _ (short : length bytes ≤ most_input)
         (on : (vs : List Plain) → AreSoFar form bytes vs next
         → (ws : List Plain) × (whole : Bool) × AreReadAs form bytes (vs ++ ws) whole) where
       pub one_stops : (f : ScriptFault) → StopsAs s (λ N. after_value (doing N) n (event_of v)) f
@@ -106,7 +107,7 @@ module _ (form : Form) (bytes : List ℕ) where
 
   -- no value is left
   module _ (n : ℕ) (values : Values) (s : RunState) (done : IsDone form bytes n values s)
-      (short : length bytes ≤ 67108864) where
+      (short : length bytes ≤ most_input) where
     pub all_done : ((vs : List Plain) → AreSoFar form bytes vs values → AreReadAs form bytes vs true)
         → RanAs form bytes s
     all_done read N d =

@@ -2,6 +2,7 @@
 use Rattle.std.proofs.Common.{◌≡◌, ℕ, ◌+◌, ◌≤◌, min, Option, arith}
 use Rattle.rl_packet.specs.declared.packets.Packet.{Packet}
 use Rattle.hub_outs.specs.Outs.{kept}
+use Rattle.sc_script.specs.Limits.{most_sent}
 use Rattle.sc_script.specs.Keeping.{RunState, noted, size_of}
 
 pub noted_by : (a : Option ℕ) (p : Packet) (s now : RunState) → now.state ≡ s.state → now.outs ≡ kept a p s.outs
@@ -10,5 +11,5 @@ noted_by a p s now by_state by_outs by_size by_streams =
     λ i. record { state = by_state i; outs = by_outs i; size = by_size i; streams = by_streams i }
 
 pub sum_of : {a b m sum : ℕ} (n : ℕ) → a ≡ b → m ≡ min n 18446744073709551615 → sum ≡ min (a + m) 18446744073709551615
-    → sum ≤ 268435456 → sum ≡ b + n
+    → sum ≤ most_sent → sum ≡ b + n
 sum_of n before one is few = omega arith

@@ -16,6 +16,7 @@ use Rattle.hub_machine.specs.declared.steps.Step.TheVariants.{Bind}
 use Rattle.hub_machine.specs.declared.steps.Reply.{Reply}
 use Rattle.hub_machine.specs.declared.steps.Reply.TheVariants.{Worn, Barred, Halted, Full, Opened, Gone, Refused, Idle}
 use Rattle.hub_machine.specs.declared.steps.Reply.TheVariants.{Sent, Ran, Taken}
+use Rattle.sc_script.specs.Limits.{most_sent}
 use Rattle.sc_script.specs.declared.faults.ScriptFault.{ScriptFault}
 use Rattle.sc_script.specs.declared.faults.ScriptFault.TheVariants as fault
 use Rattle.sc_script.specs.Runs.{Running, Course, goes, stops, limit, by_reply, stepped, with_step, bound_by, binds}
@@ -47,14 +48,14 @@ quiet Taken worn full sent = (λ r. refl, refl)
 
 -- ---- a packet
 
-goes_where : (r : Running) (n : ℕ) → n ≡ sent_size r → n ≤ 268435456 → unless_too_much r ≡ goes r
+goes_where : (r : Running) (n : ℕ) → n ≡ sent_size r → n ≤ most_sent → unless_too_much r ≡ goes r
 goes_where r n is few =
-    let b : nat_lt 268435456 (sent_size r) ≡ false = grind (arith, nat_tests) in
+    let b : nat_lt most_sent (sent_size r) ≡ false = grind (arith, nat_tests) in
     ap (λ b. if b then stops (limit 4) else goes r) b
 
-stops_where : (r : Running) (n : ℕ) → sent_size r ≡ n → 268435456 < n → unless_too_much r ≡ stops (limit 4)
+stops_where : (r : Running) (n : ℕ) → sent_size r ≡ n → most_sent < n → unless_too_much r ≡ stops (limit 4)
 stops_where r n is many =
-    let b : nat_lt 268435456 (sent_size r) ≡ true = grind (arith, nat_tests) in
+    let b : nat_lt most_sent (sent_size r) ≡ true = grind (arith, nat_tests) in
     ap (λ b. if b then stops (limit 4) else goes r) b
 
 -- ---- steps
@@ -73,7 +74,7 @@ one_sent p reply is =
     ap (λ x. bytes_of (packet_in x)) is ∙ ap length (append-nil (written (packet_value p)))
 
 pub stops_sending : (e : Step) (r : Running) (s : RunState) (p : Packet) → IsAt r s → (step s.state e).reply ≡ Sent p
-    → 268435456 < s.size + size_of p → stepped e r ≡ stops (limit 4)
+    → most_sent < s.size + size_of p → stepped e r ≡ stops (limit 4)
 stops_sending e r s p at is many =
     let all : sent_size (with_step e r) ≡ s.size + size_of p =
     sent_size-more r e
@@ -100,7 +101,7 @@ module _ (e : Step) (r : Running) (s now : RunState) (at : IsAt r s) (may : IsAl
       (ap packet_in (sym is) ∙ none.1) is_outs is_size is_streams
 
   pub goes_sending : (p : Packet) → (step s.state e).reply ≡ Sent p → now.outs ≡ kept (turning e) p s.outs
-      → now.size ≡ s.size + size_of p → now.streams ≡ s.streams → now.size ≤ 268435456 → HasRun (stepped e r) now
+      → now.size ≡ s.size + size_of p → now.streams ≡ s.streams → now.size ≤ most_sent → HasRun (stepped e r) now
   goes_sending p is is_outs is_size is_streams few =
       let there = at_more r e s now at may is_state
       (λ k. ap (sent_of k) is_outs ∙ kept_sent e k p s.outs
@@ -113,7 +114,7 @@ module _ (e : Step) (r : Running) (s now : RunState) (at : IsAt r s) (may : IsAl
 pub goes_noted : (e : Step) (r : Running) (s before now : RunState) (p : Packet) (a : Option ℕ) → IsAt r s
     → IsAllowed s.state e → now ≡ noted a p before → a ≡ turning e → before.state ≡ (step s.state e).state
     → before.outs ≡ s.outs → before.size ≡ s.size → before.streams ≡ s.streams → (step s.state e).reply ≡ Sent p
-    → now.size ≤ 268435456 → HasRun (stepped e r) now
+    → now.size ≤ most_sent → HasRun (stepped e r) now
 goes_noted e r s before now p a at may is who is_state is_outs is_size is_streams sent few =
     let state : now.state ≡ (step s.state e).state = ap (λ (x : RunState). x.state) is ∙ is_state in
     let outs : now.outs ≡ kept (turning e) p s.outs =
@@ -185,8 +186,8 @@ goes_bound n b r s now reply at known may is_state is worn barred is_outs is_siz
 -- ---- what a fault tells
 
 pub stops_for : (f : ScriptFault) (n : ℕ) (course : Course)
-    → ((f ≡ fault.NoMemory → ⊥) → (f ≡ fault.Limit 4) × (268435456 < n))
-    → (268435456 < n → course ≡ stops (limit 4)) → IsStopped course f
+    → ((f ≡ fault.NoMemory → ⊥) → (f ≡ fault.Limit 4) × (most_sent < n))
+    → (most_sent < n → course ≡ stops (limit 4)) → IsStopped course f
 stops_for (fault.Bad k) n course told stop =
     let t = told (λ e. cc) in
     subst (IsStopped course) (sym t.0) (stop t.1)

@@ -1,4 +1,5 @@
 pub mod Keeping
 pub mod Leavings
+pub mod Limits
 pub mod Runs
 pub mod Scripts

@@ -28,6 +28,7 @@ use Rattle.sc_events.specs.declared.events.ScriptEvent.TheVariants.{Bind, Open, 
 use Rattle.sc_events.specs.declared.events.ScriptEvent.TheVariants.{Schema, Unbuilt}
 use Rattle.sc_schema.specs.Courses.{CourseOf, Doing}
 pub use Rattle.sc_schema.specs.Courses.{goes, stops, goes_on}
+use Rattle.sc_script.specs.Limits.{most_sent}
 use Rattle.sc_script.specs.declared.faults.ScriptFault.{ScriptFault}
 use Rattle.sc_script.specs.declared.faults.ScriptFault.TheVariants as script
 
@@ -76,7 +77,7 @@ with_step e r = record r { steps = r.steps ++ e ∷ [] }
 
 -- a run sends no more than 268,435,456 bytes
 abbrev pub unless_too_much : Running → Course
-unless_too_much r = if nat_lt 268435456 (sent_size r) then stops (limit 4) else goes r
+unless_too_much r = if nat_lt most_sent (sent_size r) then stops (limit 4) else goes r
 
 -- the numbers are used up, or more connections would be live than may be
 abbrev pub by_reply : Reply → Running → Course

@@ -6,6 +6,7 @@ use Rattle.rl_stream.specs.Nexts.{Decider, Decides}
 use Rattle.hub_machine.specs.State.{opening}
 use Rattle.hub_laws.specs.Laws.{AreAllowed}
 use Rattle.sc_report.specs.Reports.{RanState}
+use Rattle.sc_events.specs.Limits.{most_input}
 use Rattle.sc_events.specs.declared.inputs.Form.{Form}
 use Rattle.sc_schema.specs.Courses.{IsCourseOfValues}
 use Rattle.sc_script.specs.declared.faults.ScriptFault.{ScriptFault}
@@ -15,8 +16,8 @@ use Rattle.sc_script.specs.Leavings.{ran_of}
 -- no more than 67,108,864 bytes
 abbrev pub IsCourseOf : Decider → Form → List ℕ → Course → Type 0
 IsCourseOf N form bytes c =
-    ((67108864 < length bytes) × (c ≡ stops (limit 1)))
-    ⊎ ((length bytes ≤ 67108864) × IsCourseOfValues (doing N) form bytes c)
+    ((most_input < length bytes) × (c ≡ stops (limit 1)))
+    ⊎ ((length bytes ≤ most_input) × IsCourseOfValues (doing N) form bytes c)
 
 -- the input stops for the cause that a fault tells; where memory ran out, nothing is said
 abbrev pub StopsWith : Form → List ℕ → Option Cause → Type 0

@@ -7,6 +7,7 @@ ghost use Rattle.hub_machine.specs.declared.steps.Step.TheVariants as steps;
 ghost use Rattle.hub_outs.specs.Outs.{turning};
 ghost use Rattle.sr_caveat.specs.Caps.{IsSound};
 ghost use Rattle.sc_events.specs.Events.{event_of, IsSoundEvent};
+ghost use Rattle.sc_script.specs.Limits.{most_sent};
 ghost use Rattle.sc_script.specs.declared.faults.ScriptFault.TheVariants as fault;
 ghost use Rattle.sc_script.specs.Runs.{Running, Course, goes, beginning, stepped, turned, drained};
 ghost use Rattle.sc_script.specs.Runs.{with_stream, with_no_packet, packets_read, bytes_come};
@@ -50,6 +51,7 @@ impl<S: Space + Drop, J: Judge + Drop> Model for Run<S, J> {
     ghost use Rattle.sr_caveat.specs.Lemmas.Coded.{caveat_code};
     ghost use Rattle.ps_schema.specs.Lemmas.CodedDefinitions.{definition_code};
     ghost use Rattle.sc_script.specs.Keeping.{RunState};
+    ghost use Rattle.sc_script.specs.Limits.{most_sent};
 
     ghost Value = { RunState };
 
@@ -64,7 +66,7 @@ impl<S: Space + Drop, J: Judge + Drop> Model for Run<S, J> {
 
     ghost use Rattle.std.specs.Prelude.{◌≤◌};
 
-    ghost invariant = { λ r. r.size ≤ 268435456 };
+    ghost invariant = { λ r. r.size ≤ most_sent };
 }
 
 /// How many bytes a packet has on the wire, of which none is made. It stops at `u64::MAX`.
@@ -100,7 +102,7 @@ impl<S: Space + Drop, J: Judge + Drop> Run<S, J> {
     ) -> Result<Run<S, J>, ScriptFault>
         ensures run { IfOk result (λ run. run ≡ noted actor packet self) }
         ensures stop { IfErr result (λ f. f ≢ fault.NoMemory
-            → (f ≡ fault.Limit 4) × (268435456 < self.size + size_of packet)) }
+            → (f ≡ fault.Limit 4) × (most_sent < self.size + size_of packet)) }
     {
         let Run {
             hub,

@@ -26,7 +26,7 @@ use Rattle.ac_world.specs.contracts.held.Deliveries as deliveries
 use Rattle.ds_space.specs.declared.space.Space as space
 use Rattle.sr_pass.specs.declared.passing.Judge as judge
 use Rattle.hub_machine.proofs.faults.Fault.TheSendSync as fault
-use Rattle.ac_world.specs.contracts.readings.Reading as reading
+use Rattle.ac_world.specs.contracts.readings.Readings as readings
 use Rattle.ac_world.specs.contracts.dataspaces.Dataspace as dataspace
 use Rattle.ac_world.specs.contracts.world.World as world
 use Rattle.hub_core.specs.contracts.hub.Hub as hub
@@ -115,13 +115,12 @@ deliveries_send = search (crosses, maps.crosses, sendable, value_send) depth 60 
 pub ports_send : IsSend ports.the_row
 ports_send = search (crosses, maps.crosses, sendable, value_send, caveats_send) depth 60 fits 20000
 
-pub reading_send : IsSend reading.the_row
-reading_send =
-    search (crosses, maps.crosses, sets.crosses, sendable, value_send, caveats_send) depth 60 fits 20000
+pub readings_send : IsSend readings.the_row
+readings_send = search (crosses, maps.crosses, sendable, value_send, caveats_send) depth 60 fits 20000
 
 module _ (S : RattleType) (s : space.Ghosts S.Denot) where
   pub dataspace_send : IsSend S → IsSend (dataspace.the_row S s)
-  dataspace_send a = search (crosses, sendable, reading_send) depth 60 fits 20000
+  dataspace_send a = search (crosses, sendable) depth 60 fits 20000
 
 module _ (S J : RattleType) (s : space.Ghosts S.Denot) (j : judge.Ghosts J.Denot) where
   pub world_send : IsSend S → IsSend J → IsSend (world.the_row S J s j)
@@ -134,6 +133,7 @@ module _ (S J : RattleType) (s : space.Ghosts S.Denot) (j : judge.Ghosts J.Denot
         table_send,
         gatekeeper_send,
         deliveries_send,
+        readings_send,
         dataspace_send,
       ) depth 60 fits 20000
 

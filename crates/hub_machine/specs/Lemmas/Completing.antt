@@ -17,6 +17,7 @@ use Rattle.rl_packet.specs.declared.packets.Event.TheVariants.{Assert, Retract, 
 use Rattle.rl_packet.specs.declared.packets.TurnEvent.{TurnEvent}
 use Rattle.rl_ports.specs.Ports.{PortsState}
 use Rattle.rl_wire.specs.Crossing.{size_fault}
+use Rattle.hub_machine.specs.Limits.{most_events, most_handles, most_rows_weight, most_backlog, most_backlog_weight}
 use Rattle.hub_machine.specs.Faults.{Fault, HandleInUse, over, where_it_is}
 use Rattle.hub_machine.specs.State.{State, ports_of}
 use Rattle.hub_machine.specs.Admission.{Admitting, Admitted, admitted, before_all, after, kept, weighed, rows_with}
@@ -45,16 +46,16 @@ fine_value : (k : ℕ) (v : Plain) (x : Admitting) → IsFineValue k v x → val
 fine_value k v x fine = rw (fine.0, light (kept k v x) fine.1)
 
 may_wait : (l : Load) → MayWait l → load_cause l ≡ None
-may_wait l m = rw (within 65536 10 l.count m.0, within 16777216 11 l.weight m.1)
+may_wait l m = rw (within most_backlog 10 l.count m.0, within most_backlog_weight 11 l.weight m.1)
 
-few : (n : ℕ) → n ≤ 4096 → top n ≤ 4096
+few : (n : ℕ) → n ≤ most_handles → top n ≤ most_handles
 few n l = omega arith
 
 fine_row : (w : WorldState) (to : Cap) (o : Option Plain) (x : Admitting) → IsFineRow w to o x
     → row_cause w to o x ≡ None
 fine_row w to None x fine = refl
 fine_row w to (Some v) x fine =
-    rw (within 4194304 5 (rows_with (weighed v) x) fine.0, may_wait (load_with w to (weighed v) x) fine.1)
+    rw (within most_rows_weight 5 (rows_with (weighed v) x) fine.0, may_wait (load_with w to (weighed v) x) fine.1)
 
 fine_assertion : (k : ℕ) (w : WorldState) (to : Cap) (v : Plain) (h : ℕ) (x : Admitting)
     → IsFineAssertion k w to v h x → assertion_cause k w to v h x ≡ None
@@ -62,7 +63,7 @@ fine_assertion k w to v h x fine =
     rw (
       fine_value k v x fine.0,
       ap (λ b. where_it_is b (HandleInUse h)) fine.1,
-      within 4096 4 (top (length x.ports.handles + 1)) (few (length x.ports.handles + 1) fine.2),
+      within most_handles 4 (top (length x.ports.handles + 1)) (few (length x.ports.handles + 1) fine.2),
       fine_row w to (let_through w to (kept k v x)) x fine.3,
     )
 
@@ -95,11 +96,12 @@ all_fine k w (e ∷ es) x fine =
           (fine_at k w (cap_at e.oid x.ports) e x fine.0) ∙ rest.1,
     )
 
-fine_admission : (k : ℕ) (ports : PortsState) (w : WorldState) (es : List TurnEvent) → length es ≤ 1024
+fine_admission : (k : ℕ) (ports : PortsState) (w : WorldState) (es : List TurnEvent) → length es ≤ most_events
     → AreFine k w es (before_all k ports w) → (y : Admitting) × (admission k ports w es ≡ admitted y)
 fine_admission k ports w es few fine =
     let all = all_fine k w es (before_all k ports w) fine in
-    (all.0, ap (λ c. unless c (all_admitted k w es (before_all k ports w))) (within 1024 3 (length es) few) ∙ all.1)
+    let free = ap (λ c. unless c (all_admitted k w es (before_all k ports w))) (within most_events 3 (length es) few) in
+    (all.0, free ∙ all.1)
 
 fine_packet : (k : ℕ) (o : Option PortsState) (es : List TurnEvent) (s : State) → IsFineFor k o es s
     → (packet_at k o es s).reply ≡ Taken

@@ -8,6 +8,7 @@ use Rattle.std.specs.List.{AllByRecursion}
 use Rattle.pv_value.specs.Plain.{Plain, integer, sequence, embedded, no_more, then_more}
 use Rattle.pv_value.specs.Weight.{weight}
 use Rattle.pv_words.specs.Words.{number_in}
+use Rattle.sr_caveat.specs.Limits.{reference_caveats, reference_weight}
 use Rattle.sr_caveat.specs.declared.caps.Cap.{Cap}
 use Rattle.sr_caveat.specs.Caps.{cap_of}
 use Rattle.pv_words.specs.Lemmas.Found.{If, if_cond}
@@ -26,6 +27,7 @@ use Rattle.rl_wire.specs.declared.faults.WireFault.TheVariants.{UnknownOid, Limi
 use Rattle.rl_wire.specs.declared.wires.Wire.{Wire}
 use Rattle.rl_wire.specs.declared.wires.Wire.TheVariants.{Own, ExportedAs}
 use Rattle.rl_wire.specs.Lemmas.Attenuating.{with_caveats_is_cap}
+use Rattle.hub_machine.specs.Limits.{most_events}
 use Rattle.hub_machine.specs.declared.faults.Fault.{Fault}
 use Rattle.hub_machine.specs.Faults.{over}
 use Rattle.hub_machine.specs.Admission.{Admitting, admitted, before_all, value_cause, kept, inside, fault_of}
@@ -61,8 +63,8 @@ IsTold f = is_some (fault_of f) ≡ true
 
 reference_told : (r : Plain) → If (reference_fault r) IsTold
 reference_told r =
-    if_cond IsTold (nat_lt 32 (length (caveats_in r))) (Some (Limit 8 (length (caveats_in r)))) _ refl
-    (if_cond IsTold (nat_lt 65536 (told (weight r))) (Some (Limit 9 (told (weight r)))) None refl tt)
+    if_cond IsTold (nat_lt reference_caveats (length (caveats_in r))) (Some (Limit 8 (length (caveats_in r)))) _ refl
+    (if_cond IsTold (nat_lt reference_weight (told (weight r))) (Some (Limit 9 (told (weight r)))) None refl tt)
 
 wire_told : (exports : List Plain) (x : Plain) (o : Option Wire) → If (wire_fault exports x o) IsTold
 wire_told exports x None = tt
@@ -234,7 +236,7 @@ pub acts_are_valid_below :
     (k : ℕ) (ports : PortsState) (es : List TurnEvent) (x : Admitting) (w : WorldState) → 16 + w.opened < 2 ^ 32
     → IsValidEntry w.opened (k, ports) → AllByRecursion IsTurnEvent es → admission k ports w es ≡ admitted x
     → AllByRecursion (IsValidAct (16 + w.opened)) x.acts
-acts_are_valid_below k ports es x w few entry wired is = by (over 1024 3 (length es)) is
+acts_are_valid_below k ports es x w few entry wired is = by (over most_events 3 (length es)) is
   where
     own : actor_at k ≤ 16 + w.opened
     own = omega (arith, entry.0.1)
@@ -287,7 +289,7 @@ exports_after_all k w (e ∷ es) x y is = by (cause_of k w e x) is (exports_afte
 -- a packet exports nothing
 pub exports_stay : (k : ℕ) (ports : PortsState) (w : WorldState) (es : List TurnEvent) (x : Admitting)
     → admission k ports w es ≡ admitted x → x.ports.exports ≡ ports.exports
-exports_stay k ports w es x is = by (over 1024 3 (length es)) is
+exports_stay k ports w es x is = by (over most_events 3 (length es)) is
   where
     by : (o : Option Fault) → unless o (all_admitted k w es (before_all k ports w)) ≡ admitted x
         → x.ports.exports ≡ ports.exports

@@ -6,6 +6,7 @@ use Rattle.std.specs.List.{AllByRecursion}
 use Rattle.pv_value.specs.Plain.{Plain, record_of, sequence, no_more, then_more}
 use Rattle.pv_value.specs.Weight.{weight}
 use Rattle.pv_words.specs.Parts.{same}
+use Rattle.sr_caveat.specs.Limits.{reference_caveats, reference_weight}
 use Rattle.sr_caveat.specs.declared.caps.Cap.{Cap}
 use Rattle.sr_caveat.specs.Caps.{cap_of, cap_value}
 use Rattle.sr_pass.specs.Passing.{passed}
@@ -80,7 +81,8 @@ answer_holds n bs v all = by (ref_of v)
     signed : (b : Binding) (r : SturdyRef) → IsValidBinding n b → (c : Bool)
         → HoldsObjects n (answer_value (cond c (if_within (given_by b r)) (Rejected (BadSig r.sig (due b.key r)))))
     signed b r valid true =
-        within b r valid (nat_lt 32 (length (given_by b r).caveats)) (nat_lt 65536 (weight (cap_value (given_by b r))))
+        within b r valid (nat_lt reference_caveats (length (given_by b r).caveats))
+        (nat_lt reference_weight (weight (cap_value (given_by b r))))
     signed b r valid false = tt
 
     found : (r : SturdyRef) (cs : List Binding) → AllByRecursion (IsValidBinding n) cs

@@ -23,6 +23,7 @@ use Rattle.sr_caveat.specs.Lemmas.Capped.{cap_is, cap_sound}
 use Rattle.ac_table.specs.declared.batches.Event.{Event}
 use Rattle.ac_table.specs.declared.batches.Event.TheVariants.{Assert, Retract, Message, Sync}
 use Rattle.rl_packet.specs.Wired.{is_wire_reference, is_wired, all_wired, all_pairs_wired, IsTurnEvent}
+use Rattle.rl_ports.specs.Limits.{most_exports}
 use Rattle.rl_ports.specs.Ports.{place_of, number_of}
 use Rattle.rl_wire.specs.Crossing.{by_keys, crossed, all_crossed, all_pairs_crossed, held_in, all_held_in}
 use Rattle.rl_wire.specs.Crossing.{all_pairs_held_in, actor_at, wire_value, is_own, reference_out, crossed_out}
@@ -244,7 +245,7 @@ reference_read x c is =
     ∙ (λ i. cond {A = Option Reference} (lt-ltb c.actor (2 ^ 32) sound.0 i && lt-ltb c.entity (2 ^ 63) sound.1 i)
     (Some (record { actor = c.actor; entity = c.entity })) None)
 
-object_goes_out : (n k : ℕ) (exports : List Plain) (x : Plain) → length exports ≤ 4096 → IsObjectValue n x
+object_goes_out : (n k : ℕ) (exports : List Plain) (x : Plain) → length exports ≤ most_exports → IsObjectValue n x
     → IsWireReference (reference_out exports (actor_at k) x (reference_of x))
 object_goes_out n k exports x few h = by (cap_of x) refl h
   where
@@ -260,7 +261,7 @@ object_goes_out n k exports x few h = by (cap_of x) refl h
         subst (λ o. IsWireReference (reference_out exports (actor_at k) x o)) (sym (reference_read x c is))
         (at c (is_own (actor_at k) x (record { actor = c.actor; entity = c.entity })) h)
 
-sent_value : (n k : ℕ) (exports : List Plain) (v : Plain) → length exports ≤ 4096 → HoldsObjects n v
+sent_value : (n k : ℕ) (exports : List Plain) (v : Plain) → length exports ≤ most_exports → HoldsObjects n v
     → is_wired (crossed_out exports k v) ≡ true
 sent_value n k exports v few h =
     wired_by_held (crossed_out exports k v)
@@ -268,7 +269,7 @@ sent_value n k exports v few h =
     (λ x. object_goes_out n k exports x few) v h)
 
 sent_one : (n next k : ℕ) (exports : List Plain) (e : Event) → IsValidEvent n next e → next ≤ 2 ^ 63
-    → length exports ≤ 4096 → IsTurnEvent (sent_event exports k e)
+    → length exports ≤ most_exports → IsTurnEvent (sent_event exports k e)
 sent_one n next k exports (Assert h entity v) valid low few =
     (valid.1, (sent_value n k exports v few valid.2, omega arith))
 sent_one n next k exports (Retract h entity) valid low few = (valid.1, omega arith)
@@ -277,7 +278,7 @@ sent_one n next k exports (Sync entity peer) valid low few =
     (valid.0, object_goes_out n k exports peer few valid.1)
 
 sent_all : (n next k : ℕ) (exports : List Plain) (es : List Event) → AllByRecursion (IsValidEvent n next) es
-    → next ≤ 2 ^ 63 → length exports ≤ 4096 → AllByRecursion IsTurnEvent (map (sent_event exports k) es)
+    → next ≤ 2 ^ 63 → length exports ≤ most_exports → AllByRecursion IsTurnEvent (map (sent_event exports k) es)
 sent_all n next k exports [] valid low few = tt
 sent_all n next k exports (e ∷ es) valid low few =
     (sent_one n next k exports e valid.0 low few, sent_all n next k exports es valid.1 low few)

@@ -25,6 +25,7 @@ use Rattle.rl_packet.specs.declared.packets.TurnEvent.{TurnEvent}
 use Rattle.rl_packet.specs.Wired.{IsTurnEvent}
 use Rattle.rl_ports.specs.Ports.{PortsState, ports_to, with_exports, place_of, exported}
 use Rattle.rl_wire.specs.Crossing.{held_in, is_own, foreign_of, actor_at, all_exported}
+use Rattle.hub_machine.specs.Limits.{most_connections, last_dataspace}
 use Rattle.hub_machine.specs.declared.faults.Fault.{Fault}
 use Rattle.hub_machine.specs.State.{State, ports_of}
 use Rattle.hub_machine.specs.Admission.{Admitted, refused, admitted, admission}
@@ -183,13 +184,13 @@ finished_is_valid xs s v = finished_keeps IsValid (λ k f t there valid. failed_
 
 -- ---- arrivals
 
-may_come : (space : ℕ) (s : State) → refusal space s ≡ None → space ≤ 8
-may_come space s is = by (nat_lt 8 space) refl is
+may_come : (space : ℕ) (s : State) → refusal space s ≡ None → space ≤ last_dataspace
+may_come space s is = by (nat_lt last_dataspace space) refl is
   where
-    by : (b : Bool) → nat_lt 8 space ≡ b
-        → cond b (Some Barred) (cond s.stopped (Some Halted) (cond (nat_le 32 (length s.connections)) (Some Full) None))
-        ≡ None
-        → space ≤ 8
+    by : (b : Bool) → nat_lt last_dataspace space ≡ b
+        → cond b (Some Barred)
+        (cond s.stopped (Some Halted) (cond (nat_le most_connections (length s.connections)) (Some Full) None)) ≡ None
+        → space ≤ last_dataspace
     by true high is = absurd cc
     by false low is = grind (arith, nat_tests, low)
 

@@ -5,6 +5,7 @@ use Rattle.std.proofs.Common.{arith}
 use Rattle.std.proofs.Common.{nat_lt}
 use Rattle.std.specs.Map.{values_of}
 use Rattle.pv_value.specs.Plain.{Plain, boolean, sequence, plains}
+use Rattle.ds_space.specs.Limits.{most_wanted_weight}
 use Rattle.ds_space.specs.Spaces.{Rows, changed, has_row}
 use Rattle.ds_space.specs.declared.space.SpaceEvent.{SpaceEvent}
 use Rattle.ds_space.specs.declared.space.SpaceEvent.TheVariants.{Add, Gone}
@@ -99,7 +100,8 @@ goes_on_regot y a rows t =
 
 goes_on_applied : (y : Behaviour) (a from : ℕ) (e : SpaceEvent) (t : Turning) → TurnsOn t (applied y a from e t)
 goes_on_applied y a from (Gone h) t = goes_on_regot y a (changed t.resident.got (Gone h)) t
-goes_on_applied y a from (Add h v) t = by (nat_lt 33554432 (y.weight (values_of (changed t.resident.got (Add h v)))))
+goes_on_applied y a from (Add h v) t =
+    by (nat_lt most_wanted_weight (y.weight (values_of (changed t.resident.got (Add h v)))))
   where
     by : (b : Bool) → TurnsOn t (cond b
         (spreading (by_assertion t.plan.table from (y.weight (values_of (changed t.resident.got (Add h v))))) t)
@@ -127,7 +129,7 @@ goes_on_say_all ds (f ∷ fs) p =
 
 goes_on_passed_on : (ds : List Definition) (from : ℕ) (fs : List Fanned) (t : Turning)
     → TurnsOn t (passed_on ds from fs t)
-goes_on_passed_on ds from fs t = by (nat_lt 33554432 (fanned_weight fs))
+goes_on_passed_on ds from fs t = by (nat_lt most_wanted_weight (fanned_weight fs))
   where
     by : (b : Bool) → TurnsOn t (cond b
         (spreading (by_message t.plan.table from (fanned_weight fs)) t) (record t { plan = say_all ds fs t.plan }))

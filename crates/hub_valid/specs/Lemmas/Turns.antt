@@ -7,6 +7,7 @@ use Rattle.pv_value.specs.Plain.{Plain, boolean, sequence, plains}
 use Rattle.pv_value.specs.Order.{order}
 use Rattle.pv_value.specs.Sets.{ascending_by}
 use Rattle.pv_words.specs.Lemmas.Found.{If}
+use Rattle.ds_space.specs.Limits.{most_wanted_weight}
 use Rattle.ds_space.specs.Spaces.{Rows, changed, has_row}
 use Rattle.ds_space.specs.declared.space.SpaceEvent.TheVariants.{Add, Gone}
 use Rattle.ds_space.specs.declared.space.Change.{Change}
@@ -194,7 +195,7 @@ gone_holds n h rows all =
 added_valid : (y : Behaviour) (n a from h : ℕ) → IsSafe n y → (x : Plain) (t : Turning) → HoldsObjects n x
     → IsValidTurning n t → IsValidTurning n (applied y a from (Add h x) t)
 added_valid y n a from h safe x t holds v =
-    by (nat_lt 33554432 (y.weight (values_of (changed t.resident.got (Add h x)))))
+    by (nat_lt most_wanted_weight (y.weight (values_of (changed t.resident.got (Add h x)))))
   where
     by : (b : Bool) → IsValidTurning n (cond b
         (spreading (by_assertion t.plan.table from (y.weight (values_of (changed t.resident.got (Add h x))))) t)
@@ -231,7 +232,7 @@ say_all_valid ds n (f ∷ fs) p all v =
 passed_on_valid : (ds : List Definition) (n from : ℕ) (fs : List Fanned) (t : Turning)
     → AllByRecursion (IsValidFanned n) fs
     → IsValidTurning n t → IsValidTurning n (passed_on ds from fs t)
-passed_on_valid ds n from fs t all v = by (nat_lt 33554432 (fanned_weight fs))
+passed_on_valid ds n from fs t all v = by (nat_lt most_wanted_weight (fanned_weight fs))
   where
     by : (b : Bool) → IsValidTurning n (cond b
         (spreading (by_message t.plan.table from (fanned_weight fs)) t) (record t { plan = say_all ds fs t.plan }))

@@ -2,6 +2,7 @@
 ghost use Rattle.std.specs.Prelude.{◌≡◌, ◌≤◌, ◌↔◌, Some, length, vec_len};
 ghost use Rattle.std.specs.Prelude.{IfOk, IsTrue, IsErrOf, is_ok};
 ghost use Rattle.std.specs.Option.{option_copied};
+ghost use Rattle.out_ports.specs.Limits.{most_read};
 ghost use Rattle.out_ports.specs.Ports.{contents_of, file_front, IsFile};
 ghost use Rattle.out_ports.specs.Calls.{is_next_listed};
 ghost use Rattle.out_ports.specs.MemHost.{told_files, host_of, host_answer, after_host_accept};
@@ -130,7 +131,7 @@ fn find_file<'a>(files: &'a [MemFile], name: &str) -> Option<&'a [u8]>
 /// The bytes of a file that are given.
 fn front(bytes: &[u8]) -> &[u8]
     ensures front { result.now ≡ file_front bytes.now }
-    ensures size { length result.now ≤ 1048577 }
+    ensures size { length result.now ≤ most_read }
 {
     &bytes[..bytes.len().min(FILE_READ)]
 }
@@ -149,7 +150,7 @@ impl Host for MemHost {
         ensures fails { IsErrOf result HostFault.Failed ↔ IsTrue (file_fails self.old name.now) }
         ensures content { IfOk result (λ bytes. IsFile (Some self.old.files) name.now bytes.items) }
         ensures after { self.new ≡ after_file self.old name.now }
-        ensures size { IfOk result (λ bytes. vec_len bytes ≤ 1048577) }
+        ensures size { IfOk result (λ bytes. vec_len bytes ≤ most_read) }
         ensures lasting { self.old.file_calls.faults ≤ self.new.file_calls.faults }
     {
         if self.file_calls.fails() {

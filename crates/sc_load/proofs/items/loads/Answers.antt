@@ -3,6 +3,7 @@ use Rattle.std.proofs.Common.{◌≡◌, ◌≤◌, ◌+◌, [], ◌∷◌, code
 use Rattle.std.specs.List.{AllByRecursion}
 use Rattle.rl_packet.specs.Wired.{IsTurnEvent}
 use Rattle.pv_words.specs.Words.{labelled, number}
+use Rattle.sc_load.specs.Limits.{most_items}
 use Rattle.sc_load.specs.Loads.{next, given}
 use Rattle.sc_load.proofs.Drawing.{load_of, drawn_more, loaded_more, may_more}
 use Rattle.sc_load.proofs.items.loads.Goals as goal
@@ -11,7 +12,7 @@ pub loop-further-preserved : goal.loop-further-preserved
 loop-further-preserved c =
     let l = c.loop-further in
     let i = c.args.first in
-    let few : i + l.further ≤ 20000 = omega (arith, c.requires, c.loop-further-test.true) in
+    let few : i + l.further ≤ most_items = omega (arith, c.requires, c.loop-further-test.true) in
     let load : c.in_ok-load.load ≡ load_of (i + l.further) (given (next l.draws.number)) =
     c.in_ok-load.ensures
     ∙ (λ j. labelled (codes "Load")

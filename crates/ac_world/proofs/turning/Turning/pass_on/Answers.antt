@@ -5,7 +5,7 @@ use Rattle.ac_table.specs.Tables.{is_live}
 use Rattle.ac_world.specs.Behaviours.{Behaviour}
 use Rattle.ac_world.specs.Keeping.{resident_by, turning_by}
 use Rattle.ac_world.specs.Systems.{IsFanBy}
-use Rattle.ac_world.specs.Turns.{Turning, spread_by, by_message}
+use Rattle.ac_world.specs.Turns.{Turning, spread_by, by_message, say_all}
 use Rattle.ac_world.proofs.Changing.{passes_each, passes_none}
 use Rattle.ac_world.proofs.turning.Turning.pass_on.Goals as goal
 
@@ -20,9 +20,10 @@ returns-in_ok-say_all-in-Each-clause-turns g c =
     let told : IsFanBy y (values_of (g.Y.System.rows system)) m (Each c.in-Each.list) =
     subst (λ x. IsFanBy (g.Y.System.behaviour ds x.resident.system)
     (values_of (g.Y.System.rows x.resident.system)) m (Each c.in-Each.list)) c.self.view_is inside in (
-      passes_each y ds c.args.from m t c.in-Each.list.items c.say_all.new.self (g.met.Y.System.judged ds system) told.0
-          told.1 c.in_ok-say_all-in-Each.ensures,
-      refl,
+      c.in_ok-say_all-in-Each.ensures.turns
+          ∙ passes_each y ds c.args.from m t c.in-Each.list.items (say_all ds c.in-Each.list.items t.plan)
+          (g.met.Y.System.judged ds system) told.0 told.1 refl,
+      ap (g.Y.System.behaviour ds) c.in_ok-say_all-in-Each.ensures.system,
     )
 
 pub returns-in_ok-add-in-Over-clause-turns : goal.returns-in_ok-add-in-Over-clause-turns

@@ -1,5 +1,6 @@
 use Rattle.std.proofs.Common.{◌≡◌, ◌≤◌, ◌+◌, ap, ◌∙◌, min}
 use Rattle.hub_outs.specs.Outs.{kept}
+use Rattle.sc_script.specs.Limits.{most_sent}
 use Rattle.sc_script.specs.Keeping.{size_of}
 use Rattle.sc_script.proofs.Notes.{noted_by, sum_of}
 use Rattle.sc_script.proofs.runs.Run.note.Goals as goal
@@ -12,7 +13,7 @@ returns-clause-run g c =
     let size : c.self.inside.size ≡ c.args.self.size = ap (λ s. s.size) c.self.view_is in
     let one : c.in_ok-size_of.field-0 ≡ min (size_of p) 18446744073709551615 = c.in_ok-size_of.ensures in
     let n = c.saturating_add-size.result in
-    let few : n ≤ 268435456 = c.if-size-gt-SENT_BYTES.false in
+    let few : n ≤ most_sent = c.if-size-gt-SENT_BYTES.false in
     let sum : n ≡ min (c.self.inside.size + c.in_ok-size_of.field-0) 18446744073709551615 =
     c.saturating_add-size.ensures in
     let all : n ≡ c.args.self.size + size_of p = sum_of (size_of p) size one sum few in

@@ -1,6 +1,7 @@
 use Rattle.std.proofs.Common.{◌≡◌, ◌≤◌, ◌<◌, ◌+◌, sym, ap, ◌∙◌, subst}
 use Rattle.hub_machine.specs.Machine.{step}
 use Rattle.hub_machine.specs.declared.steps.Reply.TheVariants.{Sent}
+use Rattle.sc_script.specs.Limits.{most_sent}
 use Rattle.sc_script.specs.Runs.{stepped}
 use Rattle.sc_script.specs.Keeping.{size_of}
 use Rattle.sc_schema.specs.Lemmas.FaultsPassed.{err_so}
@@ -27,7 +28,7 @@ returns-in_ok-run-in-Sent-clause-run g c = λ N is r at.
     let hub : c.self.inside.hub ≡ s.state = ap (λ x. x.state) view in
     let sent : (step s.state e).reply ≡ Sent c.in-Sent.packet =
     sym (c.in_ok-hub.ensures.reply ∙ ap (λ x. (step x e).reply) hub) ∙ c.in-Sent.is in
-    let few : now.size ≤ 268435456 = subst (λ x. x.size ≤ 268435456) c.run.view_is c.run.invariant in
+    let few : now.size ≤ most_sent = subst (λ x. x.size ≤ most_sent) c.run.view_is c.run.invariant in
     goes_noted e r s _ now c.in-Sent.packet _ at c.requires c.in_ok-run-in-Sent.ensures.run c.turning-actor.ensures
     (c.in_ok-hub.ensures.state ∙ ap (λ x. (step x e).state) hub) (ap (λ x. x.outs) view) (ap (λ x. x.size) view)
     (ap (λ x. x.streams) view) sent few
@@ -42,4 +43,4 @@ returns-in_err-run-in-Sent-clause-stop g c = err_so _ _ _ c.from_residual-in_err
     let sent : (step s.state e).reply ≡ Sent p =
     sym (c.in_ok-hub.ensures.reply ∙ ap (λ x. (step x e).reply) hub) ∙ c.in-Sent.is in
     stops_for _ (c.self.inside.size + size_of p) (stepped e r) c.in_err-run-in-Sent.ensures.stop
-    (λ many. stops_sending e r s p at sent (subst (λ x. 268435456 < x.size + size_of p) view many)))
+    (λ many. stops_sending e r s p at sent (subst (λ x. most_sent < x.size + size_of p) view many)))
