@@ -7,6 +7,7 @@ use Rattle.pv_value.specs.Plain.{Plain}
 use Rattle.pv_value.specs.Order.{order}
 use Rattle.ds_space.specs.Lemmas.Keys.{same_is}
 use Rattle.sr_caveat.specs.Caps.{Cap, cap_of}
+use Rattle.ac_world.specs.Limits.{most_readings}
 
 abbrev pub Kept : Type 0
 Kept = List (Plain × Option Cap)
@@ -17,7 +18,7 @@ AreRead es = (v : Plain) (c : Option Cap) → lookup (is_at (order v)) es ≡ So
 
 -- there is room for one more
 abbrev pub HaveRoom : Kept → Type 0
-HaveRoom es = (length es < 64) × AreRead es
+HaveRoom es = (length es < most_readings) × AreRead es
 
 none_found : (v : Plain) (c : Option Cap) → lookup {X = Option Cap} (is_at (order v)) [] ≡ Some c → ⊥
 none_found v c e = cc
@@ -30,10 +31,10 @@ none_room es none = (
 )
 
 -- or there are few
-pub few_room : (es old : Kept) → es ≡ old → length old < 64 → AreRead old → HaveRoom es
+pub few_room : (es old : Kept) → es ≡ old → length old < most_readings → AreRead old → HaveRoom es
 few_room es old same few read = subst HaveRoom (sym same) (few, read)
 
-pub one_more_fits : (n m : ℕ) (there : Bool) → n < 64 → m ≡ n + (if there then 0 else 1) → m ≤ 64
+pub one_more_fits : (n m : ℕ) (there : Bool) → n < most_readings → m ≡ n + (if there then 0 else 1) → m ≤ most_readings
 one_more_fits n m true few is = omega (arith, few, is)
 one_more_fits n m false few is = omega (arith, few, is)
 

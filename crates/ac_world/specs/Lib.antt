@@ -3,6 +3,7 @@ pub mod Behaviours
 pub mod Housing
 pub mod Keeping
 pub mod Lemmas
+pub mod Limits
 pub mod Outboxes
 pub mod Staying
 pub mod Sums

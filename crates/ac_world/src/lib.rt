@@ -27,6 +27,7 @@ pub use actors::{BEFORE_CONNECTIONS, FIRST_CONNECTION};
 pub use acts::Act;
 pub use aims::Aim;
 pub use held::Held;
+pub use readings::limit_is_as_defined;
 pub use spreads::{Spread, Spreads};
 pub use turns::Turned;
 pub use world::World;

@@ -2,6 +2,7 @@
 ghost use Rattle.std.specs.Prelude.{◌≡◌, IfOk, OnOk};
 ghost use Rattle.sr_caveat.specs.Caps.{cap_of};
 ghost use Rattle.ac_world.specs.Aims.{aim_at, aim_for, aim_of};
+ghost use Rattle.ac_world.specs.Limits.{most_readings};
 
 use crate::aims::{Aim, aim_at, aim_through, observer_in};
 use pv_value::{NoMemory, Node, Value};
@@ -13,6 +14,11 @@ use std::marker::Model;
 
 /// So many references are kept at most. Where one more is read, all are forgotten.
 const READINGS: usize = 64;
+
+/// The limit is the one that the definitions have.
+pub fn limit_is_as_defined()
+    ensures { READINGS ≡ most_readings }
+{}
 
 /// Values that a system actor has sent through, and of each the reference that it writes, where it
 /// is the value of one.
@@ -30,12 +36,13 @@ impl Model for Readings {
     ghost use Rattle.pv_value.specs.Plain.{Plain};
     ghost use Rattle.pv_value.specs.Order.{order};
     ghost use Rattle.sr_caveat.specs.Caps.{Cap as CapOf, cap_of};
+    ghost use Rattle.ac_world.specs.Limits.{most_readings};
 
     ghost Value = { Unit {0} };
 
     ghost view = { λ r. tt };
 
-    ghost invariant = { λ r. (btree_map_len r.by_value ≤ 64)
+    ghost invariant = { λ r. (btree_map_len r.by_value ≤ most_readings)
         × ((v : Plain) (c : Option CapOf)
         → lookup (is_at (order v)) r.by_value.entries ≡ Some c → c ≡ cap_of v) };
 }

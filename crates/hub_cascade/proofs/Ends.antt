@@ -131,7 +131,7 @@ none_over xs s k = by (entry_of k u.connections) refl
 
 -- ---- where nobody is over before, nothing is done
 
-nothing_to_do : (js : List ℕ) (s : State) → ((j : ℕ) → overrun_of j s ≡ None) → all_overrun js s ≡ s
+pub nothing_to_do : (js : List ℕ) (s : State) → ((j : ℕ) → overrun_of j s ≡ None) → all_overrun js s ≡ s
 nothing_to_do [] s within = refl
 nothing_to_do (j ∷ js) s within =
     ap (λ o. all_overrun js (failed_where j o s)) (within j) ∙ nothing_to_do js s within

@@ -6,5 +6,7 @@ pub mod Taking
 pub mod TurnsOut
 pub mod Fewer
 pub mod Uncounted
+pub mod Unheard
+pub mod Looked
 pub mod Retracting
 pub mod Retractions

@@ -11,7 +11,7 @@ use Rattle.ac_world.specs.Outboxes.{Outbox, posted}
 use Rattle.hub_valid.specs.Lemmas.WorldPlans.{AreTold}
 use Rattle.hub_cascade.specs.Sparing.{IsRetraction}
 
-uncounted : (es : List Event) → AllByRecursion IsRetraction es → load_in es ≡ nothing
+pub uncounted : (es : List Event) → AllByRecursion IsRetraction es → load_in es ≡ nothing
 uncounted [] all = refl
 uncounted (e ∷ es) all = λ i. both (one e all.0 i) (uncounted es all.1 i)
   where
@@ -27,7 +27,7 @@ waiting_more [] b is = ap (λ l. both l nothing) is
 waiting_more (c ∷ cs) b is = ap (both (load_in c.events)) (waiting_more cs b is)
 
 -- a batch of these comes to an inbox
-pushed_waits : (c a : ℕ) (b : Batch) (xs : List Actor) → load_in b.events ≡ nothing
+pub pushed_waits : (c a : ℕ) (b : Batch) (xs : List Actor) → load_in b.events ≡ nothing
     → load_waiting (inbox_of (find_actor c (with_inbox a (λ bs. bs ++ b ∷ []) xs)))
     ≡ load_waiting (inbox_of (find_actor c xs))
 pushed_waits c a b [] is = refl

@@ -1,4 +1,5 @@
--- What the hub's parts keep: the connections' numbers are small, and the state is valid.
+-- What the hub's parts keep: the connections' numbers are small, the state is valid, and who may be over a limit is left
+-- to be looked at.
 use Rattle.std.proofs.Common.{◌≡◌, ℕ, ◌+◌, ◌<◌, ◌≤◌, ◌^◌, List, [], false, Option, Some, None, sym, subst, arith}
 use Rattle.std.specs.Prelude.{IfSome}
 use Rattle.std.specs.BTreeMap.{insert_entry, is_at}
@@ -16,50 +17,87 @@ use Rattle.hub_machine.specs.Machine.{actor_reference, is_barred}
 use Rattle.hub_valid.specs.Validity.{AreValid, IsValidEntry}
 use Rattle.hub_valid.specs.Lemmas.Hubs.{opened_is_valid, nameless_is_valid, departed_is_valid, turned_is_valid}
 use Rattle.hub_valid.specs.Lemmas.Hubs.{bound_is_valid}
+use Rattle.hub_cascade.proofs.Looked.{within_nameless, within_departed, within_named, within_opened}
+use Rattle.hub_core.specs.declared.unlooked.Unlooked.{Unlooked}
+use Rattle.hub_core.specs.Looking.{AreLeft, and_one, and_turned}
+use Rattle.hub_core.proofs.Looking.{state_of, left_still, left_and_one, left_turned}
 use Rattle.hub_core.proofs.Small.{AreSmall, small_with, small_without, entry_at}
 
-abbrev pub AreKept : WorldState → List (ℕ × PortsState) → List (ℕ × Fault) → Type 0
-AreKept w names faults = AreSmall names × AreSmall faults × AreValid w names
+abbrev pub AreKept : Unlooked → WorldState → List (ℕ × PortsState) → List (ℕ × Fault) → Type 0
+AreKept u w names faults = AreSmall names × AreSmall faults × AreValid w names × AreLeft u w names
 
-pub kept_without : (k : ℕ) (w : WorldState) (names less : List (ℕ × PortsState)) (faults : List (ℕ × Fault))
-    → less ≡ remove_entry (is_at (nat_cmp k)) names → AreKept w names faults → AreKept w less faults
-kept_without k w names less faults is kept =
-    subst (λ (es : List (ℕ × PortsState)). AreKept w es faults) (sym is) (
+pub kept_without : (k : ℕ) (u : Unlooked) (w : WorldState) (names less : List (ℕ × PortsState))
+    (faults : List (ℕ × Fault)) → less ≡ remove_entry (is_at (nat_cmp k)) names → AreKept u w names faults
+    → AreKept u w less faults
+kept_without k u w names less faults is kept =
+    subst (λ (es : List (ℕ × PortsState)). AreKept u w es faults) (sym is) (
       small_without _ names kept.0,
       kept.1,
-      nameless_is_valid k (record { world = w; connections = names; faults = []; stopped = false }) kept.2,
+      nameless_is_valid k (state_of w names) kept.2,
+      left_still u w w names (remove_entry (is_at (nat_cmp k)) names)
+          (λ j. within_nameless j k (state_of w names)) kept.3,
     )
 
-pub kept_ended : (k : ℕ) (w world : WorldState) (names : List (ℕ × PortsState)) (faults : List (ℕ × Fault))
-    → world ≡ ended_of (actor_of k) w → AreKept w names faults → AreKept world names faults
-kept_ended k w world names faults is kept =
-    subst (λ (x : WorldState). AreKept x names faults) (sym is) (
+pub kept_ended : (k : ℕ) (u : Unlooked) (w world : WorldState) (names : List (ℕ × PortsState))
+    (faults : List (ℕ × Fault)) → world ≡ ended_of (actor_of k) w → AreKept u w names faults
+    → AreKept u world names faults
+kept_ended k u w world names faults is kept =
+    subst (λ (x : WorldState). AreKept u x names faults) (sym is) (
       kept.0,
       kept.1,
-      departed_is_valid k (record { world = w; connections = names; faults = []; stopped = false }) kept.2,
+      departed_is_valid k (state_of w names) kept.2,
+      left_still u w (ended_of (actor_of k) w) names names (λ j. within_departed j k (state_of w names)) kept.3,
     )
 
-pub kept_with : (k : ℕ) (w world : WorldState) (names more : List (ℕ × PortsState)) (faults : List (ℕ × Fault))
-    (p : PortsState) → more ≡ insert_entry nat_cmp names k p → k ≤ 2 ^ 31 → AreKept w names faults
-    → AreValid world (insert_entry nat_cmp names k p) → AreKept world more faults
-kept_with k w world names more faults p is small kept valid =
-    subst (λ (es : List (ℕ × PortsState)). AreKept world es faults) (sym is)
-    (small_with k p names small kept.0, kept.1, valid)
+-- names come, in a world that may have changed
+pub kept_with : (k : ℕ) (u v : Unlooked) (w world : WorldState) (names more : List (ℕ × PortsState))
+    (faults : List (ℕ × Fault)) (p : PortsState) → more ≡ insert_entry nat_cmp names k p → k ≤ 2 ^ 31
+    → AreKept u w names faults → AreValid world (insert_entry nat_cmp names k p)
+    → AreLeft v world (insert_entry nat_cmp names k p) → AreKept v world more faults
+kept_with k u v w world names more faults p is small kept valid left =
+    subst (λ (es : List (ℕ × PortsState)). AreKept v world es faults) (sym is)
+    (small_with k p names small kept.0, kept.1, valid, left)
 
-pub kept_turned : (a : ℕ) (w world : WorldState) (names : List (ℕ × PortsState)) (faults : List (ℕ × Fault))
-    → world ≡ (turn a w).world → AreKept w names faults → AreKept world names faults
-kept_turned a w world names faults is kept =
-    subst (λ (x : WorldState). AreKept x names faults) (sym is) (
+pub kept_turned : (a : ℕ) (u v : Unlooked) (w world : WorldState) (names : List (ℕ × PortsState))
+    (faults : List (ℕ × Fault)) → world ≡ (turn a w).world → v ≡ and_turned a u → AreKept u w names faults
+    → AreKept v world names faults
+kept_turned a u v w world names faults is unlooked kept =
+    subst (λ (x : WorldState). AreKept v x names faults) (sym is) (
       kept.0,
       kept.1,
-      turned_is_valid a (record { world = w; connections = names; faults = []; stopped = false }) kept.2,
+      turned_is_valid a (state_of w names) kept.2,
+      subst (λ (x : Unlooked). AreLeft x (turn a w).world names) (sym unlooked) (left_turned a u w names kept.3),
     )
 
-pub kept_bound : (b : Binding) (s : State) (world : WorldState) → IsSound b.cap → is_barred b s ≡ false
-    → world ≡ binding b s.world → AreKept s.world s.connections s.faults → AreKept world s.connections s.faults
-kept_bound b s world sound free is kept =
-    subst (λ (x : WorldState). AreKept x s.connections s.faults) (sym is)
-    (kept.0, kept.1, bound_is_valid b s sound free kept.2)
+pub kept_bound : (b : Binding) (u : Unlooked) (s : State) (world : WorldState) → IsSound b.cap → is_barred b s ≡ false
+    → world ≡ binding b s.world → AreKept u s.world s.connections s.faults
+    → AreKept u world s.connections s.faults
+kept_bound b u s world sound free is kept =
+    subst (λ (x : WorldState). AreKept u x s.connections s.faults) (sym is) (
+      kept.0,
+      kept.1,
+      bound_is_valid b s sound free kept.2,
+      left_still u s.world (binding b s.world) s.connections s.connections (λ j within. within) kept.3,
+    )
+
+-- a connection's names are put back
+pub left_named : (k : ℕ) (p : PortsState) (u v : Unlooked) (w : WorldState) (names : List (ℕ × PortsState))
+    → v ≡ and_one k u → AreLeft u w names → AreLeft v w (insert_entry nat_cmp names k p)
+left_named k p u v w names is left =
+    subst (λ (x : Unlooked). AreLeft x w (insert_entry nat_cmp names k p)) (sym is)
+    (left_and_one k u w w names (insert_entry nat_cmp names k p)
+    (λ j apart. within_named j k p (state_of w names) apart) left)
+
+-- a connection comes
+pub left_opened : (space number at : ℕ) (first : Plain) (u v : Unlooked) (w world : WorldState)
+    (names : List (ℕ × PortsState)) (p : PortsState) → world ≡ arrived w → number ≡ w.opened + 1 → at ≡ space
+    → first ≡ actor_reference at → p ≡ ports_to first → v ≡ and_one number u → AreLeft u w names
+    → AreLeft v world (insert_entry nat_cmp names number p)
+left_opened space number at first u v w world names p world_is number_is at_is first_is p_is is left =
+    rw (is, world_is, number_is, p_is, first_is, at_is)
+    (left_and_one (w.opened + 1) u w (arrived w) names
+    (insert_entry nat_cmp names (w.opened + 1) (ports_to (actor_reference space)))
+    (λ j apart. within_opened j space (state_of w names) apart) left)
 
 pub opened_valid : (space number at : ℕ) (first : Plain) (w world : WorldState) (names : List (ℕ × PortsState))
     (p : PortsState) → space ≤ 8 → w.opened < 2 ^ 31 → world ≡ arrived w → number ≡ w.opened + 1 → at ≡ space

@@ -1,4 +1,5 @@
 pub mod Keeping
+pub mod Looking
 pub mod Small
 pub mod Tellings
 pub mod Turning

@@ -3,9 +3,11 @@ ghost use Rattle.std.specs.Prelude.{◌≡◌, ◌≤◌, ◌^◌, IfOk, IfSome}
 ghost use Rattle.std.specs.Map.{keys_of};
 ghost use Rattle.hub_machine.specs.Endings.{departed, departed_for, closed, failed, failed_where};
 ghost use Rattle.hub_machine.specs.Endings.{spread_out, all_spread_out, overrun_by, overrun_of};
-ghost use Rattle.hub_machine.specs.Endings.{all_overrun, finished};
+ghost use Rattle.hub_machine.specs.Endings.{all_overrun, each_overrun, finished};
+ghost use Rattle.hub_core.specs.Looking.{AreWithin, AreWithinBut, AreLeft};
 
 use crate::hub::Hub;
+use crate::unlooked::Unlooked;
 use ac_world::{FIRST_CONNECTION, Load, Spread};
 use ds_space::Space;
 use hub_machine::{DELIVERIES, DELIVERIES_WEIGHT, Fault, Reply, overrun};
@@ -31,6 +33,7 @@ impl<S: Space + Drop, J: Judge + Drop> Hub<S, J> {
             connections,
             faults,
             stopped,
+            unlooked,
         } = self;
         let world = world.end(alloc, 16 + connection)?;
         Ok(Hub {
@@ -38,6 +41,7 @@ impl<S: Space + Drop, J: Judge + Drop> Hub<S, J> {
             connections,
             faults,
             stopped,
+            unlooked,
         })
     }
 
@@ -150,13 +154,58 @@ impl<S: Space + Drop, J: Judge + Drop> Hub<S, J> {
         Ok(numbers)
     }
 
+    /// Who is left to be looked at.
+    fn unlooked(&self) -> Unlooked
+        ensures { AreLeft result self.now.world self.now.connections }
+    {
+        self.unlooked
+    }
+
+    /// Nobody is left to be looked at.
+    fn looked(mut self) -> Hub<S, J>
+        requires { AreWithin self }
+        ensures { result ≡ self }
+    {
+        self.unlooked = Unlooked::Nobody;
+        self
+    }
+
+    /// The one connection is looked at that is left, and ends, where it has to.
+    fn look_at(self, alloc: Global, connection: u32) -> Result<Hub<S, J>, NoMemory>
+        requires { AreWithinBut connection self }
+        ensures { IfOk result (λ h. h ≡ each_overrun self) }
+    {
+        let fault = self.overrun_of(connection);
+        let hub = self.fail_where(alloc, connection, fault)?;
+        Ok(hub.looked())
+    }
+
+    /// Each live connection is looked at, and those end who have to.
+    fn look_at_each(self, alloc: Global) -> Result<Hub<S, J>, NoMemory>
+        ensures { IfOk result (λ h. h ≡ each_overrun self) }
+    {
+        let numbers = self.numbers(alloc)?;
+        let hub = self.all_overrun(alloc, &numbers)?;
+        Ok(hub.looked())
+    }
+
+    /// Those are looked at that are left, and those end who have to.
+    fn look(self, alloc: Global) -> Result<Hub<S, J>, NoMemory>
+        ensures { IfOk result (λ h. h ≡ each_overrun self) }
+    {
+        match self.unlooked() {
+            Unlooked::Nobody => Ok(self),
+            Unlooked::One(connection) => self.look_at(alloc, connection),
+            Unlooked::All => self.look_at_each(alloc),
+        }
+    }
+
     /// The step's end: those end who have to.
     fn finish(self, alloc: Global, spreads: &[Spread]) -> Result<Hub<S, J>, NoMemory>
         ensures { IfOk result (λ h. h ≡ finished spreads.now self) }
     {
         let hub = self.all_spread_out(alloc, spreads)?;
-        let numbers = hub.numbers(alloc)?;
-        hub.all_overrun(alloc, &numbers)
+        hub.look(alloc)
     }
 
     /// A step that did something is answered, at whose end those end who have to.

@@ -11,6 +11,7 @@ ghost use Rattle.hub_machine.specs.Machine.{bind_unless};
 ghost use Rattle.hub_machine.specs.Completeness.{IsComplete};
 ghost use Rattle.hub_machine.specs.Replays.{pending, lowest, first_failed, least};
 
+use crate::unlooked::Unlooked;
 use ac_world::World;
 use ds_space::{Reference, Space, reference_value};
 use gk_sturdy::Binding;
@@ -31,6 +32,8 @@ pub struct Hub<S: Space + Drop, J: Judge + Drop> {
     pub(crate) connections: BTreeMap<u32, Ports>,
     pub(crate) faults: BTreeMap<u32, Fault>,
     pub(crate) stopped: bool,
+    /// Who is to be looked at at the step's end. It is no part of the state.
+    pub(crate) unlooked: Unlooked,
 }
 
 impl<S: Space + Drop, J: Judge + Drop> Model for Hub<S, J> {
@@ -42,6 +45,7 @@ impl<S: Space + Drop, J: Judge + Drop> Model for Hub<S, J> {
     ghost use Rattle.ps_schema.specs.Lemmas.CodedDefinitions.{definition_code};
     ghost use Rattle.hub_machine.specs.State.{State};
     ghost use Rattle.hub_valid.specs.Validity.{AreValid};
+    ghost use Rattle.hub_core.specs.Looking.{AreLeft};
 
     ghost Value = { State };
 
@@ -56,7 +60,8 @@ impl<S: Space + Drop, J: Judge + Drop> Model for Hub<S, J> {
 
     ghost invariant = { λ h. AllByRecursion (λ e. e.0 ≤ 2 ^ 31) h.connections.entries
         × AllByRecursion (λ e. e.0 ≤ 2 ^ 31) h.faults.entries
-        × AreValid h.world h.connections.entries };
+        × AreValid h.world h.connections.entries
+        × AreLeft h.unlooked h.world h.connections.entries };
 }
 
 /// The lesser of the numbers that are there.
@@ -95,6 +100,7 @@ impl<S: Space + Drop, J: Judge + Drop> Hub<S, J> {
             connections: BTreeMap::new(alloc),
             faults: BTreeMap::new(alloc),
             stopped: false,
+            unlooked: Unlooked::Nobody,
         })
     }
 
@@ -198,12 +204,14 @@ impl<S: Space + Drop, J: Judge + Drop> Hub<S, J> {
             connections,
             faults,
             stopped,
+            unlooked,
         } = self;
         let hub = Hub {
             world: world.bind(binding)?,
             connections,
             faults,
             stopped,
+            unlooked,
         };
         hub.ends(alloc, &[], Reply::Taken)
     }
@@ -220,6 +228,7 @@ impl<S: Space + Drop, J: Judge + Drop> Hub<S, J> {
             mut connections,
             faults,
             stopped,
+            unlooked,
         } = self;
         let (world, number) = world.arrive()?;
         let first = actor_reference(alloc, u32::from(space))?;
@@ -229,6 +238,7 @@ impl<S: Space + Drop, J: Judge + Drop> Hub<S, J> {
             connections,
             faults,
             stopped,
+            unlooked: unlooked.and(number),
         };
         Ok((hub, number))
     }

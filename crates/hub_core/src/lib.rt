@@ -10,6 +10,7 @@ mod endings;
 mod hub;
 mod packets;
 mod turns;
+mod unlooked;
 
 pub use hub::Hub;
 pub use hub_machine::{

@@ -7,6 +7,7 @@ ghost use Rattle.std.specs.Map.{keys_of};
 ghost use Rattle.std.specs.Ordering.{nat_cmp};
 ghost use Rattle.ac_table.specs.Tables.{is_live};
 ghost use Rattle.ac_world.specs.Worlds.{actor_of};
+ghost use Rattle.hub_machine.specs.Limits.{worn_handle};
 ghost use Rattle.hub_machine.specs.State.{ports_of};
 ghost use Rattle.hub_machine.specs.Admission.{admission};
 ghost use Rattle.hub_machine.specs.Endings.{nameless, departed_for, finished};
@@ -68,15 +69,18 @@ impl<S: Space + Drop, J: Judge + Drop> Hub<S, J> {
             mut connections,
             faults,
             stopped,
+            unlooked,
         } = self;
         let (acts, ports) = admitting.into_parts();
         connections.insert(connection, ports)?;
+        let unlooked = unlooked.and_acted(connection, &acts);
         let world = world.send(alloc, 16 + connection, acts)?;
         Ok(Hub {
             world,
             connections,
             faults,
             stopped,
+            unlooked,
         })
     }
 
@@ -112,7 +116,7 @@ impl<S: Space + Drop, J: Judge + Drop> Hub<S, J> {
     ) -> Result<(Hub<S, J>, Reply), NoMemory>
         requires live { is_live (actor_of connection) self.world.table ≡ true }
         requires small { connection ≤ 2 ^ 31 }
-        requires next { self.world.table.next < 2 ^ 62 }
+        requires next { self.world.table.next < worn_handle }
         requires valid { IsValidEntry self.world.opened (connection, ports) }
         ensures state { IfOk result (λ done. done.0
             ≡ (judged connection (admission connection ports self.world turn.now) self).state) }
@@ -136,7 +140,7 @@ impl<S: Space + Drop, J: Judge + Drop> Hub<S, J> {
         connection: u32,
         turn: &Turn,
     ) -> Result<(Hub<S, J>, Reply), NoMemory>
-        requires next { self.world.table.next < 2 ^ 62 }
+        requires next { self.world.table.next < worn_handle }
         ensures state { IfOk result (λ done. done.0
             ≡ (packet_at connection (ports_of connection self) turn.now self).state) }
         ensures reply { IfOk result (λ done. done.1

@@ -2,6 +2,7 @@
 ghost use Rattle.std.specs.Prelude.{◌≡◌, ◌≤◌, ◌<◌, ◌+◌, ◌^◌, IfOk};
 ghost use Rattle.ac_table.specs.Tables.{lowest as lowest_waiting};
 ghost use Rattle.ac_world.specs.Worlds.{with_entry};
+ghost use Rattle.hub_machine.specs.Limits.{worn_handle};
 ghost use Rattle.hub_machine.specs.State.{ports_of};
 ghost use Rattle.hub_machine.specs.Machine.{tell, tell_fault, fault_for, after_turn, turn_of};
 ghost use Rattle.hub_machine.specs.Machine.{work_by, telling_fault};
@@ -49,6 +50,7 @@ impl<S: Space + Drop, J: Judge + Drop> Hub<S, J> {
             ≡ record self { connections = with_entry connection ports self.connections }) }
     {
         self.connections.insert(connection, ports)?;
+        self.unlooked = self.unlooked.and(connection);
         Ok(self)
     }
 
@@ -121,7 +123,7 @@ impl<S: Space + Drop, J: Judge + Drop> Hub<S, J> {
 
     /// An actor's turn.
     pub(crate) fn turn(self, alloc: Global, actor: u32) -> Result<(Hub<S, J>, Reply), NoMemory>
-        requires { self.world.table.next < 2 ^ 62 }
+        requires { self.world.table.next < worn_handle }
         ensures state { IfOk result (λ done. done.0 ≡ (turn_of actor self).state) }
         ensures reply { IfOk result (λ done. done.1 ≡ (turn_of actor self).reply) }
     {
@@ -130,6 +132,7 @@ impl<S: Space + Drop, J: Judge + Drop> Hub<S, J> {
             connections,
             faults,
             stopped,
+            unlooked,
         } = self;
         let (world, turned) = world.turn(alloc, actor)?;
         let hub = Hub {
@@ -137,13 +140,14 @@ impl<S: Space + Drop, J: Judge + Drop> Hub<S, J> {
             connections,
             faults,
             stopped,
+            unlooked: unlooked.and_turned(actor),
         };
         hub.after_turn(alloc, actor, turned)
     }
 
     /// The turn of the lowest of the system's actors for which a batch waits.
     pub(crate) fn work(self, alloc: Global) -> Result<(Hub<S, J>, Reply), NoMemory>
-        requires { self.world.table.next < 2 ^ 62 }
+        requires { self.world.table.next < worn_handle }
         ensures state { IfOk result (λ done. done.0
             ≡ (work_by (lowest_waiting self.world.table) self).state) }
         ensures reply { IfOk result (λ done. done.1

@@ -2,7 +2,7 @@
 ghost use Rattle.std.specs.Prelude.{◌≡◌, ◌<◌, ◌≤◌, ◌+◌, ◌^◌, length, None, Some};
 ghost use Rattle.std.specs.Prelude.{IfOk, IfErr, OnOk};
 ghost use Rattle.rl_ports.specs.Ports.{inbound_of};
-ghost use Rattle.hub_machine.specs.Limits.{most_events};
+ghost use Rattle.hub_machine.specs.Limits.{most_events, worn_handle};
 ghost use Rattle.hub_machine.specs.Admission.{before_all, weighed, rows_with, load_with, waits_at};
 ghost use Rattle.hub_machine.specs.Admission.{inside, kept, let_through, cap_at, value_cause};
 ghost use Rattle.hub_machine.specs.Admission.{load_cause, handle_cause, row_cause, said_cause};
@@ -470,7 +470,7 @@ impl Admitting {
         world: &World<S, J>,
     ) -> Result<(), Refusal>
         requires small { connection ≤ 2 ^ 31 }
-        requires next { self.old.next < 2 ^ 62 }
+        requires next { self.old.next < worn_handle }
         requires events { length events.now ≤ most_events }
         ensures admitted { OnOk result
             (all_admitted connection world.now events.now self.old ≡ admitted self.new) }
@@ -493,7 +493,7 @@ pub fn admission<S: Space + Drop, J: Judge + Drop>(
     world: &World<S, J>,
 ) -> Result<Admitting, Refusal>
     requires small { connection ≤ 2 ^ 31 }
-    requires next { world.now.table.next < 2 ^ 62 }
+    requires next { world.now.table.next < worn_handle }
     ensures admitted { IfOk result
         (λ x. admission connection ports world.now turn.now ≡ admitted x) }
     ensures refused { IfErr result

@@ -9,6 +9,7 @@ use Rattle.std.specs.List.{concat}
 use Rattle.pv_value.specs.Plain.{Plain, plains}
 use Rattle.pv_value.specs.Depth.{deepest}
 use Rattle.pv_value.specs.Sets.{AreDistinct}
+use Rattle.pv_read.specs.Limits.{read_depth}
 use Rattle.pv_read.specs.Results.{Fault}
 use Rattle.pv_binary.specs.Numbers.{varint}
 use Rattle.pv_binary.specs.Tags.{tag_of}
@@ -40,8 +41,8 @@ pub record IsOpen (o : Open) (outer : List Open) (front : List ℕ) : Type 0 whe
   pub place : o.place ≡ length front
   pub compound : IsTrue (is_compound (tag_at o))
   pub unfilled : IsUnfilled (tag_at o) o.values
-  pub level : length outer < 64
-  pub shallow : deepest (plains o.values) + suc (length outer) ≤ 64
+  pub level : length outer < read_depth
+  pub shallow : deepest (plains o.values) + suc (length outer) ≤ read_depth
 
 -- the bytes are the tags of these compounds, the innermost first in the list, each with its values behind it
 abbrev pub Opens : List ℕ → List Open → Type 0
@@ -164,8 +165,8 @@ truncated bytes path = record { kind = kind.Truncated; place = truncated_place b
 
 -- what stands behind the open compounds is a fault, at this place
 pub data FaultAt : List ℕ → List Open → List ℕ → BinKind → ℕ → Type 0 where
-  too_deep : (front : List ℕ) (os : List Open) (t : ℕ) (r : List ℕ) → IsTrue (is_compound (tag_of t)) → length os ≡ 64
-      → FaultAt front os (t ∷ r) kind.TooDeep (length front)
+  too_deep : (front : List ℕ) (os : List Open) (t : ℕ) (r : List ℕ) → IsTrue (is_compound (tag_of t))
+      → length os ≡ read_depth → FaultAt front os (t ∷ r) kind.TooDeep (length front)
   bad_tag : (front : List ℕ) (os : List Open) (t : ℕ) (r : List ℕ) → tag_of t ≡ tag.Other
       → (t ≡ 0x84 → IsFalse (may_end os)) → FaultAt front os (t ∷ r) kind.BadTag (length front)
   bad_atom : (front : List ℕ) (os : List Open) (t : ℕ) (r : List ℕ) (k : BinKind) → AtomFault (tag_of t) r k

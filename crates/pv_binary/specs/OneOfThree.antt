@@ -3,6 +3,7 @@
 use Rattle.std.specs.Prelude.{◌≡◌, ℕ, ◌<◌, ◌⊎◌, List, length, drop, Ok, Err}
 use Rattle.std.specs.List.{All}
 use Rattle.pv_value.specs.Plain.{Plain}
+use Rattle.pv_read.specs.Limits.{read_depth}
 use Rattle.pv_read.specs.Results.{Fault}
 use Rattle.pv_binary.specs.Reads.{BeginsWith}
 use Rattle.pv_binary.specs.Fronts.{Front, truncated, Stands}
@@ -43,6 +44,6 @@ OneOfThreeHolds bytes = IsOneOfThree bytes × ExcludeOneAnother bytes × AreUniq
 
 -- what reading gives of each of the three
 pub record ReadingTells (bytes : List ℕ) : Type 0 where
-  pub value : (n : ℕ) (v : Plain) → BeginsWith bytes n v → value_at (length bytes) 64 bytes ≡ Ok (v, drop n bytes)
-  pub front : (path : List ℕ) → Front bytes path → value_at (length bytes) 64 bytes ≡ Err (truncated bytes path)
-  pub fault : (f : Fault BinKind) → Stands bytes f → value_at (length bytes) 64 bytes ≡ Err f
+  pub value : (n : ℕ) (v : Plain) → BeginsWith bytes n v → value_at (length bytes) read_depth bytes ≡ Ok (v, drop n bytes)
+  pub front : (path : List ℕ) → Front bytes path → value_at (length bytes) read_depth bytes ≡ Err (truncated bytes path)
+  pub fault : (f : Fault BinKind) → Stands bytes f → value_at (length bytes) read_depth bytes ≡ Err f

@@ -2,6 +2,7 @@
 use Rattle.std.specs.Prelude.{◌≡◌, ℕ, ◌≤◌, ◌⊎◌, List, length, take, drop}
 use Rattle.pv_value.specs.Plain.{Plain}
 use Rattle.pv_value.specs.Depth.{depth}
+use Rattle.pv_read.specs.Limits.{read_depth}
 use Rattle.pv_read.specs.Results.{Fault}
 use Rattle.pv_binary.specs.Spells.{Spells}
 use Rattle.pv_binary.specs.Fronts.{Front, truncated, Stands}
@@ -9,7 +10,7 @@ use Rattle.pv_binary.specs.declared.faults.BinKind.{BinKind}
 
 -- the first n bytes spell v, which nests no deeper than is read
 abbrev pub BeginsWith : List ℕ → ℕ → Plain → Type 0
-BeginsWith bytes n v = (n ≤ length bytes) × Spells (take n bytes) v × (depth v ≤ 64)
+BeginsWith bytes n v = (n ≤ length bytes) × Spells (take n bytes) v × (depth v ≤ read_depth)
 
 -- the bytes begin with v, after which more is left; LeadsOver of pv_read says it of values one behind another
 abbrev pub Leads : List ℕ → Plain → List ℕ → Type 0

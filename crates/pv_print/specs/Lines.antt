@@ -4,6 +4,7 @@ use Rattle.std.specs.List.{flat_map, AllByRecursion}
 use Rattle.pv_value.specs.Plain.{Plain}
 use Rattle.pv_value.specs.Depth.{depth}
 use Rattle.pv_value.specs.WellFormed.{IsWellFormed}
+use Rattle.pv_read.specs.Limits.{read_depth}
 use Rattle.pv_print.specs.Printed.{printed}
 
 abbrev pub line : Plain → List ℕ
@@ -14,4 +15,4 @@ lines vs = flat_map line vs
 
 -- each nests no deeper than is read
 abbrev pub AreReadable : List Plain → Type 0
-AreReadable vs = AllByRecursion (λ v. IsWellFormed v × (depth v ≤ 64)) vs
+AreReadable vs = AllByRecursion (λ v. IsWellFormed v × (depth v ≤ read_depth)) vs

@@ -3,6 +3,7 @@ ghost use Rattle.std.specs.Prelude.{ℕ, List, false, [], length, ◌≤◌};
 ghost use Rattle.pv_value.specs.Plain.{Plain};
 ghost use Rattle.pv_value.specs.Depth.{depth};
 ghost use Rattle.pv_value.specs.WellFormed.{IsWellFormed};
+ghost use Rattle.pv_read.specs.Limits.{read_depth};
 ghost use Rattle.pv_text.specs.Spells.{SpellsIn, TextSpells};
 ghost use Rattle.pv_text.specs.Reads.{BeginsWith, AreValuesOf};
 ghost use Rattle.pv_print.specs.Printed.{printed};
@@ -19,7 +20,7 @@ pub fn printed_texts_spell()
 /// end; and printed values, a line each, are the text of these values. What they begin with, and
 /// are, is what the reader answers.
 pub fn printed_texts_read_back()
-    ensures one { (v : Plain) → IsWellFormed v → depth v ≤ 64
+    ensures one { (v : Plain) → IsWellFormed v → depth v ≤ read_depth
         → BeginsWith (printed v) (length (printed v)) v }
     ensures all { (vs : List Plain) → AreReadable vs → AreValuesOf (lines vs) vs }
 {}

@@ -3,6 +3,7 @@ ghost use Rattle.std.specs.Prelude.{◌≡◌, ◌++◌, ◌∷◌, [], map, len
 ghost use Rattle.pv_value.specs.Plain.{plains, pairs};
 ghost use Rattle.pv_value.specs.View.{key_and_value};
 ghost use Rattle.pv_value.specs.Depth.{depth};
+ghost use Rattle.pv_read.specs.Limits.{read_depth};
 ghost use Rattle.pv_text.specs.Spells.{TextSpells};
 ghost use Rattle.pv_text.specs.Reads.{BeginsWith};
 ghost use Rattle.std.specs.Io.{StartsWith};
@@ -21,7 +22,8 @@ pub fn print(alloc: Global, v: &Value) -> Result<Text, NoMemory>
     ensures exact { IfOk result (λ t. t ≡ printed v.now) }
     ensures spells { IfOk result (λ t. TextSpells t v.now) }
     // Read back, it is the value, where this nests no deeper than is read.
-    ensures reads_back { IfOk result (λ t. depth v.now ≤ 64 → BeginsWith t (length t) v.now) }
+    ensures reads_back { IfOk result
+        (λ t. depth v.now ≤ read_depth → BeginsWith t (length t) v.now) }
 {
     let _ = &v.node;
     let mut out = Vec::new(alloc);

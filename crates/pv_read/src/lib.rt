@@ -6,6 +6,7 @@
 
 ghost use Rattle.std.specs.Prelude.{◌≡◌};
 ghost use Rattle.pv_read.specs.Answers.{placed};
+ghost use Rattle.pv_read.specs.Limits.{read_depth};
 
 use pv_value::NoMemory;
 use std::alloc::{AllocError, AllocFailed};
@@ -14,6 +15,11 @@ use thiserror::Error;
 
 /// How many levels deep a value that is read may nest; in a text, its annotations too.
 pub const READ_DEPTH: u32 = 64;
+
+/// The limit is the one that the definitions have.
+pub fn limit_is_as_defined()
+    ensures { READ_DEPTH ≡ read_depth }
+{}
 
 /// Why bytes give no value.
 #[derive(Debug, Drop, Error)]

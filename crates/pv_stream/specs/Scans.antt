@@ -1,6 +1,7 @@
 -- Where the first value ends, by tags, counts and levels, and by what stands in its atoms: as reading goes, but that
 -- elements may repeat. Preserves binary specification, its table of tags.
 use Rattle.std.specs.Prelude.{◌≡◌, ℕ, zero, suc, ◌-◌, ◌==◌, List, [], ◌∷◌, length, if◌then◌else◌, Result, Ok, Err}
+use Rattle.pv_read.specs.Limits.{read_depth}
 use Rattle.pv_read.specs.Results.{Fault, ◌>>=◌}
 use Rattle.pv_binary.specs.Reading.{no_tag, atom_at, is_compound}
 use Rattle.pv_binary.specs.Tags.{tag_of}
@@ -61,7 +62,7 @@ scanned total (Err f) = stopped f.kind f.place
 
 -- what a scan tells of the bytes
 abbrev pub scan_of : List ℕ → Scan
-scan_of bytes = scanned (length bytes) (past_value (length bytes) 64 bytes)
+scan_of bytes = scanned (length bytes) (past_value (length bytes) read_depth bytes)
 
 -- ---- the code's answers
 

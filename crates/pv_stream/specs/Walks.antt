@@ -2,6 +2,7 @@
 use Rattle.std.specs.Prelude.{◌≡◌, ℕ, ◌+◌, ◌<◌, ◌≤◌, ◌⊎◌, List, [], ◌∷◌, ◌++◌, length, take, slice_range}
 use Rattle.pv_value.specs.Plain.{Plain}
 use Rattle.pv_value.specs.Depth.{depth}
+use Rattle.pv_read.specs.Limits.{read_depth}
 use Rattle.pv_binary.specs.Spells.{Spells}
 use Rattle.pv_binary.specs.Reads.{BeginsWith}
 use Rattle.pv_binary.specs.Fronts.{Open, Opens}
@@ -25,7 +26,7 @@ IsAt left place levels =
 
 -- these bytes spell a value that may stand inside so many compounds
 abbrev pub IsValue : List ℕ → ℕ → Type 0
-IsValue bytes outer = (v : Plain) × Spells bytes v × (depth v + outer ≤ 64)
+IsValue bytes outer = (v : Plain) × Spells bytes v × (depth v + outer ≤ read_depth)
 
 abbrev pub IsFound : List ℕ → ℕ → ℕ → ℕ → Type 0
 IsFound left from to outer = (from ≤ to) × (to ≤ length left) × IsValue (slice_range left from to) outer

@@ -3,6 +3,7 @@
 ghost use Rattle.std.specs.Prelude.{◌≡◌, ◌+◌, ◌≤◌, ◌<◌, length, drop, slice_index, slice_range};
 ghost use Rattle.std.specs.Prelude.{[], ◌∷◌, ◌++◌, IfOk, IfSome, IsTrue, IsFalse};
 ghost use Rattle.pv_read.specs.Answers.{IsExact};
+ghost use Rattle.pv_read.specs.Limits.{read_depth};
 ghost use Rattle.pv_binary.specs.Reads.{Stops};
 ghost use Rattle.pv_binary.specs.Reading.{is_compound};
 ghost use Rattle.pv_binary.specs.Tags.{tag_of};
@@ -165,7 +166,7 @@ fn is_listed(level: Level, place: usize) -> bool
 
 /// Whether the bytes are a value that may stand inside so many compounds.
 fn is_whole(alloc: Global, bytes: &[u8], outer: usize) -> Result<bool, NoMemory>
-    requires { outer ≤ 64 }
+    requires { outer ≤ read_depth }
     ensures { IfOk result (λ b. IsTrue b → IsValue bytes.now outer) }
 {
     match measure(alloc, bytes) {

@@ -4,6 +4,7 @@ use Rattle.std.specs.Prelude.{Option, Some, None, Result, Ok, Err}
 use Rattle.std.specs.Str.{is_utf8}
 use Rattle.pv_value.specs.Plain.{Plain, record_of, sequence, embedded, plains}
 use Rattle.pv_value.specs.Sets.{set_from, dictionary_from}
+use Rattle.pv_read.specs.Limits.{read_depth}
 use Rattle.pv_read.specs.Results.{Fault, ◌>>=◌, within}
 use Rattle.pv_read.specs.Elements.{elements_at}
 use Rattle.pv_lex.specs.declared.faults.TextKind.{TextKind}
@@ -139,7 +140,7 @@ no_value total = record { kind = Unexpected; place = total }
 
 -- the first value of the last bytes of a text
 abbrev pub first_at : ℕ → Reader Plain
-first_at total bytes = value_at total 64 false (no_value total) bytes
+first_at total bytes = value_at total read_depth false (no_value total) bytes
 
 -- the next value, and the bytes after it; none where only a gap is left
 unfoldable pub next_at : ℕ → List ℕ → Result (Option (Plain × List ℕ)) (Fault TextKind)

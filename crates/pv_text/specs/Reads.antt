@@ -2,6 +2,7 @@
 use Rattle.std.specs.Prelude.{◌≡◌, ◌+◌, ℕ, false, List, ◌++◌, length, Option, Some, None, ◌⊎◌}
 use Rattle.std.specs.Str.{IsUtf8}
 use Rattle.pv_value.specs.Plain.{Plain}
+use Rattle.pv_read.specs.Limits.{read_depth}
 use Rattle.pv_read.specs.Results.{Fault}
 use Rattle.pv_read.specs.Leading.{LeadsOver}
 use Rattle.pv_lex.specs.declared.faults.TextKind.{TextKind}
@@ -16,7 +17,7 @@ use Rattle.pv_text.specs.Stops.{StopsIn}
 -- behind a gap they spell the value, which nests no deeper than is read, before the rest
 abbrev pub LeadsTo : List ℕ → Plain → List ℕ → Type 0
 LeadsTo bytes v rest =
-    (g : List ℕ) × (t : List ℕ) × (bytes ≡ g ++ (t ++ rest)) × IsGap false g × SpellsIn 64 false t v rest
+    (g : List ℕ) × (t : List ℕ) × (bytes ≡ g ++ (t ++ rest)) × IsGap false g × SpellsIn read_depth false t v rest
 
 -- they are these values and a last gap
 abbrev pub AreValues : List ℕ → List Plain → Type 0
@@ -24,7 +25,7 @@ AreValues bytes vs = (rest : List ℕ) × LeadsOver LeadsTo bytes vs rest × IsL
 
 -- of a text of so many bytes the last ones begin no value, though one is due, and reading it stops so
 abbrev pub NextStops : ℕ → List ℕ → Fault TextKind → Type 0
-NextStops total bytes f = (IsLastGap false bytes → ⊥) × StopsIn total 64 false (no_value total) bytes f
+NextStops total bytes f = (IsLastGap false bytes → ⊥) × StopsIn total read_depth false (no_value total) bytes f
 
 -- ---- whole texts
 

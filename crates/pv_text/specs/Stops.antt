@@ -6,6 +6,7 @@ use Rattle.std.specs.Prelude.{List, [], ◌∷◌, ◌++◌, length, None, ◌�
 use Rattle.std.specs.Str.{IsUtf8}
 use Rattle.pv_value.specs.Plain.{Plain}
 use Rattle.pv_value.specs.Sets.{set_from, dictionary_from}
+use Rattle.pv_read.specs.Limits.{read_depth}
 use Rattle.pv_read.specs.Results.{Fault}
 use Rattle.pv_lex.specs.declared.faults.TextKind.{TextKind}
 use Rattle.pv_lex.specs.declared.faults.TextKind.TheVariants.{Unexpected, TooDeep, Duplicate, BadUtf8}
@@ -135,4 +136,4 @@ StopsIn total n commas at_end bytes f =
 abbrev pub TextStands : List ℕ → Fault TextKind → Type 0
 TextStands text f =
     ((IsUtf8 text → ⊥) × (f ≡ record { kind = BadUtf8; place = 0 }))
-    ⊎ (IsUtf8 text × StopsIn (length text) 64 false (no_value (length text)) text f)
+    ⊎ (IsUtf8 text × StopsIn (length text) read_depth false (no_value (length text)) text f)

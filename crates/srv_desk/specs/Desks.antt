@@ -1,8 +1,10 @@
 -- What a desk at a gate has done, by its own steps and the replies that it got.
-use Rattle.std.specs.Prelude.{◌≡◌, ℕ, zero, ◌^◌, ◌≤◌, nat_le, Bool, true, List, [], ◌∷◌, ◌++◌, Option, None, Some}
+use Rattle.std.specs.Prelude.{◌≡◌, ℕ, zero, ◌≤◌, nat_le, Bool, true, List, [], ◌∷◌, ◌++◌, Option, None, Some}
 use Rattle.std.specs.List.{flat_map}
 use Rattle.turn_gate.specs.declared.view.View.{View}
+use Rattle.turn_gate.specs.Limits.{most_steps}
 use Rattle.turn_gate.specs.Passes.{own_pairs}
+use Rattle.hub_machine.specs.Limits.{worn_connections}
 use Rattle.hub_machine.specs.declared.steps.Step.{Step}
 use Rattle.hub_machine.specs.declared.steps.Step.TheVariants.{Arrive, Close}
 use Rattle.hub_machine.specs.declared.steps.Reply.{Reply}
@@ -21,7 +23,7 @@ pairs_by v = step_pairs (own_pairs v)
 
 -- as many steps stand as a gate takes
 abbrev pub is_spent : {T S R : Type 0} → View T S R → Bool
-is_spent v = nat_le (2 ^ 62) v.floor
+is_spent v = nat_le most_steps v.floor
 
 -- a step was done and got this reply, or nothing was done and the gate is spent
 abbrev pub IsAnswered : Step → Option Reply → List Pair → List Pair → Bool → Type 0
@@ -43,7 +45,7 @@ number_of None = None
 
 -- a connection of this number came to the gatekeeper; or the arrival got another reply, or the gate is spent
 abbrev pub HasCome : Option ℕ → List Pair → List Pair → Bool → Type 0
-HasCome (Some k) before now spent = (now ≡ before ++ (Arrive 0, Opened k) ∷ []) × (k ≤ 2 ^ 31)
+HasCome (Some k) before now spent = (now ≡ before ++ (Arrive 0, Opened k) ∷ []) × (k ≤ worn_connections)
 HasCome None before now spent =
     (answer : Option Reply) × (number_of answer ≡ None) × IsAnswered (Arrive 0) answer before now spent
 

@@ -30,14 +30,15 @@ impl<'g, T: Replayed> Seated<'g, T> {
 }
 
 impl<'g, S: Space + Drop, J: Judge + Drop> Turns for Seated<'g, Served<S, J>> {
-    ghost use Rattle.std.specs.Prelude.{◌==◌, ◌^◌};
+    ghost use Rattle.std.specs.Prelude.{◌==◌};
+    ghost use Rattle.turn_gate.specs.Limits.{most_steps};
     ghost use Rattle.turn_gate.specs.Gates.{view};
     ghost use Rattle.turn_gate.specs.Passes.{own_pairs};
     ghost use Rattle.srv_session.specs.Seats.{step_pairs};
 
     ghost pairs = { λ s. step_pairs (own_pairs (view s.pass)) };
 
-    ghost spent = { λ s. (view s.pass).floor == 2 ^ 62 };
+    ghost spent = { λ s. (view s.pass).floor == most_steps };
 
     fn commit<R: Wait>(&mut self, rt: &R, step: Step) -> Result<Reply, GateFault> {
         self.gate.commit(rt, &mut self.pass, ServedStep::new(step))

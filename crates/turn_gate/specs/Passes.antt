@@ -1,8 +1,9 @@
 -- What a clause says of a pass, by its view before a call and after it.
-use Rattle.std.specs.Prelude.{◌≡◌, ◌⊎◌, ℕ, ◌+◌, ◌^◌, ◌<◌, ◌≤◌, true, false, ◌||◌, List, [], ◌∷◌, ◌++◌, length, max}
+use Rattle.std.specs.Prelude.{◌≡◌, ◌⊎◌, ℕ, ◌+◌, ◌<◌, ◌≤◌, true, false, ◌||◌, List, [], ◌∷◌, ◌++◌, length, max}
 use mathlib.Core.List.{IsPrefix}
 use mathlib.Core.Option.{some}
 use lib.ListN.{get_elem?}
+use Rattle.turn_gate.specs.Limits.{most_steps}
 use Rattle.turn_gate.specs.declared.view.Entry.{Entry}
 use Rattle.turn_gate.specs.declared.view.Joined.{Joined}
 use Rattle.turn_gate.specs.declared.view.View.{View}
@@ -41,9 +42,9 @@ module _ {T S R : Type 0} where
     pub seen : w.seen ≡ v.seen
     pub mine : w.mine ≡ v.mine
 
-  -- why no step was done: 2 ^ 62 steps stand, or there was no memory, at this step or an earlier one
+  -- why no step was done: as many stand as a gate takes, or there was no memory, at this step or an earlier one
   abbrev pub FaultFits : View T S R → View T S R → GateFault → Type 0
-  FaultFits v w fault.Spent = (w.floor ≡ 2 ^ 62) × (v.lost ≡ false) × (w.lost ≡ false)
+  FaultFits v w fault.Spent = (w.floor ≡ most_steps) × (v.lost ≡ false) × (w.lost ≡ false)
   FaultFits v w fault.NoMemory = (v.floor ≤ w.floor) × (w.lost ≡ true)
 
   -- no step was done
@@ -116,5 +117,5 @@ module _ {T S R : Type 0} (next : T → S → T × R) (t : T) where
     pub mine : w.mine ≡ places v.name w.seen
     pub legal : IsLegal next t w.seen
     pub floor : w.floor ≡ length w.seen
-    pub short : w.floor ≤ 2 ^ 62
+    pub short : w.floor ≤ most_steps
     pub kept : (v.lost ≡ false) × (w.lost ≡ false)

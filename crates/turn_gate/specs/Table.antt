@@ -1,13 +1,14 @@
 -- The rule of a gate as its proof carries it, and what each of its steps tells. For proofs alone.
 -- Word 0 is the length of the history and word 1 the lock. Slot 0 is at home where the lock is free.
 -- Of the other words, by which callers wake one another, the rule says nothing.
-use Rattle.std.specs.Prelude.{◌≡◌, ◌≢◌, ◌⊎◌, ℕ, ◌+◌, ◌^◌, ◌<◌, ◌≤◌, Bool, true, false, ◌||◌, List, [], ◌∷◌, ◌++◌}
+use Rattle.std.specs.Prelude.{◌≡◌, ◌≢◌, ◌⊎◌, ℕ, ◌+◌, ◌<◌, ◌≤◌, Bool, true, false, ◌||◌, List, [], ◌∷◌, ◌++◌}
 use Rattle.std.specs.Prelude.{length, drop, Option, Some, None, max}
 use mathlib.Core.Option.{none, some}
 use mathlib.Core.Option as maybe
 use mathlib.Core.List.{IsPrefix}
 use lib.ListN.{get_elem?}
 use Rattle.atomic_table.specs.Table.{State, Me, Step}
+use Rattle.turn_gate.specs.Limits.{most_steps}
 use Rattle.turn_gate.specs.declared.view.Entry.{Entry}
 use Rattle.turn_gate.specs.declared.view.Joined.{Joined}
 use Rattle.turn_gate.specs.declared.view.View.{View}
@@ -120,7 +121,7 @@ module _ {T S R : Type 0} (next : T → S → T × R) where
     pub others : List ℕ
     pub words : s.words ≡ length log ∷ lock_word lock ∷ others
     pub homes : s.homes ≡ homes_of t log gone lock
-    pub short : length log ≤ 2 ^ 62
+    pub short : length log ≤ most_steps
     pub legal : IsLegal next t log
     pub each : (i : ℕ) (v : View T S R) → get_elem? s.views i ≡ some v → Fits t log lock gone owner kids joined i v
     pub names : (p : ℕ) (e : Entry S R) → get_elem? log p ≡ some e → e.name ≤ kids
@@ -207,7 +208,7 @@ module _ {T S R : Type 0} where
 
   -- so many steps stand
   abbrev pub looked : Us T S R → ℕ → Us T S R → Type 0
-  looked m n m' = (m' ≡ (seeing m.0 n, m.1)) × (m.0.floor ≤ n) × (length m.0.seen ≤ n) × (n ≤ 2 ^ 62)
+  looked m n m' = (m' ≡ (seeing m.0 n, m.1)) × (m.0.floor ≤ n) × (length m.0.seen ≤ n) × (n ≤ most_steps)
       × (m.0.has ≡ Value → n ≡ length m.0.base)
 
   -- what was seen and the base begin one list, all own entries were seen, and no joined pass has further entries

@@ -9,4 +9,5 @@ invariant_of-hub g c = (
   subst AreSmall (sym c.in_ok-insert.ensures.entries)
       (small_with c.args.connection _ c.hub.inside.faults.entries c.requires c.hub.invariant.1),
   c.hub.invariant.2,
+  c.hub.invariant.3,
 )

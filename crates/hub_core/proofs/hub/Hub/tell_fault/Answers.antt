@@ -8,4 +8,5 @@ invariant_of-self g c = (
   c.self.invariant.0,
   subst AreSmall (sym c.remove.ensures.entries) (small_without _ _ c.self.invariant.1),
   c.self.invariant.2,
+  c.self.invariant.3,
 )

@@ -1,0 +1,69 @@
+//! Of whom it isn't known that no more is held and waits for them than may be.
+ghost use Rattle.std.specs.Prelude.{◌≡◌};
+ghost use Rattle.std.specs.List.{list_any};
+ghost use Rattle.hub_core.specs.Looking.{and_one, is_at_connection, and_acted, and_turned};
+
+use ac_world::{Act, FIRST_CONNECTION};
+use hub_machine::DATASPACES;
+
+/// The connections that are left to be looked at at the step's end.
+#[derive(Clone, Copy)]
+pub(crate) enum Unlooked {
+    Nobody,
+    One(u32),
+    All,
+}
+
+/// Whether an act waits for a connection.
+fn is_at_connection(act: &Act) -> bool
+    ensures { result ≡ is_at_connection act.now }
+{
+    match act {
+        Act::Assert(target, _, _) | Act::Message(target, _, _) | Act::Sync(target, _, _) => {
+            *target > u32::from(DATASPACES)
+        }
+        Act::Retract(_) => false,
+    }
+}
+
+/// Whether an act of these waits for a connection.
+fn are_at_connections(acts: &[Act]) -> bool
+    ensures { result ≡ list_any is_at_connection acts.now }
+{
+    acts.iter().any(|act| is_at_connection(act))
+}
+
+impl Unlooked {
+    /// One connection more is left.
+    pub(crate) fn and(self, connection: u32) -> Unlooked
+        ensures { result ≡ and_one connection self }
+    {
+        match self {
+            Unlooked::Nobody => Unlooked::One(connection),
+            Unlooked::One(other) if other == connection => Unlooked::One(connection),
+            _ => Unlooked::All,
+        }
+    }
+
+    /// A connection did these acts, and what it names was changed.
+    pub(crate) fn and_acted(self, connection: u32, acts: &[Act]) -> Unlooked
+        ensures { result ≡ and_acted connection acts.now self }
+    {
+        if are_at_connections(acts) {
+            Unlooked::All
+        } else {
+            self.and(connection)
+        }
+    }
+
+    /// An actor took a turn.
+    pub(crate) fn and_turned(self, actor: u32) -> Unlooked
+        ensures { result ≡ and_turned actor self }
+    {
+        if actor < FIRST_CONNECTION {
+            Unlooked::All
+        } else {
+            self.and(actor - 16)
+        }
+    }
+}
