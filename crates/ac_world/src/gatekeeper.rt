@@ -19,7 +19,6 @@ use crate::readings::Readings;
 use crate::systems::System;
 use ds_space::{Applied, Change, Changes, Fan, SpaceEvent, reference_of};
 use gk_sturdy::{Bindings, reply};
-use lc_watch::Behaves;
 use pv_value::{NoMemory, Node, Text, Value};
 use pv_words::{is_word, worded};
 use sr_pass::Judge;
@@ -84,9 +83,7 @@ impl Gatekeeper {
         ensures applied { IfOk result (λ applied. (ds : List Definition)
             → IsAppliedBy (λ g. g.got) (λ g. gatekeeper ds g.bindings)
             (gatekeeper ds self.bindings) self.got (Add handle value) applied) }
-        ensures lasting { IfOk result (StaysIn
-            (λ g. record { bound = g.bindings; task = None })
-            (record { bound = self.bindings; task = None })) }
+        ensures bound { IfOk result (StaysIn (λ g. g.bindings) self.bindings) }
     {
         let is_new = self.is_new(&value);
         let changes = change_if(alloc, is_new, Change::Came(value.copy()?))?;
@@ -99,9 +96,7 @@ impl Gatekeeper {
         ensures applied { IfOk result (λ applied. (ds : List Definition)
             → IsAppliedBy (λ g. g.got) (λ g. gatekeeper ds g.bindings)
             (gatekeeper ds self.bindings) self.got (Gone handle) applied) }
-        ensures lasting { IfOk result (StaysIn
-            (λ g. record { bound = g.bindings; task = None })
-            (record { bound = self.bindings; task = None })) }
+        ensures bound { IfOk result (StaysIn (λ g. g.bindings) self.bindings) }
     {
         match self.rows.remove(&handle) {
             Some(value) => {
@@ -121,18 +116,13 @@ impl System for Gatekeeper {
 
     ghost judged = { λ ds g. refl };
 
-    ghost lasting = { λ g. record { bound = g.bindings; task = None } };
+    ghost bound = { λ g. g.bindings };
 
     ghost grouping = { λ k. None };
 
     ghost grouped = { λ ds g. refl };
 
-    fn apply<B: Behaves>(
-        self,
-        alloc: Global,
-        _behaves: &B,
-        event: SpaceEvent,
-    ) -> Result<Applied<Self>, NoMemory> {
+    fn apply(self, alloc: Global, event: SpaceEvent) -> Result<Applied<Self>, NoMemory> {
         match event {
             SpaceEvent::Add(handle, value) => self.add(alloc, handle, value),
             SpaceEvent::Gone(handle) => self.remove(alloc, handle),
@@ -147,11 +137,10 @@ impl System for Gatekeeper {
         None
     }
 
-    fn aim<J: Judge, B: Behaves>(
+    fn aim<J: Judge>(
         &self,
         alloc: Global,
         judge: &J,
-        _behaves: &B,
         readings: &mut Readings,
         key: &Value,
     ) -> Result<Option<Aim>, NoMemory> {

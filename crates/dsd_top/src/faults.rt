@@ -22,6 +22,7 @@ pub enum Fault {
     NoMemory,
     Limit(u8),
     BadConfig(u64),
+    NotBuilt(u64),
 }
 
 impl Fault {
@@ -36,6 +37,7 @@ impl Fault {
             Fault::NoMemory => 5,
             Fault::Limit(_) => 6,
             Fault::BadConfig(_) => 7,
+            Fault::NotBuilt(_) => 10,
         }
     }
 
@@ -51,6 +53,7 @@ impl Fault {
             Fault::NoMemory => "dsd: out of memory",
             Fault::Limit(_) => "dsd: limit ",
             Fault::BadConfig(_) => "dsd: bad config at ",
+            Fault::NotBuilt(_) => "dsd: not built at ",
         }
     }
 
@@ -62,6 +65,7 @@ impl Fault {
             Fault::BadInput(n) => buffer.format(n),
             Fault::Limit(limit) => buffer.format(limit),
             Fault::BadConfig(n) => buffer.format(n),
+            Fault::NotBuilt(n) => buffer.format(n),
             _ => "",
         }
     }
@@ -75,6 +79,7 @@ impl From<ScriptFault> for Fault {
             ScriptFault::Bad(n) => Fault::BadInput(n),
             ScriptFault::Limit(limit) => Fault::Limit(limit),
             ScriptFault::Schema(n) => Fault::BadConfig(n),
+            ScriptFault::NotBuilt(n) => Fault::NotBuilt(n),
             ScriptFault::NoMemory => Fault::NoMemory,
         }
     }

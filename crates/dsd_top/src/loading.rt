@@ -11,7 +11,6 @@ use crate::forms::{Form, value_in};
 use crate::words::Loading;
 use ds_skeleton::Skeleton;
 use hub_laws::settled_holdings_are_from_scratch;
-use lc_watch::Table;
 use pv_value::{NoMemory, Node, Value};
 use pv_words::{labelled, number, number_in};
 use rl_packet::Holding;
@@ -87,13 +86,7 @@ pub fn load_line(alloc: Global, loading: &Loading) -> Result<Vec<u8>, ScriptFaul
     settled_holdings_are_from_scratch();
     let script = load_script(alloc, loading.start(), loading.count())?;
     let bytes = script.as_slice();
-    let ran = run_script::<Skeleton, Conformance, Table>(
-        alloc,
-        bytes,
-        Input::Binary,
-        Conformance,
-        Table,
-    )?;
+    let ran = run_script::<Skeleton, Conformance>(alloc, bytes, Input::Binary, Conformance)?;
     let value = load_value(alloc, loading, &ran)?;
     Ok(value_in(alloc, &value, Form::Printed)?)
 }

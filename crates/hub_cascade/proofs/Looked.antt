@@ -16,7 +16,7 @@ use Rattle.ac_world.specs.Worlds.{actor_of, entry_of, with_entry, without_entry,
 use Rattle.ac_world.specs.declared.turns.Turned.TheVariants as turned
 use Rattle.hub_machine.specs.Admission.{Admitting}
 use Rattle.hub_machine.specs.declared.faults.Fault.{Fault}
-use Rattle.hub_machine.specs.Endings.{nameless, dismissed, failed, failed_where, overrun_by, overrun_of, all_overrun}
+use Rattle.hub_machine.specs.Endings.{nameless, departed, failed, failed_where, overrun_by, overrun_of, all_overrun}
 use Rattle.hub_machine.specs.Endings.{each_overrun}
 use Rattle.hub_machine.specs.Machine.{opened, accepted}
 use Rattle.hub_machine.specs.State.{State}
@@ -72,19 +72,19 @@ within_nameless j k s within =
     by true (Some p) (Some q) before is = is
     by true None (Some q) before is = absurd (let none : false ≡ true = before refl in cc)
 
--- whoever goes
-pub within_dismissed : (j a : ℕ) (s : State) → overrun_of j s ≡ None → overrun_of j (dismissed a s) ≡ None
-within_dismissed j a s within = elim (one_or_not (actor_of j) a) [
+pub within_departed : (j k : ℕ) (s : State) → overrun_of j s ≡ None → overrun_of j (departed k s) ≡ None
+within_departed j k s within = elim (one_or_not j k) [
   | inl same ↦
-      subst (λ b. overrun_of j (dismissed b s) ≡ None) same
-      (unless_live j (dismissed (actor_of j) s) (dead_itself (actor_of j) s.world))
+      subst (λ i. overrun_of j (departed i s) ≡ None) same
+      (unless_live j (departed j s) (dead_itself (actor_of j) s.world))
   | inr apart ↦
-      over_as_before j s (dismissed a s) (record {
-        live = live_but (actor_of j) a s.world apart;
+      (let actors = apart_actors j k apart in
+      over_as_before j s (departed k s) (record {
+        live = live_but (actor_of j) (actor_of k) s.world actors;
         names = refl;
-        load = endings_spare_others a (actor_of j) s.world apart;
+        load = endings_spare_others (actor_of k) (actor_of j) s.world actors;
       })
-      ∙ within
+      ∙ within)
 ]
 
 -- ---- so do all but one where that one gets names, comes, takes its turn or sends what reaches no other

@@ -1,17 +1,16 @@
-//! How connections and watchers end, and who ends at the end of a step.
+//! How connections end, and who ends at the end of a step.
 ghost use Rattle.std.specs.Prelude.{◌≡◌, ◌≤◌, ◌^◌, IfOk, IfSome};
 ghost use Rattle.std.specs.Map.{keys_of};
 ghost use Rattle.hub_machine.specs.Endings.{departed, departed_for, closed, failed, failed_where};
-ghost use Rattle.hub_machine.specs.Endings.{dismissed, spread_out, all_spread_out, overrun_by};
-ghost use Rattle.hub_machine.specs.Endings.{overrun_of, all_overrun, each_overrun, finished};
+ghost use Rattle.hub_machine.specs.Endings.{spread_out, all_spread_out, overrun_by, overrun_of};
+ghost use Rattle.hub_machine.specs.Endings.{all_overrun, each_overrun, finished};
 ghost use Rattle.hub_core.specs.Looking.{AreWithin, AreWithinBut, AreLeft};
 
 use crate::hub::Hub;
 use crate::unlooked::Unlooked;
 use ac_world::{FIRST_CONNECTION, Load, Spread};
 use ds_space::Space;
-use hub_machine::{DATASPACES, DELIVERIES, DELIVERIES_WEIGHT, Fault, Reply, overrun};
-use lc_watch::Behaves;
+use hub_machine::{DELIVERIES, DELIVERIES_WEIGHT, Fault, Reply, overrun};
 use pv_value::NoMemory;
 use sr_pass::Judge;
 use std::alloc::Global;
@@ -23,11 +22,11 @@ fn overrun_by(load: Load) -> Option<Fault>
     overrun(DELIVERIES, 1, load.count).or(overrun(DELIVERIES_WEIGHT, 2, load.weight))
 }
 
-impl<S: Space + Drop, J: Judge + Drop, B: Behaves + Drop> Hub<S, J, B> {
-    /// An actor that isn't always live goes, where it is live.
-    fn dismiss(self, alloc: Global, actor: u32) -> Result<Hub<S, J, B>, NoMemory>
-        requires { 9 ≤ actor }
-        ensures { IfOk result (λ h. h ≡ dismissed actor self) }
+impl<S: Space + Drop, J: Judge + Drop> Hub<S, J> {
+    /// A connection ends. Its names are gone already.
+    fn end(self, alloc: Global, connection: u32) -> Result<Hub<S, J>, NoMemory>
+        requires { connection ≤ 2 ^ 31 }
+        ensures { IfOk result (λ h. h ≡ departed connection self) }
     {
         let Hub {
             world,
@@ -36,7 +35,7 @@ impl<S: Space + Drop, J: Judge + Drop, B: Behaves + Drop> Hub<S, J, B> {
             stopped,
             unlooked,
         } = self;
-        let world = world.end(alloc, actor)?;
+        let world = world.end(alloc, 16 + connection)?;
         Ok(Hub {
             world,
             connections,
@@ -46,16 +45,8 @@ impl<S: Space + Drop, J: Judge + Drop, B: Behaves + Drop> Hub<S, J, B> {
         })
     }
 
-    /// A connection ends. Its names are gone already.
-    fn end(self, alloc: Global, connection: u32) -> Result<Hub<S, J, B>, NoMemory>
-        requires { connection ≤ 2 ^ 31 }
-        ensures { IfOk result (λ h. h ≡ departed connection self) }
-    {
-        self.dismiss(alloc, 16 + connection)
-    }
-
     /// A connection ends.
-    pub(crate) fn close(mut self, alloc: Global, connection: u32) -> Result<Hub<S, J, B>, NoMemory>
+    pub(crate) fn close(mut self, alloc: Global, connection: u32) -> Result<Hub<S, J>, NoMemory>
         requires { connection ≤ 2 ^ 31 }
         ensures { IfOk result (λ h. h ≡ closed connection self) }
     {
@@ -69,7 +60,7 @@ impl<S: Space + Drop, J: Judge + Drop, B: Behaves + Drop> Hub<S, J, B> {
         alloc: Global,
         connection: u32,
         fault: Fault,
-    ) -> Result<Hub<S, J, B>, NoMemory>
+    ) -> Result<Hub<S, J>, NoMemory>
         requires { connection ≤ 2 ^ 31 }
         ensures { IfOk result (λ h. h ≡ departed_for connection fault self) }
     {
@@ -84,7 +75,7 @@ impl<S: Space + Drop, J: Judge + Drop, B: Behaves + Drop> Hub<S, J, B> {
         alloc: Global,
         connection: u32,
         fault: Fault,
-    ) -> Result<Hub<S, J, B>, NoMemory>
+    ) -> Result<Hub<S, J>, NoMemory>
         requires { connection ≤ 2 ^ 31 }
         ensures { IfOk result (λ h. h ≡ failed connection fault self) }
     {
@@ -92,25 +83,18 @@ impl<S: Space + Drop, J: Judge + Drop, B: Behaves + Drop> Hub<S, J, B> {
         self.end_for(alloc, connection, fault)
     }
 
-    /// Who spread ends, where it isn't always live: a connection for a fault, where it is there,
-    /// and a watcher without one.
-    fn spread_out(self, alloc: Global, spread: Spread) -> Result<Hub<S, J, B>, NoMemory>
+    /// A connection that spread ends, where it is there.
+    fn spread_out(self, alloc: Global, spread: Spread) -> Result<Hub<S, J>, NoMemory>
         ensures { IfOk result (λ h. h ≡ spread_out spread self) }
     {
-        if spread.actor <= u32::from(DATASPACES) {
-            return Ok(self);
-        }
-        if spread.actor < FIRST_CONNECTION {
-            return self.dismiss(alloc, spread.actor);
-        }
-        if !self.live(spread.actor - 16) {
+        if spread.actor < FIRST_CONNECTION || !self.live(spread.actor - 16) {
             return Ok(self);
         }
         self.fail(alloc, spread.actor - 16, Fault::Spread(spread.weight))
     }
 
     /// Those that spread end, in order.
-    fn all_spread_out(self, alloc: Global, spreads: &[Spread]) -> Result<Hub<S, J, B>, NoMemory>
+    fn all_spread_out(self, alloc: Global, spreads: &[Spread]) -> Result<Hub<S, J>, NoMemory>
         ensures { IfOk result (λ h. h ≡ all_spread_out spreads.now self) }
     {
         let mut hub = self;
@@ -137,7 +121,7 @@ impl<S: Space + Drop, J: Judge + Drop, B: Behaves + Drop> Hub<S, J, B> {
         alloc: Global,
         connection: u32,
         fault: Option<Fault>,
-    ) -> Result<Hub<S, J, B>, NoMemory>
+    ) -> Result<Hub<S, J>, NoMemory>
         requires { IfSome fault (λ f. connection ≤ 2 ^ 31) }
         ensures { IfOk result (λ h. h ≡ failed_where connection fault self) }
     {
@@ -148,7 +132,7 @@ impl<S: Space + Drop, J: Judge + Drop, B: Behaves + Drop> Hub<S, J, B> {
     }
 
     /// The connections of these numbers end for which too much is held and waits, in order.
-    fn all_overrun(self, alloc: Global, connections: &[u32]) -> Result<Hub<S, J, B>, NoMemory>
+    fn all_overrun(self, alloc: Global, connections: &[u32]) -> Result<Hub<S, J>, NoMemory>
         ensures { IfOk result (λ h. h ≡ all_overrun connections.now self) }
     {
         let mut hub = self;
@@ -178,7 +162,7 @@ impl<S: Space + Drop, J: Judge + Drop, B: Behaves + Drop> Hub<S, J, B> {
     }
 
     /// Nobody is left to be looked at.
-    fn looked(mut self) -> Hub<S, J, B>
+    fn looked(mut self) -> Hub<S, J>
         requires { AreWithin self }
         ensures { result ≡ self }
     {
@@ -187,7 +171,7 @@ impl<S: Space + Drop, J: Judge + Drop, B: Behaves + Drop> Hub<S, J, B> {
     }
 
     /// The one connection is looked at that is left, and ends, where it has to.
-    fn look_at(self, alloc: Global, connection: u32) -> Result<Hub<S, J, B>, NoMemory>
+    fn look_at(self, alloc: Global, connection: u32) -> Result<Hub<S, J>, NoMemory>
         requires { AreWithinBut connection self }
         ensures { IfOk result (λ h. h ≡ each_overrun self) }
     {
@@ -197,7 +181,7 @@ impl<S: Space + Drop, J: Judge + Drop, B: Behaves + Drop> Hub<S, J, B> {
     }
 
     /// Each live connection is looked at, and those end who have to.
-    fn look_at_each(self, alloc: Global) -> Result<Hub<S, J, B>, NoMemory>
+    fn look_at_each(self, alloc: Global) -> Result<Hub<S, J>, NoMemory>
         ensures { IfOk result (λ h. h ≡ each_overrun self) }
     {
         let numbers = self.numbers(alloc)?;
@@ -206,7 +190,7 @@ impl<S: Space + Drop, J: Judge + Drop, B: Behaves + Drop> Hub<S, J, B> {
     }
 
     /// Those are looked at that are left, and those end who have to.
-    fn look(self, alloc: Global) -> Result<Hub<S, J, B>, NoMemory>
+    fn look(self, alloc: Global) -> Result<Hub<S, J>, NoMemory>
         ensures { IfOk result (λ h. h ≡ each_overrun self) }
     {
         match self.unlooked() {
@@ -217,7 +201,7 @@ impl<S: Space + Drop, J: Judge + Drop, B: Behaves + Drop> Hub<S, J, B> {
     }
 
     /// The step's end: those end who have to.
-    fn finish(self, alloc: Global, spreads: &[Spread]) -> Result<Hub<S, J, B>, NoMemory>
+    fn finish(self, alloc: Global, spreads: &[Spread]) -> Result<Hub<S, J>, NoMemory>
         ensures { IfOk result (λ h. h ≡ finished spreads.now self) }
     {
         let hub = self.all_spread_out(alloc, spreads)?;
@@ -230,7 +214,7 @@ impl<S: Space + Drop, J: Judge + Drop, B: Behaves + Drop> Hub<S, J, B> {
         alloc: Global,
         spreads: &[Spread],
         reply: Reply,
-    ) -> Result<(Hub<S, J, B>, Reply), NoMemory>
+    ) -> Result<(Hub<S, J>, Reply), NoMemory>
         ensures state { IfOk result (λ done. done.0 ≡ finished spreads.now self) }
         ensures reply { IfOk result (λ done. done.1 ≡ reply) }
     {

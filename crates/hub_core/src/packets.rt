@@ -13,14 +13,13 @@ ghost use Rattle.hub_machine.specs.Admission.{admission};
 ghost use Rattle.hub_machine.specs.Endings.{nameless, departed_for, finished};
 ghost use Rattle.hub_machine.specs.Machine.{judged, accepted, packet_at, bad_at, close_at};
 ghost use Rattle.hub_machine.specs.declared.steps.Reply.TheVariants as reply;
-ghost use Rattle.hub_valid.specs.Validity.{lived, IsValid, IsValidEntry};
+ghost use Rattle.hub_valid.specs.Validity.{IsValid, IsValidEntry};
 ghost use Rattle.hub_packets.specs.Refusals.{IsCauseAnd};
 
 use crate::hub::Hub;
 use ds_space::Space;
 use hub_machine::{Fault, Reply};
 use hub_packets::{Admitting, Refusal, admission};
-use lc_watch::Behaves;
 use pv_value::NoMemory;
 use rl_packet::Turn;
 use rl_ports::Ports;
@@ -35,7 +34,7 @@ fn keeps_its_order(connections: &BTreeMap<u32, Ports>)
     let _ = connections.len();
 }
 
-impl<S: Space + Drop, J: Judge + Drop, B: Behaves + Drop> Hub<S, J, B> {
+impl<S: Space + Drop, J: Judge + Drop> Hub<S, J> {
     /// A live connection's names, which are taken out of the state.
     pub(crate) fn take_ports(&mut self, connection: u32) -> Option<Ports>
         ensures ports { result ≡ ports_of connection self.old }
@@ -43,7 +42,7 @@ impl<S: Space + Drop, J: Judge + Drop, B: Behaves + Drop> Hub<S, J, B> {
             ≡ (if is_some result then nameless connection self.old else self.old) }
         ensures small { IfSome result (λ ports. connection ≤ 2 ^ 31) }
         ensures valid { IfSome result
-            (λ ports. IsValidEntry (lived self.old.world) (connection, ports)) }
+            (λ ports. IsValidEntry self.old.world.opened (connection, ports)) }
         ensures ordered { IsStrictlySortedBy nat_cmp (keys_of self.old.connections) }
     {
         keeps_its_order(&self.connections);
@@ -59,7 +58,7 @@ impl<S: Space + Drop, J: Judge + Drop, B: Behaves + Drop> Hub<S, J, B> {
         alloc: Global,
         connection: u32,
         admitting: Admitting,
-    ) -> Result<Hub<S, J, B>, NoMemory>
+    ) -> Result<Hub<S, J>, NoMemory>
         requires live { is_live (actor_of connection) self.world.table ≡ true }
         requires small { connection ≤ 2 ^ 31 }
         requires valid { IsValid self → IsValid (accepted connection admitting self) }
@@ -91,7 +90,7 @@ impl<S: Space + Drop, J: Judge + Drop, B: Behaves + Drop> Hub<S, J, B> {
         alloc: Global,
         connection: u32,
         refusal: Refusal,
-    ) -> Result<(Hub<S, J, B>, Reply), NoMemory>
+    ) -> Result<(Hub<S, J>, Reply), NoMemory>
         requires { connection ≤ 2 ^ 31 }
         ensures state { IfOk result (λ done. IsCauseAnd refusal
             (λ f. done.0 ≡ finished [] (departed_for connection f self))) }
@@ -114,11 +113,11 @@ impl<S: Space + Drop, J: Judge + Drop, B: Behaves + Drop> Hub<S, J, B> {
         connection: u32,
         ports: Ports,
         turn: &Turn,
-    ) -> Result<(Hub<S, J, B>, Reply), NoMemory>
+    ) -> Result<(Hub<S, J>, Reply), NoMemory>
         requires live { is_live (actor_of connection) self.world.table ≡ true }
         requires small { connection ≤ 2 ^ 31 }
         requires next { self.world.table.next < worn_handle }
-        requires valid { IsValidEntry (lived self.world) (connection, ports) }
+        requires valid { IsValidEntry self.world.opened (connection, ports) }
         ensures state { IfOk result (λ done. done.0
             ≡ (judged connection (admission connection ports self.world turn.now) self).state) }
         ensures reply { IfOk result (λ done. done.1
@@ -140,7 +139,7 @@ impl<S: Space + Drop, J: Judge + Drop, B: Behaves + Drop> Hub<S, J, B> {
         alloc: Global,
         connection: u32,
         turn: &Turn,
-    ) -> Result<(Hub<S, J, B>, Reply), NoMemory>
+    ) -> Result<(Hub<S, J>, Reply), NoMemory>
         requires next { self.world.table.next < worn_handle }
         ensures state { IfOk result (λ done. done.0
             ≡ (packet_at connection (ports_of connection self) turn.now self).state) }
@@ -159,7 +158,7 @@ impl<S: Space + Drop, J: Judge + Drop, B: Behaves + Drop> Hub<S, J, B> {
         alloc: Global,
         connection: u32,
         fault: Fault,
-    ) -> Result<(Hub<S, J, B>, Reply), NoMemory>
+    ) -> Result<(Hub<S, J>, Reply), NoMemory>
         ensures state { IfOk result (λ done. done.0
             ≡ (bad_at connection (ports_of connection self) fault self).state) }
         ensures reply { IfOk result (λ done. done.1
@@ -177,7 +176,7 @@ impl<S: Space + Drop, J: Judge + Drop, B: Behaves + Drop> Hub<S, J, B> {
         self,
         alloc: Global,
         connection: u32,
-    ) -> Result<(Hub<S, J, B>, Reply), NoMemory>
+    ) -> Result<(Hub<S, J>, Reply), NoMemory>
         ensures state { IfOk result (λ done. done.0
             ≡ (close_at connection (ports_of connection self) self).state) }
         ensures reply { IfOk result (λ done. done.1

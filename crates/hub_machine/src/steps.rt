@@ -1,7 +1,6 @@
 //! What can happen to the server, and what it answers.
 
 use crate::faults::Fault;
-use ac_world::Watched;
 use gk_sturdy::Binding;
 use rl_packet::{Packet, Turn};
 
@@ -10,8 +9,6 @@ use rl_packet::{Packet, Turn};
 pub enum Step {
     /// An oid is bound to a key and to the reference that it gives. No connection has come yet.
     Bind(Binding),
-    /// A watcher begins. No connection has come yet.
-    Watch(Watched),
     /// A connection comes, whose object 0 is the gatekeeper, for 0, or the dataspace of this
     /// number.
     Arrive(u8),
@@ -34,8 +31,7 @@ pub enum Step {
 pub enum Reply {
     /// The numbers of handles or of connections are used up. Nothing changes.
     Worn,
-    /// There is no such dataspace, the reference can't be bound, or the watcher can't begin.
-    /// Nothing changes.
+    /// There is no such dataspace, or the reference can't be bound. Nothing changes.
     Barred,
     /// The server is to stop: no connection comes, and the system's actors have nothing to do.
     /// Nothing changes.

@@ -15,7 +15,6 @@ pub mod Sparing
 pub mod StepEnds
 pub mod Turns
 pub mod Values
-pub mod Watchers
 pub mod WorldPlans
 pub mod WorldTables
 pub mod Worlds

@@ -1,3 +1,3 @@
-pub mod Setting
+pub mod Binding
 pub mod Parts
 pub mod TextCourses

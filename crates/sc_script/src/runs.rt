@@ -11,10 +11,10 @@ ghost use Rattle.sc_script.specs.Limits.{most_sent};
 ghost use Rattle.sc_script.specs.declared.faults.ScriptFault.TheVariants as fault;
 ghost use Rattle.sc_script.specs.Runs.{Running, Course, goes, beginning, stepped, turned, drained};
 ghost use Rattle.sc_script.specs.Runs.{with_stream, with_no_packet, packets_read, bytes_come};
-ghost use Rattle.sc_script.specs.Runs.{set_up, binds, was_opened, may_turn, with_packet};
+ghost use Rattle.sc_script.specs.Runs.{binds, was_opened, may_turn, with_packet};
 ghost use Rattle.sc_schema.specs.Courses.{after_value};
 ghost use Rattle.sc_script.specs.Runs.{after_event, doing};
-ghost use Rattle.sc_script.specs.Keeping.{size_of, noted, SetsUp, IsAt, RunsAs, StopsAs, ReadsOn};
+ghost use Rattle.sc_script.specs.Keeping.{size_of, noted, IsAt, RunsAs, StopsAs, ReadsOn};
 
 use crate::faults::ScriptFault;
 use ac_world::BEFORE_CONNECTIONS;
@@ -23,7 +23,6 @@ use gk_sturdy::Binding;
 use hub_core::{Fault, Hub, Reply, Step};
 use hub_outs::{Outs, turning};
 use lc_guard::all_known;
-use lc_watch::Behaves;
 use pv_canon::{canon_len, canonical_is_exact};
 use pv_value::{NoMemory, Value};
 use rl_packet::{Packet, Turn, packet_value};
@@ -39,14 +38,14 @@ const SENT_BYTES: u64 = 268_435_456;
 
 /// A run so far: the server, what connections were sent and how many bytes, and what they sent.
 #[derive(Drop)]
-pub(crate) struct Run<S: Space + Drop, J: Judge + Drop, B: Behaves + Drop> {
-    pub(crate) hub: Hub<S, J, B>,
+pub(crate) struct Run<S: Space + Drop, J: Judge + Drop> {
+    pub(crate) hub: Hub<S, J>,
     pub(crate) outs: Outs,
     size: u64,
     streams: Streams,
 }
 
-impl<S: Space + Drop, J: Judge + Drop, B: Behaves + Drop> Model for Run<S, J, B> {
+impl<S: Space + Drop, J: Judge + Drop> Model for Run<S, J> {
     ghost use Rattle.std.specs.Coded.{codes};
     ghost use Rattle.pv_value.specs.Lemmas.Coded.{plain_code};
     ghost use Rattle.sr_caveat.specs.Lemmas.Coded.{caveat_code};
@@ -80,13 +79,13 @@ fn size_of(alloc: Global, packet: &Packet) -> Result<u64, NoMemory>
     Ok(canon_len(&value))
 }
 
-impl<S: Space + Drop, J: Judge + Drop, B: Behaves + Drop> Run<S, J, B> {
-    /// Nothing is done yet. Guards judge by what is handed in, and watchers act by it.
-    pub(crate) fn begin(alloc: Global, judge: J, behaves: B) -> Result<Run<S, J, B>, NoMemory>
+impl<S: Space + Drop, J: Judge + Drop> Run<S, J> {
+    /// Nothing is done yet. Guards judge by what is handed in.
+    pub(crate) fn begin(alloc: Global, judge: J) -> Result<Run<S, J>, NoMemory>
         ensures { IfOk result (IsAt (beginning (J.schema judge))) }
     {
         Ok(Run {
-            hub: Hub::begin(alloc, judge, behaves)?,
+            hub: Hub::begin(alloc, judge)?,
             outs: Outs::new(alloc),
             size: 0,
             streams: Streams::new(alloc),
@@ -100,7 +99,7 @@ impl<S: Space + Drop, J: Judge + Drop, B: Behaves + Drop> Run<S, J, B> {
         alloc: Global,
         actor: Option<u32>,
         packet: Packet,
-    ) -> Result<Run<S, J, B>, ScriptFault>
+    ) -> Result<Run<S, J>, ScriptFault>
         ensures run { IfOk result (λ run. run ≡ noted actor packet self) }
         ensures stop { IfErr result (λ f. f ≢ fault.NoMemory
             → (f ≡ fault.Limit 4) × (most_sent < self.size + size_of packet)) }
@@ -124,20 +123,23 @@ impl<S: Space + Drop, J: Judge + Drop, B: Behaves + Drop> Run<S, J, B> {
         })
     }
 
-    /// Event `place` binds a reference or makes a watcher: it is bad where that is barred.
-    fn set_up(self, alloc: Global, place: u64, event: Step) -> Result<Run<S, J, B>, ScriptFault>
-        requires allowed { IsAllowed self.state event }
-        requires sets_up { SetsUp event }
-        ensures run { IfOk result (RunsAs self (λ N. set_up place event)) }
-        ensures stop { IfErr result (StopsAs self (λ N. set_up place event)) }
+    /// Event `place` binds a reference. The names of its guards are looked at first; then it is bad
+    /// where that is barred.
+    fn bind(self, alloc: Global, place: u64, binding: Binding) -> Result<Run<S, J>, ScriptFault>
+        requires { IsSound binding.cap }
+        ensures run { IfOk result (RunsAs self (λ N. binds place binding)) }
+        ensures stop { IfErr result (StopsAs self (λ N. binds place binding)) }
     {
+        if !all_known(self.hub.judge(), binding.cap.caveats.as_slice()) {
+            return Err(ScriptFault::Schema(place));
+        }
         let Run {
             hub,
             outs,
             size,
             streams,
         } = self;
-        let (hub, reply) = hub.step(alloc, event)?;
+        let (hub, reply) = hub.step(alloc, Step::Bind(binding))?;
         match reply {
             Reply::Worn => Err(ScriptFault::Limit(5)),
             Reply::Barred => Err(ScriptFault::Bad(place)),
@@ -150,20 +152,8 @@ impl<S: Space + Drop, J: Judge + Drop, B: Behaves + Drop> Run<S, J, B> {
         }
     }
 
-    /// Event `place` binds a reference. The names of its guards are looked at first.
-    fn bind(self, alloc: Global, place: u64, binding: Binding) -> Result<Run<S, J, B>, ScriptFault>
-        requires { IsSound binding.cap }
-        ensures run { IfOk result (RunsAs self (λ N. binds place binding)) }
-        ensures stop { IfErr result (StopsAs self (λ N. binds place binding)) }
-    {
-        if !all_known(self.hub.judge(), binding.cap.caveats.as_slice()) {
-            return Err(ScriptFault::Schema(place));
-        }
-        self.set_up(alloc, place, Step::Bind(binding))
-    }
-
     /// A step, whose condition is seen to.
-    fn step(self, alloc: Global, event: Step) -> Result<Run<S, J, B>, ScriptFault>
+    fn step(self, alloc: Global, event: Step) -> Result<Run<S, J>, ScriptFault>
         requires { IsAllowed self.state event }
         ensures run { IfOk result (RunsAs self (λ N. stepped event)) }
         ensures stop { IfErr result (StopsAs self (λ N. stepped event)) }
@@ -196,7 +186,7 @@ impl<S: Space + Drop, J: Judge + Drop, B: Behaves + Drop> Run<S, J, B> {
     }
 
     /// A turn of an actor.
-    fn turn(self, alloc: Global, actor: u32) -> Result<Run<S, J, B>, ScriptFault>
+    fn turn(self, alloc: Global, actor: u32) -> Result<Run<S, J>, ScriptFault>
         ensures run { IfOk result (RunsAs self (λ N. turned actor)) }
         ensures stop { IfErr result (StopsAs self (λ N. turned actor)) }
     {
@@ -204,7 +194,7 @@ impl<S: Space + Drop, J: Judge + Drop, B: Behaves + Drop> Run<S, J, B> {
     }
 
     /// Up to so many turns of the lowest actor that has work.
-    fn drain(self, alloc: Global, turns: u64) -> Result<Run<S, J, B>, ScriptFault>
+    fn drain(self, alloc: Global, turns: u64) -> Result<Run<S, J>, ScriptFault>
         ensures run { IfOk result (RunsAs self (λ N. drained turns)) }
         ensures stop { IfErr result (StopsAs self (λ N. drained turns)) }
     {
@@ -219,7 +209,7 @@ impl<S: Space + Drop, J: Judge + Drop, B: Behaves + Drop> Run<S, J, B> {
     }
 
     /// A connection's stream is put back.
-    fn with_stream(self, connection: u32, stream: Stream) -> Result<Run<S, J, B>, NoMemory>
+    fn with_stream(self, connection: u32, stream: Stream) -> Result<Run<S, J>, NoMemory>
         ensures { IfOk result (RunsAs self (λ N r. goes (with_stream connection stream r))) }
     {
         let Run {
@@ -238,7 +228,7 @@ impl<S: Space + Drop, J: Judge + Drop, B: Behaves + Drop> Run<S, J, B> {
     }
 
     /// A turn of a connection.
-    fn send(self, alloc: Global, connection: u32, turn: Turn) -> Result<Run<S, J, B>, ScriptFault>
+    fn send(self, alloc: Global, connection: u32, turn: Turn) -> Result<Run<S, J>, ScriptFault>
         ensures run { IfOk result (RunsAs self (λ N. stepped (steps.Packet connection turn))) }
         ensures stop { IfErr result (StopsAs self (λ N. stepped (steps.Packet connection turn))) }
     {
@@ -254,7 +244,7 @@ impl<S: Space + Drop, J: Judge + Drop, B: Behaves + Drop> Run<S, J, B> {
         connection: u32,
         next: Next,
         stream: Stream,
-    ) -> Result<Run<S, J, B>, ScriptFault>
+    ) -> Result<Run<S, J>, ScriptFault>
         ensures run { IfOk result (RunsAs self (λ N. with_no_packet connection next stream)) }
         ensures stop { IfErr result (StopsAs self (λ N. with_no_packet connection next stream)) }
     {
@@ -276,7 +266,7 @@ impl<S: Space + Drop, J: Judge + Drop, B: Behaves + Drop> Run<S, J, B> {
         connection: u32,
         packet: Packet,
         stream: Stream,
-    ) -> Result<(Run<S, J, B>, Option<Stream>), ScriptFault>
+    ) -> Result<(Run<S, J>, Option<Stream>), ScriptFault>
         ensures run { IfOk result (λ done. (N : Decider) → Decides N → (r : Running) → IsAt r self
             → ReadsOn done.0 done.1 stream
             (λ more. with_packet connection packet stream more r)) }
@@ -307,7 +297,7 @@ impl<S: Space + Drop, J: Judge + Drop, B: Behaves + Drop> Run<S, J, B> {
         alloc: Global,
         connection: u32,
         mut stream: Stream,
-    ) -> Result<Run<S, J, B>, ScriptFault>
+    ) -> Result<Run<S, J>, ScriptFault>
         ensures run { IfOk result
             (RunsAs self (λ N. packets_read N connection stream)) }
         ensures stop { IfErr result
@@ -330,12 +320,7 @@ impl<S: Space + Drop, J: Judge + Drop, B: Behaves + Drop> Run<S, J, B> {
     }
 
     /// Bytes of a connection come.
-    fn bytes(
-        self,
-        alloc: Global,
-        connection: u32,
-        bytes: &[u8],
-    ) -> Result<Run<S, J, B>, ScriptFault>
+    fn bytes(self, alloc: Global, connection: u32, bytes: &[u8]) -> Result<Run<S, J>, ScriptFault>
         ensures run { IfOk result
             (RunsAs self (λ N. bytes_come N connection bytes.now)) }
         ensures stop { IfErr result
@@ -376,19 +361,13 @@ impl<S: Space + Drop, J: Judge + Drop, B: Behaves + Drop> Run<S, J, B> {
     }
 
     /// Event `place` of a script.
-    fn event(
-        self,
-        alloc: Global,
-        place: u64,
-        event: ScriptEvent,
-    ) -> Result<Run<S, J, B>, ScriptFault>
+    fn event(self, alloc: Global, place: u64, event: ScriptEvent) -> Result<Run<S, J>, ScriptFault>
         requires { IsSoundEvent event }
         ensures run { IfOk result (RunsAs self (λ N. after_event N place event)) }
         ensures stop { IfErr result (StopsAs self (λ N. after_event N place event)) }
     {
         match event {
             ScriptEvent::Bind(binding) => self.bind(alloc, place, binding),
-            ScriptEvent::Watch(watched) => self.set_up(alloc, place, Step::Watch(watched)),
             ScriptEvent::Open(space) => self.step(alloc, Step::Arrive(space)),
             ScriptEvent::Bytes(connection, bytes) if self.was_opened(connection) => {
                 self.bytes(alloc, connection, bytes.as_slice())
@@ -400,6 +379,7 @@ impl<S: Space + Drop, J: Judge + Drop, B: Behaves + Drop> Run<S, J, B> {
             ScriptEvent::Drain(turns) => self.drain(alloc, turns),
             ScriptEvent::LongDrain => Err(ScriptFault::Limit(3)),
             ScriptEvent::Schema(_) if place == 0 => Ok(self),
+            ScriptEvent::Unbuilt => Err(ScriptFault::NotBuilt(place)),
             _ => Err(ScriptFault::Bad(place)),
         }
     }
@@ -410,7 +390,7 @@ impl<S: Space + Drop, J: Judge + Drop, B: Behaves + Drop> Run<S, J, B> {
         alloc: Global,
         place: u64,
         value: &Value,
-    ) -> Result<Run<S, J, B>, ScriptFault>
+    ) -> Result<Run<S, J>, ScriptFault>
         ensures run { IfOk result
             (RunsAs self (λ N. after_value (doing N) place (event_of value.now))) }
         ensures stop { IfErr result

@@ -5,7 +5,6 @@ ghost use Rattle.srv_loop.specs.Tallies.{links_of, accepts_of, HasEnded};
 
 use ds_space::Space;
 use hub_core::Hub;
-use lc_watch::Behaves;
 use out_ports::ports::{Listen, Run, Spawner};
 use out_real::{ScopeSpawner, start_in};
 use sr_pass::Judge;
@@ -80,9 +79,9 @@ trait Team<V> {
     fn end_workers<Rt: Wait>(&mut self, rt: &Rt) -> Result<(), NoMemory>;
 }
 
-impl<'g, S: Space + Drop, J: Judge + Drop, B: Behaves + Drop> Team<Worker<'g, Served<S, J, B>>>
-    for GateDesk<'g, Served<S, J, B>> {
-    fn worker(&mut self) -> Worker<'g, Served<S, J, B>> {
+impl<'g, S: Space + Drop, J: Judge + Drop> Team<Worker<'g, Served<S, J>>>
+    for GateDesk<'g, Served<S, J>> {
+    fn worker(&mut self) -> Worker<'g, Served<S, J>> {
         Worker::new(self.seat())
     }
 
@@ -165,10 +164,10 @@ fn take_back<T>(lent: &mut T)
 ///
 /// It returns once all threads that it started have ended: first the sessions, and then, told to
 /// stop, the workers.
-pub fn serve<Rt, S, J, B, Li>(
+pub fn serve<Rt, S, J, Li>(
     rt: &Rt,
     alloc: Global,
-    hub: Hub<S, J, B>,
+    hub: Hub<S, J>,
     listener: &mut Li,
     workers: u32,
     connections: u32,
@@ -177,7 +176,6 @@ where
     Rt: Threads + Wait + Sync,
     S: Space + Drop + Send,
     J: Judge + Drop + Send,
-    B: Behaves + Drop + Send,
     Li: Listen,
     Li::R: Send + Drop,
     Li::W: Send + Drop,

@@ -2,7 +2,6 @@
 //! makes all; dataspace 1 is told and makes rows at it.
 use ac_world::{Act, World};
 use ds_space::PlainSpace;
-use lc_watch::{Table, Watcher};
 use pv_text::read_text;
 use sr_pass::NoNames;
 use std::alloc::Global;
@@ -12,11 +11,11 @@ const PEER: u32 = 17;
 
 const SPACE: u32 = 1;
 
-type Room = World<PlainSpace, NoNames, Watcher<Table>>;
+type Room = World<PlainSpace, NoNames>;
 
 /// A room with one connection.
 fn room(alloc: Global) -> Result<Room, Fail> {
-    let (room, _) = Room::begin(alloc, NoNames, Watcher::new(Table))?.arrive()?;
+    let (room, _) = Room::begin(alloc, NoNames)?.arrive()?;
     Ok(room)
 }
 
