@@ -1,4 +1,4 @@
-pub mod Rows
+pub mod Events
 pub mod Shapes
 pub mod Wanting
 pub mod Weights

@@ -1,34 +1,15 @@
 -- What a watcher wants changes with the first row of a value, and with the last.
 use Rattle.std.proofs.Common.{◌≡◌, ℕ, List, [], ◌++◌, map, Bool, true, false, ◌&&◌, ◌||◌, not, refl, ap, sym, ◌∙◌}
-use Rattle.std.proofs.Common.{subst, append-nil}
-use Rattle.std.specs.List.{list_any}
-use Rattle.std.specs.List.Sorted.{IsStrictlySortedBy}
-use Rattle.std.proofs.lemmas.Map.Views.{any-filter_same}
+use Rattle.std.proofs.Common.{append-nil}
 use Rattle.pv_value.specs.Plain.{Plain}
 use Rattle.pv_value.specs.WellFormed.{Ascend}
-use Rattle.pv_words.specs.Parts.{same}
 use Rattle.ds_space.specs.Changes.{among, without}
 use Rattle.ds_space.specs.declared.space.Change.TheVariants.{Left, Came}
-use Rattle.ds_space.specs.Lemmas.Keys.{same_is}
-use Rattle.ds_space.specs.Lemmas.Exact.{without_is}
 use Rattle.ds_space.specs.Lemmas.Lists.{unique}
-use Rattle.ds_space.specs.Lemmas.Walks.{lacking_ascends}
 use Rattle.ac_watch.specs.Watching.{keys_over, watcher_keys, key_changes}
+use Rattle.ac_watch.specs.Lemmas.Alone.{among_without, without_ascends, ascend_nothing}
 use Rattle.ac_watch.specs.Lemmas.Keys.{among_keys, keys_ascend, over_ascends, standing_key, new_key}
-
--- ---- the keys of one list that aren't in another
-
-among_without : (q : Plain) (ks ls : List Plain) → among q (without ks ls) ≡ (not (among q ls) && among q ks)
-among_without q ks ls =
-    any-filter_same (same q) (λ k. not (among k ls)) (not (among q ls))
-    (λ k e. ap (λ z. not (among z ls)) (sym (same_is q k e))) ks
-
-without_ascends : (ks ls : List Plain) → Ascend ks → Ascend ls → Ascend (without ks ls)
-without_ascends ks ls s t = subst Ascend (without_is ks ls s t) (lacking_ascends ks ls s)
-
-ascend_nothing : Ascend []
-unfolding IsStrictlySortedBy
-ascend_nothing = tt
+use Rattle.ac_watch.specs.Lemmas.Rows.{IsLonger}
 
 -- those that are in the one alone are these
 left_alone : (name : List ℕ) (vs ws these : List Plain) → Ascend these
@@ -52,10 +33,6 @@ no_changes name vs = λ i. map Left (none i) ++ map Came (none i)
     none = left_alone name vs vs [] ascend_nothing (λ q. neither (among q (watcher_keys name vs)))
 
 -- ---- a value more
-
--- what is in the longer list alone
-abbrev pub IsLonger : Plain → List Plain → List Plain → Type 0
-IsLonger v less more = (p : Plain → Bool) → list_any p more ≡ (p v || list_any p less)
 
 module _ (name : List ℕ) (v : Plain) (less more : List Plain) (longer : IsLonger v less more) where
   among_more : (q : Plain) → among q (watcher_keys name more)

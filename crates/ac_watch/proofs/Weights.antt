@@ -17,7 +17,7 @@ use Rattle.ds_space.specs.Changes.{among}
 use Rattle.ds_space.specs.Lemmas.Keys.{same_is}
 use Rattle.ds_space.specs.Lemmas.Lists.{unique, ascending_any, in_order}
 use Rattle.ac_watch.specs.Watching.{made, is_sequence, sequences, weight_of_all, weight_of_made}
-use Rattle.ac_watch.proofs.Wanting.{IsLonger}
+use Rattle.ac_watch.specs.Lemmas.Rows.{IsLonger}
 
 among_filtered : (q : Plain) (vs : List Plain) → among q (filter is_sequence vs) ≡ (is_sequence q && among q vs)
 among_filtered q vs =

@@ -1,2 +1,4 @@
 -- Lemmas on the definitions, which proofs here and above cite. A reader of the contracts needs none of them.
+pub mod Alone
 pub mod Keys
+pub mod Rows

@@ -70,7 +70,7 @@ regot-fits : (y : Behaviour) (a from : ℕ) (e : SpaceEvent) (t : Turning)
     → regot y a (changed t.resident.got e) t ≡ applied y a from e t
 regot-fits y a from (Add h v) t fits =
     sym (ap (λ b. cond b
-    (spreading (by_assertion t.plan.table from (y.weight (values_of (changed t.resident.got (Add h v))))) t)
+    (spreading (by_assertion t.plan.table a from (y.weight (values_of (changed t.resident.got (Add h v))))) t)
     (regot y a (changed t.resident.got (Add h v)) t)) (not_above _ _ fits))
 regot-fits y a from (Gone h) t fits = refl
 
@@ -88,11 +88,11 @@ applied-done y a from e t rows cs is are fits =
 -- or it is passed over
 pub applied-over : (y : Behaviour) (a from : ℕ) (e : SpaceEvent) (t : Turning) (w : ℕ)
     → IsOverBy y (values_of (changed t.resident.got e)) e w
-    → spreading (by_assertion t.plan.table from w) t ≡ applied y a from e t
+    → spreading (by_assertion t.plan.table a from w) t ≡ applied y a from e t
 applied-over y a from (Add h v) t w over =
     let weight : ℕ = y.weight (values_of (changed t.resident.got (Add h v))) in
-    ap (λ n. spreading (by_assertion t.plan.table from n) t) over.1
-    ∙ sym (ap (λ b. cond b (spreading (by_assertion t.plan.table from weight) t)
+    ap (λ n. spreading (by_assertion t.plan.table a from n) t) over.1
+    ∙ sym (ap (λ b. cond b (spreading (by_assertion t.plan.table a from weight) t)
     (regot y a (changed t.resident.got (Add h v)) t))
     (ap (nat_lt most_wanted_weight) (sym over.1) ∙ is_above _ _ over.0))
 applied-over y a from (Gone h) t w over = absurd over

@@ -1,5 +1,5 @@
 -- Each live actor's facets, and those of each system actor's groups, through all changes of a world.
-use Rattle.std.proofs.Common.{◌≡◌, ◌≢◌, ℕ, zero, suc, ◌<◌, ◌≤◌, ◌==◌, List, [], ◌∷◌, Bool, true, false, not, cond}
+use Rattle.std.proofs.Common.{◌≡◌, ◌≢◌, ℕ, zero, suc, ◌<◌, ◌==◌, List, [], ◌∷◌, Bool, true, false, not, cond}
 use Rattle.std.proofs.Common.{Option, Some, None, unwrap_or, refl, ap, sym, ◌∙◌, subst, arith, filter, is_some}
 use Rattle.std.proofs.lemmas.Bool.Decides.{nat_tests}
 use Rattle.std.specs.BTreeMap.{is_at}
@@ -13,10 +13,10 @@ use Rattle.ac_world.specs.declared.acts.Act.{Act}
 use Rattle.ac_world.specs.Behaviours.{Behaviour}
 use Rattle.ac_world.specs.Housing.{IsRooted, AreHouses}
 use Rattle.ac_world.specs.Keeping.{Stands}
-use Rattle.ac_world.specs.Lemmas.Entries.{put_found, put_other}
+use Rattle.ac_world.specs.Lemmas.Entries.{put_found, put_other, out_other}
 use Rattle.ac_world.specs.Outboxes.{Outbox, Plan, plan_over, posted, committed, all_acted}
 use Rattle.ac_world.specs.Turns.{Turning, all_turned}
-use Rattle.ac_world.specs.Worlds.{Resident, AreHoused, entry_of, with_entry, no_resident, first_actors}
+use Rattle.ac_world.specs.Worlds.{Resident, AreHoused, entry_of, with_entry, without_entry, no_resident, first_actors}
 use Rattle.ac_world.proofs.Lives.{numbers, live_from_numbers, numbers-committed, live-posted, live-popped, tree-posted}
 use Rattle.ac_world.proofs.Lives.{tree-all_acted}
 use Rattle.ac_world.proofs.Numbers.{numbers-all_acted, numbers-all_turned}
@@ -146,16 +146,26 @@ rooted_joined a b s others = by (b == a) refl
         (subst IsRooted (sym (tree_joined a s)) alone_rooted)
     by false e = subst IsRooted (sym (other_tree_joined a b s e)) (others e)
 
-pub housed_joined : (a : ℕ) (s t : TableState) (rs : List (ℕ × Resident)) → 17 ≤ a → t ≡ joined a s → AreHoused s rs
-    → AreHoused t rs
-housed_joined a s t rs high is h =
+-- a system actor of which nothing is kept, or a connection
+pub housed_joined : (a : ℕ) (s t : TableState) (rs : List (ℕ × Resident)) → (a < 17 → entry_of a rs ≡ None)
+    → t ≡ joined a s → AreHoused s rs → AreHoused t rs
+housed_joined a s t rs none is h =
     subst (λ (u : TableState). AreHoused u rs) (sym is) (record {
       rooted = λ b live. rooted_joined a b s (λ e. h.rooted b (sym (placed_live a b s.actors e) ∙ live));
-      houses = λ b low live.
-          let ne : (b == a) ≡ false = grind (arith, nat_tests, low, high) in
-          subst (AreHouses (unwrap_or (entry_of b rs) no_resident).facets) (sym (other_tree_joined a b s ne))
-          (h.houses b low (sym (placed_live a b s.actors ne) ∙ live));
+      houses = λ b low live. house_at b low live (b == a) refl;
     })
+  where
+    house_at : (b : ℕ) → b < 17 → is_live b (joined a s) ≡ true → (c : Bool) → (b == a) ≡ c
+        → AreHouses (unwrap_or (entry_of b rs) no_resident).facets (tree_of b (joined a s))
+    house_at b low live true e =
+        let same : b ≡ a = grind (arith, nat_tests, e) in
+        let nothing : entry_of b rs ≡ None =
+        ap (λ (n : ℕ). entry_of n rs) same ∙ none (omega (arith, low, same)) in
+        subst (λ (o : Option Resident). AreHouses (unwrap_or o no_resident).facets (tree_of b (joined a s)))
+        (sym nothing) (record { there = tt; apart = tt })
+    house_at b low live false e =
+        subst (AreHouses (unwrap_or (entry_of b rs) no_resident).facets) (sym (other_tree_joined a b s e))
+        (h.houses b low (sym (placed_live a b s.actors e) ∙ live))
 
 ended_live : (a b : ℕ) (xs : List Actor) → (b == a) ≡ false
     → is_some (find_actor b (filter (λ x. not (x.number == a)) xs)) ≡ is_some (find_actor b xs)
@@ -167,13 +177,15 @@ ended_dead a [] = refl
 ended_dead a (x ∷ xs) = grind (arith, nat_tests, ended_dead a xs)
 
 pub housed_ended : (a : ℕ) (s t : TableState) (rs : List (ℕ × Resident)) → t ≡ ended a s → AreHoused s rs
-    → AreHoused t rs
+    → AreHoused t (without_entry a rs)
 housed_ended a s t rs is h =
-    subst (λ (u : TableState). AreHoused u rs) (sym is) (record {
+    subst (λ (u : TableState). AreHoused u (without_entry a rs)) (sym is) (record {
       rooted = λ b live. subst IsRooted (sym (other_tree_ended a b s (other b live))) (h.rooted b (was b live));
       houses = λ b low live.
-          subst (AreHouses (unwrap_or (entry_of b rs) no_resident).facets) (sym (other_tree_ended a b s (other b live)))
-          (h.houses b low (was b live));
+          subst (λ (o : Option Resident). AreHouses (unwrap_or o no_resident).facets (tree_of b (ended a s)))
+          (sym (out_other a b rs (apart b live)))
+          (subst (AreHouses (unwrap_or (entry_of b rs) no_resident).facets) (sym (other_tree_ended a b s (other b live)))
+          (h.houses b low (was b live)));
     })
   where
     other : (b : ℕ) → is_live b (ended a s) ≡ true → (b == a) ≡ false
@@ -185,6 +197,11 @@ housed_ended a s t rs is h =
             let clash : true ≡ false =
             sym live ∙ ap (λ (n : ℕ). is_live n (ended a s)) same ∙ ended_dead a s.actors in absurd cc
         by false e = e
+
+    apart : (b : ℕ) → is_live b (ended a s) ≡ true → b ≢ a
+    apart b live =
+        let e : (b == a) ≡ false = other b live in
+        λ same. grind (arith, nat_tests, e, same)
 
     was : (b : ℕ) → is_live b (ended a s) ≡ true → is_live b s ≡ true
     was b live = sym (ended_live a b s.actors (other b live)) ∙ live

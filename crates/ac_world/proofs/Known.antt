@@ -8,17 +8,10 @@ use Rattle.pv_value.specs.Order.{order}
 use Rattle.ds_space.specs.Lemmas.Keys.{same_is}
 use Rattle.sr_caveat.specs.Caps.{Cap, cap_of}
 use Rattle.ac_world.specs.Limits.{most_readings}
+use Rattle.ac_world.specs.Readings.{AreRead, HaveRoom}
 
 abbrev pub Kept : Type 0
 Kept = List (Plain × Option Cap)
-
--- each is what its value is read as
-abbrev pub AreRead : Kept → Type 0
-AreRead es = (v : Plain) (c : Option Cap) → lookup (is_at (order v)) es ≡ Some c → c ≡ cap_of v
-
--- there is room for one more
-abbrev pub HaveRoom : Kept → Type 0
-HaveRoom es = (length es < most_readings) × AreRead es
 
 none_found : (v : Plain) (c : Option Cap) → lookup {X = Option Cap} (is_at (order v)) [] ≡ Some c → ⊥
 none_found v c e = cc

@@ -1,5 +1,5 @@
 -- What the changes of a turn leave of a table: who is live, the actors' numbers, and their facets.
-use Rattle.std.proofs.Common.{◌≡◌, ℕ, ◌==◌, List, [], ◌∷◌, map, refl, ap, arith, sym, ◌∙◌, is_some, ◌≤◌, ◌+◌}
+use Rattle.std.proofs.Common.{◌≡◌, ℕ, ◌==◌, List, [], ◌∷◌, map, refl, ap, arith, sym, ◌∙◌, is_some}
 use Rattle.std.specs.List.{list_any, AllByRecursion}
 use Rattle.pv_value.specs.Plain.{Plain}
 use Rattle.ac_table.specs.declared.batches.Event.{Event}
@@ -9,7 +9,8 @@ use Rattle.ac_table.specs.Tables.{Actor, TableState, find_actor, is_live, tree_o
 use Rattle.ac_table.specs.Tables.{asserted, retracted, pushed, popped}
 use Rattle.ac_world.specs.declared.acts.Act.{Act}
 use Rattle.ac_world.specs.Outboxes.{Outbox, Plan, posted, put, dropped, said, committed, acted, all_acted}
-use Rattle.ac_world.specs.Worlds.{IsWorld}
+use Rattle.ac_world.specs.Watchers.{Watched}
+use Rattle.ac_world.specs.Worlds.{IsNumbered, IsWorld}
 use Rattle.ac_world.proofs.Sparing.{IsSparedByRows, dropped_spared, acted_spared, all_acted_spared}
 
 abbrev pub numbers_in : List Actor → List ℕ
@@ -38,9 +39,10 @@ all_actors : (P : ℕ → Type 0) (xs : List Actor) → AllByRecursion P (number
 all_actors P [] all = tt
 all_actors P (x ∷ xs) all = (all.0, all_actors P xs all.1)
 
-pub world_from_numbers : (n : ℕ) (s t : TableState) → numbers s ≡ numbers t → IsWorld n t → IsWorld n s
-world_from_numbers n s t is all =
-    all_actors (λ k. k ≤ 16 + n) s.actors (rw is (all_numbers (λ k. k ≤ 16 + n) t.actors all))
+pub world_from_numbers : (n : ℕ) (ws : List Watched) (s t : TableState) → numbers s ≡ numbers t → IsWorld n ws t
+    → IsWorld n ws s
+world_from_numbers n ws s t is all =
+    all_actors (IsNumbered n ws) s.actors (rw is (all_numbers (IsNumbered n ws) t.actors all))
 
 -- ---- the numbers stay
 

@@ -1,6 +1,8 @@
 -- The actors' numbers: a turn leaves them, an actor that joins adds its own, and one that ends takes its own away.
 use Rattle.std.proofs.Common.{◌≡◌, ℕ, zero, suc, ◌+◌, ◌<◌, ◌≤◌, Bool, true, false, not, ◌==◌, nat_lt, List, [], ◌∷◌}
-use Rattle.std.proofs.Common.{refl, ap, arith, ◌∙◌, filter, Option, Some, None, is_some, if◌then◌else◌, add-one}
+use Rattle.std.proofs.Common.{refl, ap, sym, subst, arith, ◌∙◌, ◌++◌, filter, length, length-append, Option, Some, None}
+use Rattle.std.proofs.Common.{is_some, if◌then◌else◌, add-one}
+use Rattle.std.proofs.lemmas.Bool.Decides.{nat_tests}
 use Rattle.std.specs.List.{AllByRecursion}
 use Rattle.ac_table.specs.declared.batches.Event.{Event}
 use Rattle.ac_table.specs.Tables.{Actor, TableState, find_actor, is_live, placed, joined, ended, popped}
@@ -9,7 +11,9 @@ use Rattle.ac_table.specs.declared.TableFault.{TableFault}
 use Rattle.ac_table.specs.declared.TableFault.TheVariants.{NoActor}
 use Rattle.ac_world.specs.declared.acts.Act.{Act}
 use Rattle.ac_world.specs.Outboxes.{Outbox, Plan, plan_over, committed, posted, all_acted}
-use Rattle.ac_world.specs.Worlds.{IsWorld, Resident, first_actors}
+use Rattle.ac_world.specs.Limits.{most_watchers}
+use Rattle.ac_world.specs.Watchers.{Watched, next_watcher}
+use Rattle.ac_world.specs.Worlds.{IsNumbered, IsWorld, Resident, first_actors}
 use Rattle.ac_world.specs.Behaviours.{Behaviour}
 use Rattle.ac_world.specs.Turns.{Turning, all_turned}
 use Rattle.ac_world.proofs.Lives.{numbers, numbers-committed, numbers-popped, numbers-posted}
@@ -64,16 +68,37 @@ none_above : (n a : ℕ) (xs : List Actor) → AllByRecursion (λ x. x.number �
 none_above n a [] all l = refl
 none_above n a (x ∷ xs) all l = grind (arith, all.0, none_above n a xs all.1 l)
 
-pub next_is_new : (n : ℕ) (t : TableState) → IsWorld n t → is_live (16 + (n + 1)) t ≡ false
-next_is_new n t all = none_above (16 + n) (16 + (n + 1)) t.actors all (omega arith)
+pub next_is_new : (n : ℕ) (ws : List Watched) (t : TableState) → IsWorld n ws t → is_live (16 + (n + 1)) t ≡ false
+next_is_new n ws t all =
+    none_above (16 + n) (16 + (n + 1)) t.actors
+    (all_weaker (λ x. IsNumbered n ws x.number) (λ x. x.number ≤ 16 + n) (λ x k. k.0) t.actors all) (omega arith)
 
-pub world_joined : (n : ℕ) (t : TableState) → IsWorld n t → IsWorld (n + 1) (joined (16 + (n + 1)) t)
-world_joined n t all =
-    all_placed (λ x. x.number ≤ 16 + (n + 1)) (record { number = 16 + (n + 1); inbox = [] }) t.actors (omega arith)
-    (all_weaker _ _ (λ x l. omega (arith, l)) t.actors all)
+pub world_joined : (n : ℕ) (ws : List Watched) (t : TableState) → IsWorld n ws t
+    → IsWorld (n + 1) ws (joined (16 + (n + 1)) t)
+world_joined n ws t all =
+    all_placed (λ x. IsNumbered (n + 1) ws x.number) (record { number = 16 + (n + 1); inbox = [] }) t.actors
+    (omega arith, λ low. absurd (omega (arith, low)))
+    (all_weaker (λ x. IsNumbered n ws x.number) (λ x. IsNumbered (n + 1) ws x.number)
+    (λ x k. (omega (arith, k.0), k.1)) t.actors all)
 
-pub world_ended : (a n : ℕ) (t : TableState) → IsWorld n t → IsWorld n (ended a t)
-world_ended a n t all = all_filter (λ x. x.number ≤ 16 + n) (λ x. not (x.number == a)) t.actors all
+pub world_ended : (a n : ℕ) (ws : List Watched) (t : TableState) → IsWorld n ws t → IsWorld n ws (ended a t)
+world_ended a n ws t all = all_filter (λ x. IsNumbered n ws x.number) (λ x. not (x.number == a)) t.actors all
+
+-- one that is live has a number of its kind
+among : (P : ℕ → Type 0) (a : ℕ) (xs : List Actor) → AllByRecursion (λ x. P x.number) xs
+    → is_some (find_actor a xs) ≡ true → P a
+among P a [] all live = absurd cc
+among P a (x ∷ xs) all live = by (x.number == a) refl (λ l. among P a xs all.1 l)
+  where
+    by : (b : Bool) → (x.number == a) ≡ b → (is_some (find_actor a xs) ≡ true → P a) → P a
+    by true is rest =
+        let same : x.number ≡ a = grind (arith, nat_tests, is) in
+        subst P same all.0
+    by false is rest = rest (sym (ap (λ b. is_some (if b then Some x else find_actor a xs)) is) ∙ live)
+
+pub live_numbered : (a n : ℕ) (ws : List Watched) (t : TableState) → IsWorld n ws t → is_live a t ≡ true
+    → IsNumbered n ws a
+live_numbered a n ws t all live = among (IsNumbered n ws) a t.actors all live
 
 -- ---- the first actors
 
@@ -97,23 +122,50 @@ first_is_new n t is = rw is (none_at n (first_actors n).actors (first_below n))
 pub first_joined : (n : ℕ) (s t : TableState) → t ≡ first_actors n → s ≡ joined n t → s ≡ first_actors (n + 1)
 first_joined n s t is one = rw (add-one) (one ∙ ap (joined n) is)
 
-pub first_world : (n : ℕ) (t : TableState) → n ≤ 17 → t ≡ first_actors n → IsWorld 0 t
+pub first_world : (n : ℕ) (t : TableState) → n ≤ 9 → t ≡ first_actors n → IsWorld 0 [] t
 first_world n t l is =
-    rw is (all_weaker _ _ (λ x k. omega (arith, k, l)) (first_actors n).actors (first_below n))
+    rw is (all_weaker (λ x. x.number < n) (λ x. IsNumbered 0 [] x.number)
+    (λ x k. (omega (arith, k, l), λ low. omega (arith, k, l))) (first_actors n).actors (first_below n))
+
+-- ---- a watcher that joins, before the first connection
+
+placed_is_live : (a : ℕ) (xs : List Actor)
+    → is_some (find_actor a (placed (record { number = a; inbox = [] }) xs)) ≡ true
+placed_is_live a [] = grind (arith, nat_tests)
+placed_is_live a (x ∷ xs) = grind (arith, nat_tests, placed_is_live a xs)
+
+pub joined_live : (a : ℕ) (s t : TableState) → s ≡ joined a t → is_live a s ≡ true
+joined_live a s t is = rw is (placed_is_live a t.actors)
+
+pub watcher_is_new : (ws : List Watched) (t : TableState) → IsWorld 0 ws t → is_live (next_watcher ws) t ≡ false
+watcher_is_new ws t all =
+    none_at (next_watcher ws) t.actors
+    (all_weaker (λ x. IsNumbered 0 ws x.number) (λ x. x.number < next_watcher ws)
+    (λ x k. k.1 (omega (arith, k.0))) t.actors all)
+
+pub world_watched : (ws : List Watched) (w : Watched) (t : TableState) → length ws < most_watchers → IsWorld 0 ws t
+    → IsWorld 0 (ws ++ w ∷ []) (joined (next_watcher ws) t)
+world_watched ws w t few all =
+    let more : List Watched = ws ++ w ∷ [] in
+    let longer : length more ≡ length ws + 1 = length-append ws (w ∷ []) in
+    all_placed (λ x. IsNumbered 0 more x.number) (record { number = next_watcher ws; inbox = [] }) t.actors
+    (omega (arith, few), λ low. omega (arith, longer))
+    (all_weaker (λ x. IsNumbered 0 ws x.number) (λ x. IsNumbered 0 more x.number)
+    (λ x k. (k.0, λ low. omega (arith, k.1 low, longer))) t.actors all)
 
 -- ---- a turn leaves a world
 
-pub world_sent : (a n : ℕ) (p : Plan) (s t : TableState) → s ≡ committed a p → numbers p.table ≡ numbers t → IsWorld n t
-    → IsWorld n s
-world_sent a n p s t is same all =
-    world_from_numbers n s t (ap numbers is ∙ numbers-committed a p ∙ same) all
+pub world_sent : (a n : ℕ) (ws : List Watched) (p : Plan) (s t : TableState) → s ≡ committed a p
+    → numbers p.table ≡ numbers t → IsWorld n ws t → IsWorld n ws s
+world_sent a n ws p s t is same all =
+    world_from_numbers n ws s t (ap numbers is ∙ numbers-committed a p ∙ same) all
 
-pub world_turned : (y : Behaviour) (a from n : ℕ) (es : List Event) (r : Resident) (t : Turning) (s u : TableState)
-    → t ≡ all_turned y a from es (record { resident = r; plan = plan_over u; spreads = [] }) → s ≡ committed a t.plan
-    → IsWorld n u → IsWorld n s
-world_turned y a from n es r t s u turned is all =
+pub world_turned : (y : Behaviour) (a from n : ℕ) (ws : List Watched) (es : List Event) (r : Resident) (t : Turning)
+    (s u : TableState) → t ≡ all_turned y a from es (record { resident = r; plan = plan_over u; spreads = [] })
+    → s ≡ committed a t.plan → IsWorld n ws u → IsWorld n ws s
+world_turned y a from n ws es r t s u turned is all =
     let start : Turning = record { resident = r; plan = plan_over u; spreads = [] } in
-    world_sent a n t.plan s u is
+    world_sent a n ws t.plan s u is
     (ap (λ (x : Turning). numbers x.plan.table) turned ∙ numbers-all_turned y a from es start) all
 
 -- ---- an actor's turn begins
@@ -122,16 +174,19 @@ no_fault_live : (b : Bool) → ◌≡◌ {A = Option TableFault} (if b then None
 no_fault_live true is = refl
 no_fault_live false is = absurd cc
 
+pub faultless_live : (a : ℕ) (t : TableState) → actor_fault a t ≡ None → is_live a t ≡ true
+faultless_live a t fault = no_fault_live (is_live a t) fault
+
 pub popped_live : (a : ℕ) (s t : TableState) → actor_fault a t ≡ None → s ≡ popped a t → is_live a s ≡ true
 popped_live a s t fault is = rw is (live-popped a a t ∙ no_fault_live (is_live a t) fault)
 
-pub world_popped : (a n : ℕ) (s t : TableState) → s ≡ popped a t → IsWorld n t → IsWorld n s
-world_popped a n s t is all = world_from_numbers n s t (ap numbers is ∙ numbers-popped a t) all
+pub world_popped : (a n : ℕ) (ws : List Watched) (s t : TableState) → s ≡ popped a t → IsWorld n ws t → IsWorld n ws s
+world_popped a n ws s t is all = world_from_numbers n ws s t (ap numbers is ∙ numbers-popped a t) all
 
 -- ---- an actor ends
 
-pub world_gone : (a from n : ℕ) (out : Outbox) (s t u : TableState) → s ≡ ended a u → t ≡ posted from out s
-    → IsWorld n u → IsWorld n t
-world_gone a from n out s t u is told all =
-    let less : IsWorld n s = rw is (world_ended a n u all) in
-    world_from_numbers n t s (ap numbers told ∙ numbers-posted from out s) less
+pub world_gone : (a from n : ℕ) (ws : List Watched) (out : Outbox) (s t u : TableState) → s ≡ ended a u
+    → t ≡ posted from out s → IsWorld n ws u → IsWorld n ws t
+world_gone a from n ws out s t u is told all =
+    let less : IsWorld n ws s = rw is (world_ended a n ws u all) in
+    world_from_numbers n ws t s (ap numbers told ∙ numbers-posted from out s) less

@@ -25,7 +25,7 @@ observer_in o = None
 abbrev pub aim_for : List Definition → Plain → Plain → Option Aim
 aim_for ds v o = option_and_then (aim_at ds v) (observer_in o)
 
--- a key `[o c]` belongs to the observation o
+-- a key `[o c]` belongs to the observation o, and a watcher's key `[c i]` to the captures c
 abbrev pub observation_of : Plain → Option Plain
 observation_of (sequence (then_more o rest)) = Some o
 observation_of k = None

@@ -1,7 +1,8 @@
--- What a system actor does by what it has got: what it wants, and to whom messages go. There are two kinds of system
--- actors. A dataspace is told of by `ds_space`; the gatekeeper answers those who resolve signed references. Syndicate
--- Protocol, "dataspaces" and "gatekeeper".
-use Rattle.std.specs.Prelude.{ℕ, zero, suc, ◌-◌, ◌^◌, min, List, [], Bool, false, ◌&&◌, Option, None, codes}
+-- What a system actor does by what it has got: what it wants, and to whom messages go. There are three kinds of system
+-- actors. A dataspace is told of by `ds_space`, and a watcher by `ac_watch`; the gatekeeper answers those who resolve
+-- signed references. Syndicate Protocol, "dataspaces" and "gatekeeper".
+use Rattle.std.specs.Prelude.{ℕ, zero, suc, ◌-◌, ◌^◌, min, List, [], Bool, false, ◌&&◌, Option, Some, None, codes}
+use Rattle.std.specs.Prelude.{option_map}
 use Rattle.std.specs.List.{filter}
 use Rattle.pv_value.specs.Plain.{Plain, symbol, record_of, no_more, then_more}
 use Rattle.pv_value.specs.Order.{order}
@@ -13,7 +14,9 @@ use Rattle.ds_space.specs.declared.space.Fanned.{Fanned}
 use Rattle.ds_space.specs.Fans.{fan_of, weight_of_fanned}
 use Rattle.gk_sturdy.specs.declared.bound.Binding.{Binding}
 use Rattle.gk_sturdy.specs.Answers.{reply_to}
+use Rattle.ac_watch.specs.Watching.{watcher_keys, watcher_weight, value_at}
 use Rattle.ac_world.specs.Aims.{Aim, aim_for, aim_of, observation_of}
+use Rattle.ac_world.specs.Watchers.{Watched, Task, task_at}
 
 -- for the values that an actor has got
 pub record Behaviour : Type 0 where
@@ -69,10 +72,32 @@ gatekeeper ds bs = record {
   fan = λ vs m. [];
 }
 
+-- ---- a watcher
+
+-- what is wanted under a key is asserted at a dataspace itself
+abbrev pub aim_in : Task → Plain → Option Aim
+aim_in task k =
+    option_map (λ v. record { at = record { actor = task.to; entity = 0 }; value = v }) (value_at task.name k)
+
+-- a key `[c i]` is of the group of the captures c; messages are dropped
+abbrev pub watcher : List Definition → Task → Behaviour
+watcher ds task = record {
+  schema = ds;
+  keys = watcher_keys task.name;
+  group = observation_of;
+  aim = aim_in task;
+  weight = watcher_weight task.name;
+  fan = λ vs m. [];
+}
+
 -- ---- the actors
 
--- where guards judge by this schema, and these references are bound: actor 0 is the gatekeeper, and the others are
--- dataspaces
-abbrev pub behaviour_of : List Definition → List Binding → ℕ → Behaviour
-behaviour_of ds bs zero = gatekeeper ds bs
-behaviour_of ds bs (suc a) = dataspace ds
+-- one with a task is a watcher, and one without is a dataspace
+abbrev pub other : List Definition → Option Task → Behaviour
+other ds None = dataspace ds
+other ds (Some task) = watcher ds task
+
+-- where guards judge by this schema, these references are bound, and these watchers were made: actor 0 is the gatekeeper
+abbrev pub behaviour_of : List Definition → List Binding → List Watched → ℕ → Behaviour
+behaviour_of ds bs ws zero = gatekeeper ds bs
+behaviour_of ds bs ws (suc a) = other ds (task_at (suc a) ws)

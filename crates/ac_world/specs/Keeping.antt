@@ -1,11 +1,15 @@
 -- What contracts know of a system actor, and of its turn, however the actor keeps what it has got.
-use Rattle.std.specs.Prelude.{◌≡◌, ℕ, true, List, map}
+use Rattle.std.specs.Prelude.{◌≡◌, ℕ, ◌<◌, true, List, map}
+use Rattle.std.specs.List.{AllByRecursion}
 use Rattle.ds_space.specs.Spaces.{Rows}
+use Rattle.ac_world.specs.declared.others.Other.{Other}
 use Rattle.ac_world.specs.declared.residents.Resident.{Resident as ResidentBy}
 use Rattle.ac_world.specs.declared.turning.Turning.{Turning as TurningBy}
 use Rattle.ac_table.specs.Tables.{is_live, tree_of}
 use Rattle.ac_world.specs.Behaviours.{Behaviour}
 use Rattle.ac_world.specs.Housing.{IsRooted, AreHouses}
+use Rattle.ac_world.specs.Others.{rows_in, task_in}
+use Rattle.ac_world.specs.Watchers.{Watched, next_watcher, task_at}
 use Rattle.ac_world.specs.Worlds.{Resident}
 use Rattle.ac_world.specs.Turns.{Turning}
 
@@ -30,6 +34,13 @@ pub record Stands (a : ℕ) (t : Turning) : Type 0 where
   pub rooted : IsRooted (tree_of a t.plan.table)
   pub houses : AreHouses t.resident.facets (tree_of a t.plan.table)
 
--- the dataspaces of a map
-abbrev pub residents_by : List (ℕ × ResidentBy Rows) → List (ℕ × Resident)
-residents_by es = map (λ e. (e.0, resident_by (λ rows. rows) e.1)) es
+-- the dataspaces and watchers of a map
+abbrev pub residents_by : List (ℕ × ResidentBy (Other Rows)) → List (ℕ × Resident)
+residents_by es = map (λ e. (e.0, resident_by rows_in e.1)) es
+
+-- each has the task that its number tells, where these watchers were made, and none has a number of later ones
+abbrev pub IsSeated : List Watched → ℕ × ResidentBy (Other Rows) → Type 0
+IsSeated ws e = (task_in e.1.system ≡ task_at e.0 ws) × (e.0 < next_watcher ws)
+
+abbrev pub AreSeated : List Watched → List (ℕ × ResidentBy (Other Rows)) → Type 0
+AreSeated ws es = AllByRecursion (IsSeated ws) es

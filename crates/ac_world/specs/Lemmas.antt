@@ -1,3 +1,4 @@
 -- Lemmas on the definitions, which proofs here and above cite. A reader of the contracts needs none of them.
 pub mod Asking
 pub mod Entries
+pub mod Watchers

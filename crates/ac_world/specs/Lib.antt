@@ -4,9 +4,12 @@ pub mod Housing
 pub mod Keeping
 pub mod Lemmas
 pub mod Limits
+pub mod Others
 pub mod Outboxes
+pub mod Readings
 pub mod Staying
 pub mod Sums
 pub mod Systems
 pub mod Turns
+pub mod Watchers
 pub mod Worlds

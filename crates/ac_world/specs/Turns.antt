@@ -1,6 +1,6 @@
 -- A turn: an actor takes the first batch of its inbox. A system actor compares what it wants before each event with
 -- what it wants after it. Syndicate Protocol, "turns".
-use Rattle.std.specs.Prelude.{ℕ, List, [], ◌∷◌, ◌++◌, Bool, true, ◌&&◌, not, ◌==◌, nat_lt, nat_le, Option}
+use Rattle.std.specs.Prelude.{ℕ, List, [], ◌∷◌, ◌++◌, Bool, true, ◌&&◌, ◌||◌, not, ◌==◌, nat_lt, nat_le, Option}
 use Rattle.std.specs.Prelude.{Some, None, if◌then◌else◌}
 use Rattle.std.specs.List.{list_any}
 use Rattle.std.specs.Map.{lookup, remove_entry, values_of}
@@ -35,15 +35,23 @@ use Rattle.ac_world.specs.declared.turns.Turned.TheVariants as turned
 abbrev pub is_listed : ℕ → List Spread → Bool
 is_listed a ss = list_any (λ s. s.actor == a) ss
 
--- A live connection ends that made the batch. Of another actor's assertion that actor ends, where it isn't always live.
 -- Each is listed once, with the first weight that was too much.
 abbrev pub spread_by : Bool → ℕ → ℕ → List Spread → List Spread
 spread_by ends from weight ss =
     if ends && not (is_listed from ss) then ss ++ record { actor = from; weight = weight } ∷ [] else ss
 
-abbrev pub by_assertion : TableState → ℕ → ℕ → List Spread → List Spread
-by_assertion t from weight ss = spread_by (nat_le 9 from && is_live from t) from weight ss
+-- a live one of those that aren't always live
+abbrev pub may_end : ℕ → TableState → Bool
+may_end a t = nat_le 9 a && is_live a t
 
+-- with an assertion at actor a that ends which made the batch; where that is no connection and a is a watcher, a ends
+abbrev pub culprit : ℕ → ℕ → ℕ
+culprit a from = if nat_le 17 from || nat_lt a 9 then from else a
+
+abbrev pub by_assertion : TableState → ℕ → ℕ → ℕ → List Spread → List Spread
+by_assertion t a from weight ss = spread_by (may_end (culprit a from) t) (culprit a from) weight ss
+
+-- with a message a connection ends that made the batch
 abbrev pub by_message : TableState → ℕ → ℕ → List Spread → List Spread
 by_message t from weight ss = spread_by (nat_le 17 from && is_live from t) from weight ss
 
@@ -148,7 +156,7 @@ spreading change t = record t { spreads = change t.spreads }
 abbrev pub applied : Behaviour → ℕ → ℕ → SpaceEvent → Turning → Turning
 applied y a from (Add h v) t =
     if nat_lt most_wanted_weight (y.weight (values_of (changed t.resident.got (Add h v))))
-    then spreading (by_assertion t.plan.table from (y.weight (values_of (changed t.resident.got (Add h v))))) t
+    then spreading (by_assertion t.plan.table a from (y.weight (values_of (changed t.resident.got (Add h v))))) t
     else regot y a (changed t.resident.got (Add h v)) t
 applied y a from (Gone h) t = regot y a (changed t.resident.got (Gone h)) t
 
@@ -208,7 +216,7 @@ end_turn a w t = record {
 
 abbrev pub system_turn : ℕ → Batch → WorldState → After
 system_turn a b w =
-    end_turn a w (all_turned (behaviour_of w.schema w.bindings a) a b.from b.events (begin_turn a w))
+    end_turn a w (all_turned (behaviour_of w.schema w.bindings w.watches a) a b.from b.events (begin_turn a w))
 
 -- a connection takes its batch, which the hub sends
 abbrev pub deliver : ℕ → List Event → WorldState → WorldState

@@ -1,5 +1,5 @@
 -- The world: live actors and their inboxes, rows, and what was delivered to whom.
-use Rattle.std.specs.Prelude.{ℕ, zero, suc, ◌+◌, List, [], ◌∷◌, Bool, ◌&&◌, nat_lt, nat_le, Option, unwrap_or}
+use Rattle.std.specs.Prelude.{ℕ, zero, suc, ◌+◌, List, [], ◌∷◌, ◌++◌, Bool, ◌&&◌, nat_lt, nat_le, Option, unwrap_or}
 use Rattle.std.specs.Prelude.{◌≡◌, ◌<◌, ◌≤◌, true, if◌then◌else◌}
 use Rattle.std.specs.List.{AllByRecursion}
 use Rattle.std.specs.Map.{lookup, remove_entry}
@@ -16,6 +16,8 @@ use Rattle.ac_table.specs.Tables.{TableState, opening, joined, is_live, tree_of,
 use Rattle.ac_world.specs.Housing.{Facets, IsRooted, AreHouses}
 use Rattle.ac_world.specs.Outboxes.{plan_over, all_acted, committed, retractions, posted}
 use Rattle.ac_world.specs.declared.acts.Act.{Act}
+use Rattle.ac_world.specs.declared.acts.Act.TheVariants as act
+use Rattle.ac_world.specs.Watchers.{Watched, next_watcher, observation_by}
 pub use Rattle.ac_world.specs.declared.held.Held.{Held}
 
 -- ---- actors: 0 is the gatekeeper, 1 to 8 are the dataspaces, 9 to 16 the watchers, 16 + k is connection k
@@ -47,13 +49,14 @@ pub record Gatekeeping : Type 0 where
 abbrev pub Deliveries : Type 0
 Deliveries = List (ℕ × Held)
 
--- The schema is what guards judge by; no change of the world changes it. The table has the next handle, the rows, and
--- the live actors with their inboxes. A dataspace to which nothing was ever delivered may stand in no list, and so may
--- a connection.
+-- The schema is what guards judge by; no change of the world changes it. The watches are the watchers that were ever
+-- made, actor 9 first. The table has the next handle, the rows, and the live actors with their inboxes. A dataspace or
+-- a watcher to which nothing was ever delivered may stand in no list, and so may a connection.
 pub record WorldState : Type 0 where
   pub opened : ℕ
   pub schema : List Definition
   pub bindings : List Binding
+  pub watches : List Watched
   pub table : TableState
   pub residents : List (ℕ × Resident)
   pub held : List (ℕ × Deliveries)
@@ -88,6 +91,7 @@ beginning ds = record {
   opened = 0;
   schema = ds;
   bindings = [];
+  watches = [];
   table = first_actors 9;
   residents = (0, no_resident) ∷ [];
   held = [];
@@ -120,10 +124,20 @@ arrived w = record w { opened = w.opened + 1; table = joined (actor_of (w.opened
 abbrev pub sent : ℕ → List Act → WorldState → WorldState
 sent a acts w = record w { table = committed a (all_acted a acts (plan_over w.table)) }
 
+-- the next watcher is live, and observes
+abbrev pub watching : Watched → WorldState → WorldState
+watching x w =
+    sent (next_watcher w.watches)
+    (act.Assert x.from 0 (observation_by (next_watcher w.watches) x.pattern) ∷ []) (record w {
+      watches = w.watches ++ x ∷ [];
+      table = joined (next_watcher w.watches) w.table;
+    })
+
 -- an actor goes with its rows, its inbox and what it has got; each live target is told of its rows there, in one batch
 abbrev pub gone : ℕ → WorldState → WorldState
 gone a w = record w {
   table = posted a (retractions (rows_of a w.table.rows) []) (ended a w.table);
+  residents = without_entry a w.residents;
   held = without_entry a w.held;
 }
 
@@ -133,9 +147,13 @@ ended_of a w = if is_live a w.table then gone a w else w
 
 -- ---- what is true of every world
 
--- no actor's number is above those of the connections that were opened
-abbrev pub IsWorld : ℕ → TableState → Type 0
-IsWorld opened t = AllByRecursion (λ x. x.number ≤ 16 + opened) t.actors
+-- no actor's number is above those of the connections that were opened, and none of the system's above those of the
+-- watchers that were made
+abbrev pub IsNumbered : ℕ → List Watched → ℕ → Type 0
+IsNumbered opened ws a = (a ≤ 16 + opened) × (a < 17 → a < next_watcher ws)
+
+abbrev pub IsWorld : ℕ → List Watched → TableState → Type 0
+IsWorld opened ws t = AllByRecursion (λ x. IsNumbered opened ws x.number) t.actors
 
 -- each live actor has its facets, and each system actor those of its groups
 pub record AreHoused (t : TableState) (residents : List (ℕ × Resident)) : Type 0 where

@@ -1,5 +1,5 @@
 //! A dataspace among the system actors, over any body of [`Space`].
-ghost use Rattle.std.specs.Prelude.{◌≡◌, [], IfOk, refl};
+ghost use Rattle.std.specs.Prelude.{◌≡◌, [], None, IfOk, refl};
 ghost use Rattle.ac_world.specs.Aims.{observation_of};
 ghost use Rattle.ac_world.specs.Behaviours.{dataspace};
 
@@ -7,6 +7,7 @@ use crate::aims::{Aim, observation_of};
 use crate::readings::Readings;
 use crate::systems::System;
 use ds_space::{Applied, Fan, Space, SpaceEvent};
+use lc_watch::Behaves;
 use pv_value::{NoMemory, Value};
 use sr_pass::Judge;
 use std::alloc::Global;
@@ -48,13 +49,18 @@ impl<S: Space + Drop> System for Dataspace<S> {
 
     ghost judged = { λ ds s. refl };
 
-    ghost bound = { λ s. [] };
+    ghost lasting = { λ s. record { bound = []; task = None } };
 
     ghost grouping = { observation_of };
 
     ghost grouped = { λ ds s. refl };
 
-    fn apply(self, alloc: Global, event: SpaceEvent) -> Result<Applied<Self>, NoMemory> {
+    fn apply<B: Behaves>(
+        self,
+        alloc: Global,
+        _behaves: &B,
+        event: SpaceEvent,
+    ) -> Result<Applied<Self>, NoMemory> {
         match self.space.apply(alloc, event)? {
             Applied::Done(space, changes) => Ok(Applied::Done(Dataspace { space }, changes)),
             Applied::Over(space, weight) => Ok(Applied::Over(Dataspace { space }, weight)),
@@ -69,10 +75,11 @@ impl<S: Space + Drop> System for Dataspace<S> {
         observation_of(key)
     }
 
-    fn aim<J: Judge>(
+    fn aim<J: Judge, B: Behaves>(
         &self,
         alloc: Global,
         judge: &J,
+        _behaves: &B,
         readings: &mut Readings,
         key: &Value,
     ) -> Result<Option<Aim>, NoMemory> {

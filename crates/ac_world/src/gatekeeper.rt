@@ -19,6 +19,7 @@ use crate::readings::Readings;
 use crate::systems::System;
 use ds_space::{Applied, Change, Changes, Fan, SpaceEvent, reference_of};
 use gk_sturdy::{Bindings, reply};
+use lc_watch::Behaves;
 use pv_value::{NoMemory, Node, Text, Value};
 use pv_words::{is_word, worded};
 use sr_pass::Judge;
@@ -83,7 +84,9 @@ impl Gatekeeper {
         ensures applied { IfOk result (λ applied. (ds : List Definition)
             → IsAppliedBy (λ g. g.got) (λ g. gatekeeper ds g.bindings)
             (gatekeeper ds self.bindings) self.got (Add handle value) applied) }
-        ensures bound { IfOk result (StaysIn (λ g. g.bindings) self.bindings) }
+        ensures lasting { IfOk result (StaysIn
+            (λ g. record { bound = g.bindings; task = None })
+            (record { bound = self.bindings; task = None })) }
     {
         let is_new = self.is_new(&value);
         let changes = change_if(alloc, is_new, Change::Came(value.copy()?))?;
@@ -96,7 +99,9 @@ impl Gatekeeper {
         ensures applied { IfOk result (λ applied. (ds : List Definition)
             → IsAppliedBy (λ g. g.got) (λ g. gatekeeper ds g.bindings)
             (gatekeeper ds self.bindings) self.got (Gone handle) applied) }
-        ensures bound { IfOk result (StaysIn (λ g. g.bindings) self.bindings) }
+        ensures lasting { IfOk result (StaysIn
+            (λ g. record { bound = g.bindings; task = None })
+            (record { bound = self.bindings; task = None })) }
     {
         match self.rows.remove(&handle) {
             Some(value) => {
@@ -116,13 +121,18 @@ impl System for Gatekeeper {
 
     ghost judged = { λ ds g. refl };
 
-    ghost bound = { λ g. g.bindings };
+    ghost lasting = { λ g. record { bound = g.bindings; task = None } };
 
     ghost grouping = { λ k. None };
 
     ghost grouped = { λ ds g. refl };
 
-    fn apply(self, alloc: Global, event: SpaceEvent) -> Result<Applied<Self>, NoMemory> {
+    fn apply<B: Behaves>(
+        self,
+        alloc: Global,
+        _behaves: &B,
+        event: SpaceEvent,
+    ) -> Result<Applied<Self>, NoMemory> {
         match event {
             SpaceEvent::Add(handle, value) => self.add(alloc, handle, value),
             SpaceEvent::Gone(handle) => self.remove(alloc, handle),
@@ -137,10 +147,11 @@ impl System for Gatekeeper {
         None
     }
 
-    fn aim<J: Judge>(
+    fn aim<J: Judge, B: Behaves>(
         &self,
         alloc: Global,
         judge: &J,
+        _behaves: &B,
         readings: &mut Readings,
         key: &Value,
     ) -> Result<Option<Aim>, NoMemory> {

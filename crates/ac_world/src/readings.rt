@@ -3,6 +3,7 @@ ghost use Rattle.std.specs.Prelude.{◌≡◌, IfOk, OnOk};
 ghost use Rattle.sr_caveat.specs.Caps.{cap_of};
 ghost use Rattle.ac_world.specs.Aims.{aim_at, aim_for, aim_of};
 ghost use Rattle.ac_world.specs.Limits.{most_readings};
+ghost use Rattle.ac_world.specs.Readings.{AreRead, HaveRoom};
 
 use crate::aims::{Aim, aim_at, aim_through, observer_in};
 use pv_value::{NoMemory, Node, Value};
@@ -30,21 +31,17 @@ pub struct Readings {
 }
 
 impl Model for Readings {
-    ghost use Rattle.std.specs.Prelude.{◌≡◌, ◌≤◌, Option, Some};
-    ghost use Rattle.std.specs.Map.{lookup};
-    ghost use Rattle.std.specs.BTreeMap.{btree_map_len, is_at};
-    ghost use Rattle.pv_value.specs.Plain.{Plain};
-    ghost use Rattle.pv_value.specs.Order.{order};
-    ghost use Rattle.sr_caveat.specs.Caps.{Cap as CapOf, cap_of};
+    ghost use Rattle.std.specs.Prelude.{◌≤◌};
+    ghost use Rattle.std.specs.BTreeMap.{btree_map_len};
     ghost use Rattle.ac_world.specs.Limits.{most_readings};
+    ghost use Rattle.ac_world.specs.Readings.{AreRead};
 
     ghost Value = { Unit {0} };
 
     ghost view = { λ r. tt };
 
-    ghost invariant = { λ r. (btree_map_len r.by_value ≤ most_readings)
-        × ((v : Plain) (c : Option CapOf)
-        → lookup (is_at (order v)) r.by_value.entries ≡ Some c → c ≡ cap_of v) };
+    ghost invariant = { λ r.
+        (btree_map_len r.by_value ≤ most_readings) × AreRead r.by_value.entries };
 }
 
 impl Readings {
@@ -59,9 +56,7 @@ impl Readings {
     fn keep(&mut self, value: Value, cap: Option<Cap>) -> Result<(), NoMemory>
         requires { cap ≡ cap_of value }
     {
-        if self.by_value.len() >= READINGS {
-            self.by_value.clear();
-        }
+        make_room(&mut self.by_value);
         self.by_value.insert(value, cap)?;
         Ok(())
     }
@@ -122,6 +117,16 @@ impl Readings {
             return Ok(None);
         };
         self.aim_for(alloc, judge, captures, observation)
+    }
+}
+
+/// Where there is no room for one more, all are forgotten.
+fn make_room(by_value: &mut BTreeMap<Value, Option<Cap>>)
+    requires { AreRead by_value.old.entries }
+    ensures { HaveRoom by_value.new.entries }
+{
+    if by_value.len() >= READINGS {
+        by_value.clear();
     }
 }
 

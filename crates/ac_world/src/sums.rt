@@ -10,6 +10,7 @@ use crate::held::Deliveries;
 use crate::world::World;
 use ac_table::Load;
 use ds_space::Space;
+use lc_watch::Behaves;
 use sr_pass::Judge;
 use std::collections::BTreeMap;
 
@@ -24,7 +25,7 @@ fn load_got(actor: u32, held: &BTreeMap<u32, Deliveries>) -> Load
     }
 }
 
-impl<S: Space + Drop, J: Judge + Drop> World<S, J> {
+impl<S: Space + Drop, J: Judge + Drop, B: Behaves + Drop> World<S, J, B> {
     /// What the values of an actor's rows weigh together.
     pub fn row_weight(&self, actor: u32) -> u64
         ensures { result ≡ top (row_weight actor self.now) }

@@ -5,13 +5,13 @@ ghost use Rattle.pv_value.specs.Plain.{Plain};
 ghost use Rattle.ds_space.specs.Spaces.{IsNew, has_row};
 ghost use Rattle.ps_schema.specs.declared.Definition.{Definition};
 ghost use Rattle.ac_world.specs.Behaviours.{Behaviour};
-ghost use Rattle.gk_sturdy.specs.declared.bound.Binding.{Binding};
-ghost use Rattle.ac_world.specs.Staying.{StaysIn};
+ghost use Rattle.ac_world.specs.Staying.{Lasting, StaysIn};
 ghost use Rattle.ac_world.specs.Systems.{IsAppliedBy, IsFanBy};
 
 use crate::aims::Aim;
 use crate::readings::Readings;
 use ds_space::{Applied, Fan, SpaceEvent};
+use lc_watch::Behaves;
 use pv_value::{NoMemory, Value};
 use sr_pass::Judge;
 use std::alloc::Global;
@@ -24,18 +24,24 @@ pub trait System {
     /// What it wants, and to whom messages go, where guards judge by a schema.
     ghost behaviour: { List Definition → Self → Behaviour };
 
-    /// The references that are bound, where it is the gatekeeper. No turn changes them.
-    ghost bound: { Self → List Binding };
+    /// The references that are bound, where it is the gatekeeper, and its task, where it is a
+    /// watcher. No turn changes them.
+    ghost lasting: { Self → Lasting };
 
     /// The groups of keys.
     ghost grouping: { Plain → Option Plain };
 
     /// A row comes or goes. For want of memory the actor is gone.
-    fn apply(self, alloc: Global, event: SpaceEvent) -> Result<Applied<Self>, NoMemory>
+    fn apply<B: Behaves>(
+        self,
+        alloc: Global,
+        behaves: &B,
+        event: SpaceEvent,
+    ) -> Result<Applied<Self>, NoMemory>
         requires { IsNew (rows self) event }
         ensures applied { IfOk result (λ applied. (ds : List Definition)
             → IsAppliedBy rows (behaviour ds) (behaviour ds self) (rows self) event applied) }
-        ensures bound { IfOk result (StaysIn bound (bound self)) };
+        ensures lasting { IfOk result (StaysIn lasting (lasting self)) };
 
     /// Whether a row has this handle.
     fn has(&self, handle: u64) -> bool
@@ -46,10 +52,11 @@ pub trait System {
         ensures { option_copied result ≡ grouping key.now };
 
     /// What arrives of what a key wants.
-    fn aim<J: Judge>(
+    fn aim<J: Judge, B: Behaves>(
         &self,
         alloc: Global,
         judge: &J,
+        behaves: &B,
         readings: &mut Readings,
         key: &Value,
     ) -> Result<Option<Aim>, NoMemory>

@@ -6,7 +6,7 @@ ghost use Rattle.ds_space.specs.Spaces.{IsNew};
 ghost use Rattle.ac_world.specs.Keeping.{Stands, TurnsBy, turning_by};
 ghost use Rattle.ac_world.specs.Housing.{housed};
 ghost use Rattle.ac_world.specs.Turns.{housing, vacating, left, came, changed_by, all_changed};
-ghost use Rattle.ac_world.specs.Turns.{applied, taken_in, say_all};
+ghost use Rattle.ac_world.specs.Turns.{applied, by_assertion, taken_in, say_all, culprit};
 ghost use Rattle.ac_world.specs.Turns.{passes_on, turned_by, all_turned};
 
 use crate::actors::{FIRST_CONNECTION, FIRST_OTHER};
@@ -17,6 +17,7 @@ use crate::spreads::Spreads;
 use crate::systems::System;
 use ac_table::Event;
 use ds_space::{Applied, Change, Changes, Fan, FanList, SpaceEvent};
+use lc_watch::Behaves;
 use pv_value::{NoMemory, Value};
 use sr_pass::Judge;
 use std::alloc::Global;
@@ -91,10 +92,11 @@ impl<Y: System + Drop> Turning<Y> {
     }
 
     /// A key is wanted now. Where the caveats refuse what is wanted, nothing comes of it.
-    fn come<J: Judge>(
+    fn come<J: Judge, B: Behaves>(
         &mut self,
         alloc: Global,
         judge: &J,
+        behaves: &B,
         actor: u32,
         key: Value,
     ) -> Result<(), NoMemory>
@@ -102,15 +104,15 @@ impl<Y: System + Drop> Turning<Y> {
         ensures stands { OnOk result (Stands actor (turning_by Y.rows self.new)) }
         ensures turns { OnOk result (TurnsBy Y.rows (Y.behaviour (J.schema judge.now)) self.old
             (λ y. came y actor key) self.new) }
-        ensures bound { OnOk result (Y.bound self.new.resident.system
-            ≡ Y.bound self.old.resident.system) }
+        ensures lasting { OnOk result (Y.lasting self.new.resident.system
+            ≡ Y.lasting self.old.resident.system) }
     {
         let Resident {
             system,
             readings,
             ..
         } = &mut self.resident;
-        let Some(Aim { at, value }) = system.aim(alloc, judge, readings, &key)? else {
+        let Some(Aim { at, value }) = system.aim(alloc, judge, behaves, readings, &key)? else {
             return Ok(());
         };
         let facet = self.house(actor, &key)?;
@@ -120,10 +122,11 @@ impl<Y: System + Drop> Turning<Y> {
     }
 
     /// One change in what is wanted.
-    fn change<J: Judge>(
+    fn change<J: Judge, B: Behaves>(
         &mut self,
         alloc: Global,
         judge: &J,
+        behaves: &B,
         actor: u32,
         change: Change,
     ) -> Result<(), NoMemory>
@@ -131,20 +134,21 @@ impl<Y: System + Drop> Turning<Y> {
         ensures stands { OnOk result (Stands actor (turning_by Y.rows self.new)) }
         ensures turns { OnOk result (TurnsBy Y.rows (Y.behaviour (J.schema judge.now)) self.old
             (λ y. changed_by y actor change) self.new) }
-        ensures bound { OnOk result (Y.bound self.new.resident.system
-            ≡ Y.bound self.old.resident.system) }
+        ensures lasting { OnOk result (Y.lasting self.new.resident.system
+            ≡ Y.lasting self.old.resident.system) }
     {
         match change {
             Change::Left(key) => self.leave(actor, &key),
-            Change::Came(key) => self.come(alloc, judge, actor, key),
+            Change::Came(key) => self.come(alloc, judge, behaves, actor, key),
         }
     }
 
     /// What changed in what is wanted.
-    fn change_all<J: Judge>(
+    fn change_all<J: Judge, B: Behaves>(
         &mut self,
         alloc: Global,
         judge: &J,
+        behaves: &B,
         actor: u32,
         changes: Changes,
     ) -> Result<(), NoMemory>
@@ -152,20 +156,21 @@ impl<Y: System + Drop> Turning<Y> {
         ensures stands { OnOk result (Stands actor (turning_by Y.rows self.new)) }
         ensures turns { OnOk result (TurnsBy Y.rows (Y.behaviour (J.schema judge.now)) self.old
             (λ y. all_changed y actor changes.items) self.new) }
-        ensures bound { OnOk result (Y.bound self.new.resident.system
-            ≡ Y.bound self.old.resident.system) }
+        ensures lasting { OnOk result (Y.lasting self.new.resident.system
+            ≡ Y.lasting self.old.resident.system) }
     {
         for change in changes {
-            self.change(alloc, judge, actor, change)?;
+            self.change(alloc, judge, behaves, actor, change)?;
         }
         Ok(())
     }
 
     /// The rows change by an event, where no more is wanted after it than may be.
-    fn apply<J: Judge>(
+    fn apply<J: Judge, B: Behaves>(
         self,
         alloc: Global,
         judge: &J,
+        behaves: &B,
         actor: u32,
         from: u32,
         event: SpaceEvent,
@@ -175,13 +180,13 @@ impl<Y: System + Drop> Turning<Y> {
         ensures stands { IfOk result (λ t. Stands actor (turning_by Y.rows t)) }
         ensures turns { IfOk result (TurnsBy Y.rows (Y.behaviour (J.schema judge.now)) self
             (λ y. applied y actor from event)) }
-        ensures bound { IfOk result (λ t. Y.bound t.resident.system
-            ≡ Y.bound self.resident.system) }
+        ensures lasting { IfOk result (λ t. Y.lasting t.resident.system
+            ≡ Y.lasting self.resident.system) }
     {
         let Turning {
             resident,
             plan,
-            mut spreads,
+            spreads,
         } = self;
         let Resident {
             system,
@@ -189,7 +194,7 @@ impl<Y: System + Drop> Turning<Y> {
             facets,
             readings,
         } = resident;
-        match system.apply(alloc, event)? {
+        match system.apply(alloc, behaves, event)? {
             Applied::Done(system, changes) => {
                 let resident = Resident {
                     system,
@@ -202,32 +207,27 @@ impl<Y: System + Drop> Turning<Y> {
                     plan,
                     spreads,
                 };
-                turning.change_all(alloc, judge, actor, changes)?;
+                turning.change_all(alloc, judge, behaves, actor, changes)?;
                 Ok(turning)
             }
             Applied::Over(system, weight) => {
-                let ends = from >= FIRST_OTHER && plan.table.live(from);
-                spreads.add(ends, from, weight)?;
                 let resident = Resident {
                     system,
                     handles,
                     facets,
                     readings,
                 };
-                Ok(Turning {
-                    resident,
-                    plan,
-                    spreads,
-                })
+                passed_over(actor, from, weight, resident, plan, spreads)
             }
         }
     }
 
     /// A row under a handle comes.
-    fn take_in<J: Judge>(
+    fn take_in<J: Judge, B: Behaves>(
         self,
         alloc: Global,
         judge: &J,
+        behaves: &B,
         actor: u32,
         from: u32,
         handle: u64,
@@ -237,13 +237,20 @@ impl<Y: System + Drop> Turning<Y> {
         ensures stands { IfOk result (λ t. Stands actor (turning_by Y.rows t)) }
         ensures turns { IfOk result (TurnsBy Y.rows (Y.behaviour (J.schema judge.now)) self
             (λ y. taken_in y actor from handle value)) }
-        ensures bound { IfOk result (λ t. Y.bound t.resident.system
-            ≡ Y.bound self.resident.system) }
+        ensures lasting { IfOk result (λ t. Y.lasting t.resident.system
+            ≡ Y.lasting self.resident.system) }
     {
         if self.resident.system.has(handle) {
             return Ok(self);
         }
-        self.apply(alloc, judge, actor, from, SpaceEvent::Add(handle, value))
+        self.apply(
+            alloc,
+            judge,
+            behaves,
+            actor,
+            from,
+            SpaceEvent::Add(handle, value),
+        )
     }
 
     /// The captures of a message, to each that observes it.
@@ -268,8 +275,8 @@ impl<Y: System + Drop> Turning<Y> {
     ) -> Result<(), NoMemory>
         ensures turns { OnOk result (TurnsBy Y.rows (Y.behaviour (J.schema judge.now)) self.old
             (λ y. passes_on y from message.now) self.new) }
-        ensures bound { OnOk result (Y.bound self.new.resident.system
-            ≡ Y.bound self.old.resident.system) }
+        ensures lasting { OnOk result (Y.lasting self.new.resident.system
+            ≡ Y.lasting self.old.resident.system) }
     {
         match self.resident.system.fan(alloc, message)? {
             Fan::Each(list) => self.say_all(alloc, judge, list)?,
@@ -282,10 +289,11 @@ impl<Y: System + Drop> Turning<Y> {
     }
 
     /// One event.
-    fn turn<J: Judge>(
+    fn turn<J: Judge, B: Behaves>(
         mut self,
         alloc: Global,
         judge: &J,
+        behaves: &B,
         actor: u32,
         from: u32,
         event: Event,
@@ -294,16 +302,17 @@ impl<Y: System + Drop> Turning<Y> {
         ensures stands { IfOk result (λ t. Stands actor (turning_by Y.rows t)) }
         ensures turns { IfOk result (TurnsBy Y.rows (Y.behaviour (J.schema judge.now)) self
             (λ y. turned_by y actor from event)) }
-        ensures bound { IfOk result (λ t. Y.bound t.resident.system
-            ≡ Y.bound self.resident.system) }
+        ensures lasting { IfOk result (λ t. Y.lasting t.resident.system
+            ≡ Y.lasting self.resident.system) }
     {
         match event {
             Event::Assert(handle, _, value) => self.take_in(
-                alloc, judge, actor, from, handle, value,
+                alloc, judge, behaves, actor, from, handle, value,
             ),
             Event::Retract(handle, _) => self.apply(
                 alloc,
                 judge,
+                behaves,
                 actor,
                 from,
                 SpaceEvent::Gone(handle),
@@ -321,10 +330,11 @@ impl<Y: System + Drop> Turning<Y> {
     }
 
     /// The events of a batch.
-    pub fn turn_all<J: Judge>(
+    pub fn turn_all<J: Judge, B: Behaves>(
         self,
         alloc: Global,
         judge: &J,
+        behaves: &B,
         actor: u32,
         from: u32,
         events: Vec<Event>,
@@ -333,13 +343,51 @@ impl<Y: System + Drop> Turning<Y> {
         ensures stands { IfOk result (λ t. Stands actor (turning_by Y.rows t)) }
         ensures turns { IfOk result (TurnsBy Y.rows (Y.behaviour (J.schema judge.now)) self
             (λ y. all_turned y actor from events.items)) }
-        ensures bound { IfOk result (λ t. Y.bound t.resident.system
-            ≡ Y.bound self.resident.system) }
+        ensures lasting { IfOk result (λ t. Y.lasting t.resident.system
+            ≡ Y.lasting self.resident.system) }
     {
         let mut turning = self;
         for event in events {
-            turning = turning.turn(alloc, judge, actor, from, event)?;
+            turning = turning.turn(alloc, judge, behaves, actor, from, event)?;
         }
         Ok(turning)
+    }
+}
+
+/// An event is passed over, since what is wanted would weigh so much; who is to end for it is
+/// listed.
+fn passed_over<Y: System + Drop>(
+    actor: u32,
+    from: u32,
+    weight: u64,
+    resident: Resident<Y>,
+    plan: Plan,
+    mut spreads: Spreads,
+) -> Result<Turning<Y>, NoMemory>
+    ensures { IfOk result (λ t. t ≡ record {
+      resident = resident;
+      plan = plan;
+      spreads = by_assertion plan.table actor from weight spreads;
+    }) }
+{
+    let culprit = culprit(actor, from);
+    let ends = culprit >= FIRST_OTHER && plan.table.live(culprit);
+    spreads.add(ends, culprit, weight)?;
+    Ok(Turning {
+        resident,
+        plan,
+        spreads,
+    })
+}
+
+/// Who ends where an assertion in a batch at an actor would have too much wanted: the one that made
+/// the batch; where that is no connection and the actor is a watcher, the actor.
+fn culprit(actor: u32, from: u32) -> u32
+    ensures { result ≡ culprit actor from }
+{
+    if from >= FIRST_CONNECTION || actor < FIRST_OTHER {
+        from
+    } else {
+        actor
     }
 }

@@ -1,14 +1,17 @@
 //! The world and its changes.
-ghost use Rattle.std.specs.Prelude.{◌≡◌, ◌<◌, ◌≤◌, ◌^◌, ◌-◌, ◌+◌, [], min, true, false};
-ghost use Rattle.std.specs.Prelude.{IfOk, OnOk, option_copied, option_map, unwrap_or};
+ghost use Rattle.std.specs.Prelude.{◌≡◌, ◌<◌, ◌≤◌, ◌^◌, ◌-◌, ◌+◌, [], length, min, true, false};
+ghost use Rattle.std.specs.Prelude.{IfOk, IfSome, OnOk, option_copied, option_map, unwrap_or};
 ghost use Rattle.ac_world.specs.Outboxes.{plan_over};
 ghost use Rattle.std.specs.BTreeMap.{IsOrdered};
 ghost use Rattle.std.specs.Ordering.{nat_cmp};
 ghost use Rattle.ac_table.specs.Tables.{is_live, find_row, first_batch, lowest, waiting};
 ghost use Rattle.gk_sturdy.specs.Bindings.{bound};
-ghost use Rattle.ac_world.specs.Behaviours.{dataspace};
 ghost use Rattle.ac_world.specs.Keeping.{resident_by, turning_by, Stands};
-ghost use Rattle.ac_world.specs.Worlds.{beginning, binding, arrived, sent, ended_of, no_resident};
+ghost use Rattle.ac_world.specs.Limits.{most_watchers};
+ghost use Rattle.ac_world.specs.Others.{rows_in, task_in};
+ghost use Rattle.ac_world.specs.Watchers.{task_at};
+ghost use Rattle.ac_world.specs.Worlds.{beginning, binding, watching, arrived, sent, ended_of};
+ghost use Rattle.ac_world.specs.Worlds.{no_resident};
 ghost use Rattle.ac_world.specs.Worlds.{is_system};
 ghost use Rattle.ac_world.specs.Turns.{Turning as TurningOf, all_turned, system_turn, deliver};
 ghost use Rattle.ac_world.specs.Turns.{turn_with, turn, work};
@@ -18,6 +21,7 @@ use crate::acts::Act;
 use crate::dataspaces::Dataspace;
 use crate::gatekeeper::Gatekeeper;
 use crate::held::Deliveries;
+use crate::others::Other;
 use crate::outboxes::Outbox;
 use crate::plans::Plan;
 use crate::residents::Resident;
@@ -25,9 +29,11 @@ use crate::spreads::Spreads;
 use crate::systems::System;
 use crate::turning::Turning;
 use crate::turns::Turned;
+use crate::watched::{Watched, observation_by};
 use ac_table::{Batch, Event, Row, Table, TableFault};
 use ds_space::Space;
 use gk_sturdy::Binding;
+use lc_watch::Behaves;
 use pv_value::{NoMemory, Value};
 use sr_pass::Judge;
 use std::alloc::Global;
@@ -36,16 +42,18 @@ use std::marker::Model;
 
 /// Live actors with their inboxes, rows, and what was delivered to whom.
 #[derive(Drop)]
-pub struct World<S: Space + Drop, J: Judge + Drop> {
+pub struct World<S: Space + Drop, J: Judge + Drop, B: Behaves + Drop> {
     pub(crate) opened: u32,
     pub(crate) judge: J,
+    pub(crate) behaves: B,
+    pub(crate) watches: Vec<Watched>,
     pub(crate) table: Table,
     pub(crate) gatekeeper: Resident<Gatekeeper>,
-    pub(crate) spaces: BTreeMap<u32, Resident<Dataspace<S>>>,
+    pub(crate) others: BTreeMap<u32, Resident<Other<Dataspace<S>>>>,
     pub(crate) held: BTreeMap<u32, Deliveries>,
 }
 
-impl<S: Space + Drop, J: Judge + Drop> Model for World<S, J> {
+impl<S: Space + Drop, J: Judge + Drop, B: Behaves + Drop> Model for World<S, J, B> {
     ghost use Rattle.std.specs.Coded.{codes};
     ghost use Rattle.pv_value.specs.Lemmas.Coded.{plain_code};
     ghost use Rattle.sr_caveat.specs.Lemmas.Coded.{caveat_code};
@@ -57,25 +65,27 @@ impl<S: Space + Drop, J: Judge + Drop> Model for World<S, J> {
     ghost coded = { Prim.hlevel (codes, plain_code, caveat_code, definition_code) };
 
     ghost use Rattle.std.specs.Prelude.{◌∷◌};
-    ghost use Rattle.ac_world.specs.Keeping.{resident_by, residents_by};
+    ghost use Rattle.ac_world.specs.Keeping.{resident_by, residents_by, AreSeated};
 
     ghost view = { λ w. record {
       opened = w.opened;
       schema = J.schema w.judge;
       bindings = w.gatekeeper.system.bindings;
+      watches = w.watches.items;
       table = w.table;
-      residents = (0, resident_by (λ g. g.got) w.gatekeeper) ∷ residents_by w.spaces.entries;
+      residents = (0, resident_by (λ g. g.got) w.gatekeeper) ∷ residents_by w.others.entries;
       held = w.held.entries;
     } };
 
-    ghost invariant = { λ w. IsWorld w.opened w.table × AreHoused w.table
-        ((0, resident_by (λ g. g.got) w.gatekeeper) ∷ residents_by w.spaces.entries) };
+    ghost invariant = { λ w. IsWorld w.opened w.watches.items w.table × AreHoused w.table
+        ((0, resident_by (λ g. g.got) w.gatekeeper) ∷ residents_by w.others.entries)
+        × AreSeated w.watches.items w.others.entries };
 }
 
-impl<S: Space + Drop, J: Judge + Drop> World<S, J> {
+impl<S: Space + Drop, J: Judge + Drop, B: Behaves + Drop> World<S, J, B> {
     /// The opening: the gatekeeper and the dataspaces are live, and nothing is said. Guards judge
-    /// by what is handed in.
-    pub fn begin(alloc: Global, judge: J) -> Result<World<S, J>, NoMemory>
+    /// by what is handed in, and so do watchers act.
+    pub fn begin(alloc: Global, judge: J, behaves: B) -> Result<World<S, J, B>, NoMemory>
         ensures { IfOk result (λ w. w ≡ beginning (J.schema judge)) }
     {
         let mut table = Table::new(alloc);
@@ -85,9 +95,11 @@ impl<S: Space + Drop, J: Judge + Drop> World<S, J> {
         Ok(World {
             opened: 0,
             judge,
+            behaves,
+            watches: Vec::new(alloc),
             table,
             gatekeeper: Resident::new(alloc, Gatekeeper::new(alloc)),
-            spaces: BTreeMap::new(alloc),
+            others: BTreeMap::new(alloc),
             held: BTreeMap::new(alloc),
         })
     }
@@ -97,6 +109,18 @@ impl<S: Space + Drop, J: Judge + Drop> World<S, J> {
         ensures { J.schema result.now ≡ self.now.schema }
     {
         &self.judge
+    }
+
+    /// What watchers act by.
+    pub fn behaves(&self) -> &B {
+        &self.behaves
+    }
+
+    /// The watchers that were ever made: actor 9 is the first.
+    pub fn watches(&self) -> &[Watched]
+        ensures { result.now ≡ self.now.watches }
+    {
+        &self.watches
     }
 
     /// The handle that is drawn next.
@@ -155,15 +179,31 @@ impl<S: Space + Drop, J: Judge + Drop> World<S, J> {
     }
 
     /// A reference is bound, where its oid isn't. For want of memory the world is gone.
-    pub fn bind(mut self, given: Binding) -> Result<World<S, J>, NoMemory>
+    pub fn bind(mut self, given: Binding) -> Result<World<S, J, B>, NoMemory>
         ensures { IfOk result (λ w. w ≡ binding given self) }
     {
         self.gatekeeper.system.bindings.add(given)?;
         Ok(self)
     }
 
+    /// The next watcher is live, and observes. No connection has come yet. For want of memory the
+    /// world is gone.
+    pub fn watch(mut self, alloc: Global, given: Watched) -> Result<World<S, J, B>, NoMemory>
+        requires first { self.opened ≡ 0 }
+        requires few { length self.watches < most_watchers }
+        ensures { IfOk result (λ w. w ≡ watching given self) }
+    {
+        let actor = FIRST_OTHER + self.watches.len() as u32;
+        let observation = observation_by(alloc, actor, given.pattern.copy()?)?;
+        let mut acts = Vec::with_capacity(alloc, 1)?;
+        acts.push(Act::Assert(given.from as u32, 0, observation))?;
+        self.table.add_actor(actor)?;
+        self.watches.push(given)?;
+        self.send(alloc, actor, acts)
+    }
+
     /// The next connection is live; answers its number.
-    pub fn arrive(mut self) -> Result<(World<S, J>, u32), NoMemory>
+    pub fn arrive(mut self) -> Result<(World<S, J, B>, u32), NoMemory>
         requires { self.opened < 2 ^ 31 }
         ensures world { IfOk result (λ done. done.0 ≡ arrived self) }
         ensures number { IfOk result (λ done. done.1 ≡ self.opened + 1) }
@@ -175,16 +215,18 @@ impl<S: Space + Drop, J: Judge + Drop> World<S, J> {
     }
 
     /// A live connection's acts, in order.
-    pub fn send(self, alloc: Global, actor: u32, acts: Vec<Act>) -> Result<World<S, J>, NoMemory>
+    pub fn send(self, alloc: Global, actor: u32, acts: Vec<Act>) -> Result<World<S, J, B>, NoMemory>
         requires { is_live actor self.table ≡ true }
         ensures { IfOk result (λ w. w ≡ sent actor acts.items self) }
     {
         let World {
             opened,
             judge,
+            behaves,
+            watches,
             table,
             gatekeeper,
-            spaces,
+            others,
             held,
         } = self;
         let mut plan = Plan::new(alloc, table);
@@ -192,15 +234,21 @@ impl<S: Space + Drop, J: Judge + Drop> World<S, J> {
         Ok(World {
             opened,
             judge,
+            behaves,
+            watches,
             table: plan.commit(actor)?,
             gatekeeper,
-            spaces,
+            others,
             held,
         })
     }
 
     /// The gatekeeper's turn, its batch taken.
-    fn gatekeeper_turn(self, alloc: Global, batch: Batch) -> Result<(World<S, J>, Turned), NoMemory>
+    fn gatekeeper_turn(
+        self,
+        alloc: Global,
+        batch: Batch,
+    ) -> Result<(World<S, J, B>, Turned), NoMemory>
         requires { is_live 0 self.table ≡ true }
         ensures world { IfOk result (λ done. done.0 ≡ (system_turn 0 batch self).world) }
         ensures turned { IfOk result (λ done. done.1 ≡ (system_turn 0 batch self).turned) }
@@ -208,34 +256,40 @@ impl<S: Space + Drop, J: Judge + Drop> World<S, J> {
         let World {
             opened,
             judge,
+            behaves,
+            watches,
             table,
             gatekeeper,
-            spaces,
+            others,
             held,
         } = self;
         let Turning {
             resident,
             plan,
             spreads,
-        } = turned(alloc, &judge, GATEKEEPER, gatekeeper, table, batch)?;
+        } = turned(
+            alloc, &judge, &behaves, GATEKEEPER, gatekeeper, table, batch,
+        )?;
         let world = World {
             opened,
             judge,
+            behaves,
+            watches,
             table: plan.commit(GATEKEEPER)?,
             gatekeeper: resident,
-            spaces,
+            others,
             held,
         };
         Ok((world, Turned::Ran(spreads)))
     }
 
     /// The turn of another system actor, its batch taken.
-    fn space_turn(
+    fn other_turn(
         self,
         alloc: Global,
         actor: u32,
         batch: Batch,
-    ) -> Result<(World<S, J>, Turned), NoMemory>
+    ) -> Result<(World<S, J, B>, Turned), NoMemory>
         requires live { is_live actor self.table ≡ true }
         requires other { 0 < actor }
         requires system { actor < 17 }
@@ -245,25 +299,29 @@ impl<S: Space + Drop, J: Judge + Drop> World<S, J> {
         let World {
             opened,
             judge,
+            behaves,
+            watches,
             table,
             gatekeeper,
-            mut spaces,
+            mut others,
             held,
         } = self;
-        keeps_its_order(&spaces);
-        let resident = resident_or_new(alloc, spaces.remove(&actor));
+        keeps_its_order(&others);
+        let resident = resident_or_new(alloc, &watches, actor, others.remove(&actor))?;
         let Turning {
             resident,
             plan,
             spreads,
-        } = turned(alloc, &judge, actor, resident, table, batch)?;
-        spaces.insert(actor, resident)?;
+        } = turned(alloc, &judge, &behaves, actor, resident, table, batch)?;
+        others.insert(actor, resident)?;
         let world = World {
             opened,
             judge,
+            behaves,
+            watches,
             table: plan.commit(actor)?,
             gatekeeper,
-            spaces,
+            others,
             held,
         };
         Ok((world, Turned::Ran(spreads)))
@@ -286,7 +344,7 @@ impl<S: Space + Drop, J: Judge + Drop> World<S, J> {
         alloc: Global,
         actor: u32,
         batch: Batch,
-    ) -> Result<(World<S, J>, Turned), NoMemory>
+    ) -> Result<(World<S, J, B>, Turned), NoMemory>
         requires { is_system actor ≡ false }
         ensures world { IfOk result (λ done. done.0 ≡ (turn_with actor batch self).world) }
         ensures turned { IfOk result (λ done. done.1 ≡ (turn_with actor batch self).turned) }
@@ -301,7 +359,7 @@ impl<S: Space + Drop, J: Judge + Drop> World<S, J> {
         alloc: Global,
         actor: u32,
         batch: Batch,
-    ) -> Result<(World<S, J>, Turned), NoMemory>
+    ) -> Result<(World<S, J, B>, Turned), NoMemory>
         requires { is_live actor self.table ≡ true }
         ensures world { IfOk result (λ done. done.0 ≡ (turn_with actor batch self).world) }
         ensures turned { IfOk result (λ done. done.1 ≡ (turn_with actor batch self).turned) }
@@ -311,12 +369,12 @@ impl<S: Space + Drop, J: Judge + Drop> World<S, J> {
         } else if actor == GATEKEEPER {
             self.gatekeeper_turn(alloc, batch)
         } else {
-            self.space_turn(alloc, actor, batch)
+            self.other_turn(alloc, actor, batch)
         }
     }
 
     /// An actor takes the first batch of its inbox. For want of memory the world is gone.
-    pub fn turn(mut self, alloc: Global, actor: u32) -> Result<(World<S, J>, Turned), NoMemory>
+    pub fn turn(mut self, alloc: Global, actor: u32) -> Result<(World<S, J, B>, Turned), NoMemory>
         ensures world { IfOk result (λ done. done.0 ≡ (turn actor self).world) }
         ensures turned { IfOk result (λ done. done.1 ≡ (turn actor self).turned) }
     {
@@ -328,7 +386,7 @@ impl<S: Space + Drop, J: Judge + Drop> World<S, J> {
     }
 
     /// The turn of the lowest system actor for which a batch waits.
-    pub fn work(self, alloc: Global) -> Result<(World<S, J>, Turned), NoMemory>
+    pub fn work(self, alloc: Global) -> Result<(World<S, J, B>, Turned), NoMemory>
         ensures world { IfOk result (λ done. done.0 ≡ (work self).world) }
         ensures turned { IfOk result (λ done. done.1 ≡ (work self).turned) }
     {
@@ -340,7 +398,7 @@ impl<S: Space + Drop, J: Judge + Drop> World<S, J> {
 
     /// An actor that isn't always live goes, where it is live, with its rows, its inbox and what it
     /// has got; each live target is told of its rows there.
-    pub fn end(mut self, alloc: Global, actor: u32) -> Result<World<S, J>, NoMemory>
+    pub fn end(mut self, alloc: Global, actor: u32) -> Result<World<S, J, B>, NoMemory>
         requires { 9 ≤ actor }
         ensures { IfOk result (λ w. w ≡ ended_of actor self) }
     {
@@ -349,6 +407,7 @@ impl<S: Space + Drop, J: Judge + Drop> World<S, J> {
                 let mut out = Outbox::new(alloc);
                 out.retract_all(&rows)?;
                 out.post(actor, &mut self.table)?;
+                self.others.remove(&actor);
                 self.held.remove(&actor);
                 Ok(self)
             }
@@ -365,24 +424,30 @@ fn keeps_its_order<V>(map: &BTreeMap<u32, V>)
     let _ = map.len();
 }
 
-/// The dataspace, or one that has got nothing.
+/// The actor of this number as it is kept, or one that has got nothing, where these watchers were
+/// made.
 fn resident_or_new<S: Space + Drop>(
     alloc: Global,
-    resident: Option<Resident<Dataspace<S>>>,
-) -> Resident<Dataspace<S>>
-    ensures { resident_by (λ rows. rows) result
-        ≡ unwrap_or (option_map (resident_by (λ rows. rows)) resident) no_resident }
+    watches: &[Watched],
+    actor: u32,
+    resident: Option<Resident<Other<Dataspace<S>>>>,
+) -> Result<Resident<Other<Dataspace<S>>>, NoMemory>
+    requires { IfSome resident (λ r. task_in r.system ≡ task_at actor watches.now) }
+    ensures resident { IfOk result (λ r. resident_by rows_in r
+        ≡ unwrap_or (option_map (resident_by rows_in) resident) no_resident) }
+    ensures task { IfOk result (λ r. task_in r.system ≡ task_at actor watches.now) }
 {
     match resident {
-        Some(resident) => resident,
-        None => Resident::new(alloc, Dataspace::new(alloc)),
+        Some(resident) => Ok(resident),
+        None => Ok(Resident::new(alloc, Other::new(alloc, watches, actor)?)),
     }
 }
 
 /// A system actor's turn over a batch.
-fn turned<Y: System + Drop, J: Judge>(
+fn turned<Y: System + Drop, J: Judge, B: Behaves>(
     alloc: Global,
     judge: &J,
+    behaves: &B,
     actor: u32,
     resident: Resident<Y>,
     table: Table,
@@ -398,8 +463,8 @@ fn turned<Y: System + Drop, J: Judge>(
           plan = plan_over table;
           spreads = [];
         })) }
-    ensures bound { IfOk result (λ t. Y.bound t.resident.system
-        ≡ Y.bound resident.system) }
+    ensures lasting { IfOk result (λ t. Y.lasting t.resident.system
+        ≡ Y.lasting resident.system) }
 {
     let turning = Turning {
         resident,
@@ -407,7 +472,7 @@ fn turned<Y: System + Drop, J: Judge>(
         spreads: Spreads::new(alloc),
     };
     let Batch { from, events } = batch;
-    turning.turn_all(alloc, judge, actor, from, events.into_vec())
+    turning.turn_all(alloc, judge, behaves, actor, from, events.into_vec())
 }
 
 /// What was delivered, or nothing.

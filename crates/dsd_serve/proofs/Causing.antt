@@ -1,9 +1,8 @@
 -- What a cause says of the words, and which statuses come.
-use Rattle.std.proofs.Common.{◌≡◌, ℕ, List, Contains, lit<, refl, arith}
+use Rattle.std.proofs.Common.{◌≡◌, ℕ, List, Contains, lit<, refl}
 use Rattle.dsd_top.specs.Schemas.{Files}
 use Rattle.dsd_top.specs.declared.faults.Fault.TheVariants as fault
 use Rattle.dsd_serve.specs.Causes.{serve_statuses, status_for, IsWhyUnserved, StandsServing}
-use Rattle.dsd_serve.specs.Configs.{IsUnbuiltConfigAt}
 use Rattle.dsd_serve.specs.Serving.{Serving, IsServing}
 use Rattle.dsd_serve.specs.declared.unserved.Unserved.{Unserved}
 use Rattle.dsd_serve.specs.declared.unserved.Unserved.TheVariants.{Of, Unheard}
@@ -17,20 +16,7 @@ module _ (s : Serving) (files : Files) where
   why_known (Of fault.NoMemory) h = (4, lit< tt, refl)
   why_known (Of (fault.Limit w)) h = absurd h
   why_known (Of (fault.BadConfig n)) h = (5, lit< tt, refl)
-  why_known (Of (fault.NotBuilt n)) h = (7, lit< tt, refl)
   why_known Unheard h = (6, lit< tt, refl)
-
-  pub unbuilt : (why : Unserved) → IsWhyUnserved s files why → status_for why ≡ 10
-      → (n : ℕ) × IsUnbuiltConfigAt files s.config n
-  unbuilt (Of (fault.BadInput n)) h e = absurd h
-  unbuilt (Of fault.BadWords) h e = absurd h
-  unbuilt (Of fault.ReadFailed) h e = absurd (omega (arith, e))
-  unbuilt (Of fault.WriteFailed) h e = absurd (omega (arith, e))
-  unbuilt (Of fault.NoMemory) h e = absurd (omega (arith, e))
-  unbuilt (Of (fault.Limit w)) h e = absurd h
-  unbuilt (Of (fault.BadConfig n)) h e = absurd (omega (arith, e))
-  unbuilt (Of (fault.NotBuilt n)) h e = (n, h)
-  unbuilt Unheard h e = absurd (omega (arith, e))
 
   pub stands : (words : List (List ℕ)) → IsServing words s → (why : Unserved) → IsWhyUnserved s files why
       → StandsServing words files why
@@ -41,5 +27,4 @@ module _ (s : Serving) (files : Files) where
   stands words is (Of fault.NoMemory) h = (s, is, h)
   stands words is (Of (fault.Limit w)) h = absurd h
   stands words is (Of (fault.BadConfig n)) h = (s, is, h)
-  stands words is (Of (fault.NotBuilt n)) h = (s, is, h)
   stands words is Unheard h = (s, is, h)

@@ -1,7 +1,6 @@
 -- Words that serve, and words that don't.
 use Rattle.std.proofs.Common.{◌≡◌, ℕ, zero, suc, ◌⊎◌, List, Contains, true}
-use Rattle.std.proofs.Common.{lit<, sym, ap, arith, inl}
-use Rattle.std.proofs.Common.{inr}
+use Rattle.std.proofs.Common.{lit<, sym, ap, arith, inl, inr}
 use Rattle.dsd_top.specs.Commands.{is_serve}
 use Rattle.dsd_top.specs.Statuses.{IsStatus}
 use Rattle.dsd_serve.specs.Causes.{serve_statuses}
@@ -19,8 +18,7 @@ of_both n (suc (suc (suc zero)), l, e) = inl (4, lit< tt, e)
 of_both n (suc (suc (suc (suc zero))), l, e) = inl (5, lit< tt, e)
 of_both n (suc (suc (suc (suc (suc zero)))), l, e) = inl (7, lit< tt, e)
 of_both n (suc (suc (suc (suc (suc (suc zero))))), l, e) = inr (sym e)
-of_both n (suc (suc (suc (suc (suc (suc (suc zero)))))), l, e) = inl (8, lit< tt, e)
-of_both n (suc (suc (suc (suc (suc (suc (suc (suc i))))))), l, e) = absurd (omega (arith, l))
+of_both n (suc (suc (suc (suc (suc (suc (suc i)))))), l, e) = absurd (omega (arith, l))
 
 -- other words have no status 8
 pub never_8 : (n : ℕ) → IsStatus n → n ≡ 8 → ⊥
@@ -32,8 +30,7 @@ never_8 n (suc (suc (suc (suc zero))), l, e) is = omega (arith, e, is)
 never_8 n (suc (suc (suc (suc (suc zero)))), l, e) is = omega (arith, e, is)
 never_8 n (suc (suc (suc (suc (suc (suc zero))))), l, e) is = omega (arith, e, is)
 never_8 n (suc (suc (suc (suc (suc (suc (suc zero)))))), l, e) is = omega (arith, e, is)
-never_8 n (suc (suc (suc (suc (suc (suc (suc (suc zero))))))), l, e) is = omega (arith, e, is)
-never_8 n (suc (suc (suc (suc (suc (suc (suc (suc (suc i)))))))), l, e) is = absurd (omega (arith, l))
+never_8 n (suc (suc (suc (suc (suc (suc (suc (suc i))))))), l, e) is = absurd (omega (arith, l))
 
 -- the count of a file's faults rose, for one more reason to read one
 pub also : {A B C D : Type 0} (E : Type 0) → A ⊎ (B × C × D) → A ⊎ ((B ⊎ E) × C × D)

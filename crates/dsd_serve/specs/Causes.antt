@@ -6,14 +6,14 @@ use Rattle.dsd_top.specs.Schemas.{Files}
 use Rattle.dsd_top.specs.Statuses.{status_of}
 use Rattle.dsd_top.specs.declared.faults.Fault.{Fault}
 use Rattle.dsd_top.specs.declared.faults.Fault.TheVariants as fault
-use Rattle.dsd_serve.specs.Configs.{IsBadConfigAt, IsUnbuiltConfigAt}
+use Rattle.dsd_serve.specs.Configs.{IsBadConfigAt}
 use Rattle.dsd_serve.specs.Serving.{Serving, IsServing, AskToServe}
 use Rattle.dsd_serve.specs.declared.unserved.Unserved.{Unserved}
 use Rattle.dsd_serve.specs.declared.unserved.Unserved.TheVariants.{Of, Unheard}
 
 -- the statuses of words that begin with "serve"
 abbrev pub serve_statuses : List ℕ
-serve_statuses = 0 ∷ 2 ∷ 3 ∷ 4 ∷ 5 ∷ 7 ∷ 8 ∷ 10 ∷ []
+serve_statuses = 0 ∷ 2 ∷ 3 ∷ 4 ∷ 5 ∷ 7 ∷ 8 ∷ []
 
 abbrev pub status_for : Unserved → ℕ
 status_for (Of f) = status_of f
@@ -29,7 +29,6 @@ IsWhyUnserved s files (Of fault.ReadFailed) = Unit {0}
 IsWhyUnserved s files (Of fault.WriteFailed) = Unit {0}
 IsWhyUnserved s files (Of fault.NoMemory) = Unit {0}
 IsWhyUnserved s files (Of (fault.BadConfig n)) = IsBadConfigAt files s.config n
-IsWhyUnserved s files (Of (fault.NotBuilt n)) = IsUnbuiltConfigAt files s.config n
 IsWhyUnserved s files (Of f) = ⊥
 IsWhyUnserved s files Unheard = Unit {0}
 

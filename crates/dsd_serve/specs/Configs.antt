@@ -2,7 +2,7 @@
 use Rattle.std.specs.Prelude.{◌≡◌, ℕ, ◌<◌, ◌≤◌, ◌⊎◌, List, length}
 use Rattle.out_ports.specs.Ports.{IsFile}
 use Rattle.hub_machine.specs.State.{State}
-use Rattle.sc_config.specs.Courses.{stops, bad, not_built}
+use Rattle.sc_config.specs.Courses.{stops, bad}
 use Rattle.sc_config.specs.Configs.{IsConfigured, IsCourseOf}
 use Rattle.dsd_top.specs.Limits.{most_file}
 use Rattle.dsd_top.specs.Schemas.{Files}
@@ -21,25 +21,15 @@ IsBadTextAt text n = ((most_file < length text) × (n ≡ 0)) ⊎ ((length text 
 abbrev pub IsBadConfigAt : Files → List ℕ → ℕ → Type 0
 IsBadConfigAt files name n = (text : List ℕ) × IsFile files name text × IsBadTextAt text n
 
--- its event n isn't built yet
-abbrev pub IsUnbuiltTextAt : List ℕ → ℕ → Type 0
-IsUnbuiltTextAt text n = (length text ≤ most_file) × IsCourseOf text (stops (not_built n))
-
-abbrev pub IsUnbuiltConfigAt : Files → List ℕ → ℕ → Type 0
-IsUnbuiltConfigAt files name n =
-    (text : List ℕ) × IsFile files name text × IsUnbuiltTextAt text n
-
 -- what a cause says of the text
 abbrev pub IsWhyTextRefused : List ℕ → Fault → Type 0
 IsWhyTextRefused text (fault.BadConfig n) = IsBadTextAt text n
-IsWhyTextRefused text (fault.NotBuilt n) = IsUnbuiltTextAt text n
 IsWhyTextRefused text fault.NoMemory = Unit {0}
 IsWhyTextRefused text f = ⊥
 
 -- what a cause says of the file
 abbrev pub IsWhyRefused : Files → List ℕ → Fault → Type 0
 IsWhyRefused files name (fault.BadConfig n) = IsBadConfigAt files name n
-IsWhyRefused files name (fault.NotBuilt n) = IsUnbuiltConfigAt files name n
 IsWhyRefused files name fault.ReadFailed = Unit {0}
 IsWhyRefused files name fault.NoMemory = Unit {0}
 IsWhyRefused files name f = ⊥

@@ -10,37 +10,39 @@ use ds_space::Space;
 use dsd_top::{FILE_BYTES, Fault};
 use hub_core::Hub;
 use lc_guard::{Guards, Predicate};
+use lc_watch::{Behaviour, Watcher};
 use out_ports::ports::{Host, HostFault};
 use sc_config::{ConfigFault, configured};
 use std::alloc::Global;
 
 /// The hub that a text sets up.
-fn hub_of<S: Space + Drop, F: Predicate + Drop>(
+fn hub_of<S: Space + Drop, F: Predicate + Drop, G: Behaviour + Drop>(
     alloc: Global,
     text: &[u8],
     predicate: F,
-) -> Result<Hub<S, Guards<F>>, Fault>
+    behaviour: G,
+) -> Result<Hub<S, Guards<F>, Watcher<G>>, Fault>
     ensures hub { IfOk result (λ hub. (length text.now ≤ most_file) × IsConfigured text.now hub) }
     ensures refused { IfErr result (IsWhyTextRefused text.now) }
 {
     if text.len() > FILE_BYTES {
         return Err(Fault::BadConfig(0));
     }
-    match configured(alloc, text, predicate) {
+    match configured(alloc, text, predicate, behaviour) {
         Ok(hub) => Ok(hub),
         Err(ConfigFault::Bad(n)) => Err(Fault::BadConfig(n)),
-        Err(ConfigFault::NotBuilt(n)) => Err(Fault::NotBuilt(n)),
         Err(ConfigFault::NoMemory) => Err(Fault::NoMemory),
     }
 }
 
 /// The hub that the configuration in a file sets up.
-pub(crate) fn hub_in<S: Space + Drop, F: Predicate + Drop, H: Host>(
+pub(crate) fn hub_in<S: Space + Drop, F: Predicate + Drop, G: Behaviour + Drop, H: Host>(
     alloc: Global,
     file: &str,
     predicate: F,
+    behaviour: G,
     host: &mut H,
-) -> Result<Hub<S, Guards<F>>, Fault>
+) -> Result<Hub<S, Guards<F>, Watcher<G>>, Fault>
     ensures hub { IfOk result (IsConfigIn (H.files host.old) file.now) }
     ensures refused { IfErr result (IsWhyRefused (H.files host.old) file.now) }
     ensures read_failed { IsErrOf result fault.ReadFailed →
@@ -53,7 +55,7 @@ pub(crate) fn hub_in<S: Space + Drop, F: Predicate + Drop, H: Host>(
         × (H.faults host.old ≤ H.faults host.new) }
 {
     match host.file(alloc, file) {
-        Ok(text) => hub_of(alloc, &text, predicate),
+        Ok(text) => hub_of(alloc, &text, predicate, behaviour),
         Err(HostFault::Failed) => Err(Fault::ReadFailed),
         Err(HostFault::NoMemory) => Err(Fault::NoMemory),
     }

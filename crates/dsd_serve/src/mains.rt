@@ -7,9 +7,9 @@ ghost use Rattle.dsd_top.specs.Commands.{is_serve as begins_with_serve};
 ghost use Rattle.dsd_top.specs.Lines.{Says, SaysFront};
 ghost use Rattle.dsd_top.specs.Statuses.{IsStatus, statuses_of, IfTold, file_of, IsAnswered};
 ghost use Rattle.dsd_top.specs.Statuses.{IsCut, IsShown, IsShownFront, IsBadInput, IsOver};
-ghost use Rattle.dsd_top.specs.Statuses.{IsBadConfig, IsNotBuilt, IsUntold, Stands};
+ghost use Rattle.dsd_top.specs.Statuses.{IsBadConfig, IsUntold, Stands};
 ghost use Rattle.dsd_serve.specs.Causes.{serve_statuses, SaysWhy, SaysWhyFront};
-ghost use Rattle.dsd_serve.specs.Configs.{IsBadConfigAt, IsUnbuiltConfigAt};
+ghost use Rattle.dsd_serve.specs.Configs.{IsBadConfigAt};
 ghost use Rattle.dsd_serve.specs.Serving.{AskToServe, AskForSomething, IfServing, AreAccepts};
 ghost use Rattle.dsd_serve.specs.Serving.{IsServed};
 
@@ -51,8 +51,6 @@ where
         (λ s. H.address host.new ≡ Some s.address) }
     ensures bad_config { result ≡ 7 → IfServing (texts words.now)
         (λ s. (n : _) × IsBadConfigAt (H.files host.old) s.config n) }
-    ensures not_built { result ≡ 10 → IfServing (texts words.now)
-        (λ s. (n : _) × IsUnbuiltConfigAt (H.files host.old) s.config n) }
     ensures read_failed { result ≡ 3 → Rose (H.file_faults host.old) (H.file_faults host.new) }
     ensures listen_failed { result ≡ 8 → Rose (H.port_faults host.old) (H.port_faults host.new) }
     ensures write_failed { result ≡ 4 → Rose (O.faults out.old) (O.faults out.new) }
@@ -85,7 +83,7 @@ where
 /// configuration's file, does its steps, listens at the address, accepts so many links or until no
 /// more come, and waits for their sessions: the status is 0 where all of it went so and the line of
 /// it was written, 3 where the file can't be read, 7 where it is refused, 8 where the address can't
-/// be listened at, 10 where the configuration goes past what is built.
+/// be listened at.
 pub fn dsd_main<Rt: Threads + Wait + Sync, I: Source, O: Sink, E: Sink, H: Host>(
     rt: &Rt,
     alloc: Global,
@@ -99,7 +97,7 @@ where
     H::R: Send + Drop,
     H::W: Send + Drop,
     // Each status, and when it comes. Where the words are of the table, no count rose and no cause
-    // of 1, 6, 7 or 10 stands, the status is 0, or 5 for want of memory.
+    // of 1, 6 or 7 stands, the status is 0, or 5 for want of memory.
     ensures known { IsStatus result ⊎ (result ≡ 8) }
     ensures of_request { begins_with_serve (texts words.now) ≡ false →
         Contains (statuses_of (request_of (texts words.now))) result }
@@ -117,8 +115,6 @@ where
     ensures bad_config { result ≡ 7
         → IfTold (command_of (texts words.now)) (I.left input.old)
         (IsBadConfig (H.files host.old)) }
-    ensures not_built { result ≡ 10
-        → IfTold (command_of (texts words.now)) (I.left input.old) (IsNotBuilt (H.files host.old)) }
     // The count that rose is that of the input, or that of the host's files before anything was
     // read of the input.
     ensures read_failed { result ≡ 3 → Rose (I.faults input.old) (I.faults input.new)
@@ -157,8 +153,6 @@ where
         (λ s. H.address host.new ≡ Some s.address) }
     ensures bad_server { result ≡ 7 → IfServing (texts words.now)
         (λ s. (n : _) × IsBadConfigAt (H.files host.old) s.config n) }
-    ensures unbuilt_server { result ≡ 10 → IfServing (texts words.now)
-        (λ s. (n : _) × IsUnbuiltConfigAt (H.files host.old) s.config n) }
     ensures listen_failed { result ≡ 8 → AskToServe (texts words.now)
         × Rose (H.port_faults host.old) (H.port_faults host.new) }
     // Before the configuration is judged and the address open nothing is accepted.

@@ -15,6 +15,7 @@ use crate::words::Serving;
 use ds_skeleton::Skeleton;
 use dsd_top::{Conformance, Fault};
 use itoa::Buffer;
+use lc_watch::Table;
 use out_ports::ports::{Host, HostFault, Sink};
 use out_ports::streams::write_all;
 use pv_value::{NoMemory, push_bytes};
@@ -131,7 +132,13 @@ where
         × (H.port_faults host.old ≤ H.port_faults host.new)
         × (H.faults host.old ≤ H.faults host.new) }
 {
-    let hub = hub_in::<Skeleton, Conformance, H>(alloc, serving.config, Conformance, host)?;
+    let hub = hub_in::<Skeleton, Conformance, Table, H>(
+        alloc,
+        serving.config,
+        Conformance,
+        Table,
+        host,
+    )?;
     listen(alloc, serving.address, host)?;
     let tally = serve(rt, alloc, hub, host, serving.workers, serving.connections)?;
     write_tally(alloc, &tally, out)?;

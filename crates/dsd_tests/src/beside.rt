@@ -3,6 +3,7 @@ use crate::guests::wait_for;
 use ds_skeleton::Skeleton;
 use ds_space::Space;
 use hub_machine::{Reply, Step};
+use lc_watch::{Behaves, Table, Watcher};
 use out_ports::memory::MemSource;
 use out_ports::ports::Run;
 use out_real::start_in;
@@ -80,13 +81,13 @@ fn link(alloc: Global) -> Result<MemSource, AllocError> {
 }
 
 /// A reader, for the next connection that comes, whose steps wait for so many answers.
-fn seated_reader<'g, Rt: Wait, S: Space + Drop, J: Judge + Drop>(
+fn seated_reader<'g, Rt: Wait, S: Space + Drop, J: Judge + Drop, B: Behaves + Drop>(
     rt: &Rt,
     alloc: Global,
-    desk: &mut GateDesk<'g, Served<S, J>>,
+    desk: &mut GateDesk<'g, Served<S, J, B>>,
     least: u64,
     counts: &Arc<Counts>,
-) -> Option<Reader<Seated<'g, Served<S, J>>>> {
+) -> Option<Reader<Seated<'g, Served<S, J, B>>>> {
     let connection = desk.open(rt).ok()??;
     let turns = Held {
         turns: desk.seat(),
@@ -104,13 +105,14 @@ fn seated_reader<'g, Rt: Wait, S: Space + Drop, J: Judge + Drop>(
 
 /// How many steps of two readers were answered, and how many waited in vain: those of the first
 /// wait until one of the second was.
-fn two_readers<Rt, S, J>(rt: &Rt, alloc: Global, judge: J) -> Option<(u64, u64)>
+fn two_readers<Rt, S, J, B>(rt: &Rt, alloc: Global, judge: J, behaves: B) -> Option<(u64, u64)>
 where
     Rt: Threads + Wait + Sync,
     S: Space + Drop + Send,
     J: Judge + Drop + Send,
+    B: Behaves + Drop + Send,
 {
-    let served = Served::<S, J>::begin(alloc, judge).ok()?;
+    let served = Served::<S, J, B>::begin(alloc, judge, behaves).ok()?;
     let Ok((gate, pass)) = Gate::begin(alloc, served, 2) else {
         return None;
     };
@@ -134,7 +136,8 @@ where
 
 /// Whether both got on: each commits its turn, work behind it, and its end with work behind that.
 fn both_get_on<Rt: Threads + Wait + Sync>(rt: &Rt, alloc: Global) -> bool {
-    match two_readers::<Rt, Skeleton, NoNames>(rt, alloc, NoNames) {
+    let behaves = Watcher::new(Table);
+    match two_readers::<Rt, Skeleton, NoNames, Watcher<Table>>(rt, alloc, NoNames, behaves) {
         Some((answered, lost)) => answered >= 4 && lost == 0,
         None => false,
     }

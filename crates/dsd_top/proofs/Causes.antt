@@ -4,15 +4,15 @@ use Rattle.std.proofs.Common.{Contains, [], ◌∷◌, lit<, refl, sym, subst, a
 use Rattle.std.specs.Result.{IsErrAnd}
 use Rattle.out_ports.specs.declared.streams.ReadFault.{ReadFault}
 use Rattle.out_ports.specs.declared.streams.ReadFault.TheVariants as reading
-use Rattle.sc_script.specs.Runs.{Cause, bad, limit, config, not_built}
+use Rattle.sc_script.specs.Runs.{Cause, bad, limit, config}
 use Rattle.dsd_top.specs.Commands.{IsOfTable, HasText, IsRightlyAsked, made_by, told_by}
 use Rattle.dsd_top.specs.Schemas.{Files}
 use Rattle.dsd_top.specs.Statuses.{IsStatus, statuses_by, statuses_told, statuses_of, IfTold, status_of, IsBehindInput}
-use Rattle.dsd_top.specs.Statuses.{IsBadInput, IsOver, IsBadConfig, IsNotBuilt, IsBadInputAt, IsOverAt}
-use Rattle.dsd_top.specs.Statuses.{IsBadConfigAt, IsNotBuiltAt, Stands, IsToldFault, IsUntold, StopsTelling, from_read}
+use Rattle.dsd_top.specs.Statuses.{IsBadInput, IsOver, IsBadConfig, IsBadInputAt, IsOverAt}
+use Rattle.dsd_top.specs.Statuses.{IsBadConfigAt, Stands, IsToldFault, IsUntold, StopsTelling, from_read}
 use Rattle.dsd_top.specs.declared.faults.Fault.{Fault}
 use Rattle.dsd_top.specs.declared.faults.Fault.TheVariants.{BadInput, BadWords, ReadFailed, WriteFailed, NoMemory}
-use Rattle.dsd_top.specs.declared.faults.Fault.TheVariants.{Limit, BadConfig, NotBuilt}
+use Rattle.dsd_top.specs.declared.faults.Fault.TheVariants.{Limit, BadConfig}
 use Rattle.dsd_top.specs.declared.words.Making.TheVariants.{Run, RunText, CanonicalForms, Printed, Written}
 use Rattle.dsd_top.specs.declared.words.Command.{Command}
 use Rattle.dsd_top.specs.declared.words.Command.TheVariants.{Make, Check}
@@ -29,7 +29,6 @@ is_status WriteFailed = (4, lit< tt, refl)
 is_status NoMemory = (5, lit< tt, refl)
 is_status (Limit w) = (6, lit< tt, refl)
 is_status (BadConfig n) = (7, lit< tt, refl)
-is_status (NotBuilt n) = (8, lit< tt, refl)
 
 -- a place before the last is one for every command
 pub within : (c : Command) (k : ℕ) → k < 6 → k < length (statuses_by c)
@@ -76,8 +75,7 @@ told_status (Load d) k (suc (suc zero), l, e) = (4, lit< tt, e)
 told_status (Load d) k (suc (suc (suc zero)), l, e) = (5, lit< tt, e)
 told_status (Load d) k (suc (suc (suc (suc zero))), l, e) = (6, lit< tt, e)
 told_status (Load d) k (suc (suc (suc (suc (suc zero)))), l, e) = (7, lit< tt, e)
-told_status (Load d) k (suc (suc (suc (suc (suc (suc zero))))), l, e) = (8, lit< tt, e)
-told_status (Load d) k (suc (suc (suc (suc (suc (suc (suc i)))))), l, e) = absurd (omega (arith, l))
+told_status (Load d) k (suc (suc (suc (suc (suc (suc i))))), l, e) = absurd (omega (arith, l))
 
 -- what the words ask for has the statuses that are said
 pub notice_known : (o : Option Request) (n : Notice) (k : ℕ) → Some (Tell n) ≡ o → Contains (statuses_told n) k
@@ -101,7 +99,6 @@ read_failed WriteFailed e = absurd (omega arith)
 read_failed NoMemory e = absurd (omega arith)
 read_failed (Limit w) e = absurd (omega arith)
 read_failed (BadConfig n) e = absurd (omega arith)
-read_failed (NotBuilt n) e = absurd (omega arith)
 
 pub write_failed : (f : Fault) → status_of f ≡ 4 → f ≡ WriteFailed
 write_failed (BadInput n) e = absurd (omega arith)
@@ -111,7 +108,6 @@ write_failed WriteFailed e = refl
 write_failed NoMemory e = absurd (omega arith)
 write_failed (Limit w) e = absurd (omega arith)
 write_failed (BadConfig n) e = absurd (omega arith)
-write_failed (NotBuilt n) e = absurd (omega arith)
 
 pub bad_words : (f : Fault) → status_of f ≡ 2 → f ≡ BadWords
 bad_words (BadInput n) e = absurd (omega arith)
@@ -121,7 +117,6 @@ bad_words WriteFailed e = absurd (omega arith)
 bad_words NoMemory e = absurd (omega arith)
 bad_words (Limit w) e = absurd (omega arith)
 bad_words (BadConfig n) e = absurd (omega arith)
-bad_words (NotBuilt n) e = absurd (omega arith)
 
 pub none_is : (f : Fault) → status_of f ≡ 0 → ⊥
 none_is (BadInput n) e = absurd (omega arith)
@@ -131,7 +126,6 @@ none_is WriteFailed e = absurd (omega arith)
 none_is NoMemory e = absurd (omega arith)
 none_is (Limit w) e = absurd (omega arith)
 none_is (BadConfig n) e = absurd (omega arith)
-none_is (NotBuilt n) e = absurd (omega arith)
 
 -- ---- what a cause of a status says
 
@@ -152,7 +146,6 @@ module _ (o : Option Request) (files : Files) (left : Option (List ℕ)) where
   input_is_bad NoMemory h e = absurd (omega arith)
   input_is_bad (Limit w) h e = absurd (omega arith)
   input_is_bad (BadConfig n) h e = absurd (omega arith)
-  input_is_bad (NotBuilt n) h e = absurd (omega arith)
 
   pub input_is_over : (f : Fault) → Stands o files left f → status_of f ≡ 6 → IfTold (made_by o) left (IsOver files)
   input_is_over (BadInput n) h e = absurd (omega arith)
@@ -162,7 +155,6 @@ module _ (o : Option Request) (files : Files) (left : Option (List ℕ)) where
   input_is_over NoMemory h e = absurd (omega arith)
   input_is_over (Limit w) h e = told_at IsOverAt files (made_by o) left w h
   input_is_over (BadConfig n) h e = absurd (omega arith)
-  input_is_over (NotBuilt n) h e = absurd (omega arith)
 
   pub config_is_bad : (f : Fault) → Stands o files left f → status_of f ≡ 7
       → IfTold (made_by o) left (IsBadConfig files)
@@ -173,18 +165,6 @@ module _ (o : Option Request) (files : Files) (left : Option (List ℕ)) where
   config_is_bad NoMemory h e = absurd (omega arith)
   config_is_bad (Limit w) h e = absurd (omega arith)
   config_is_bad (BadConfig n) h e = told_at IsBadConfigAt files (made_by o) left n h
-  config_is_bad (NotBuilt n) h e = absurd (omega arith)
-
-  pub input_not_built : (f : Fault) → Stands o files left f → status_of f ≡ 10
-      → IfTold (made_by o) left (IsNotBuilt files)
-  input_not_built (BadInput n) h e = absurd (omega arith)
-  input_not_built BadWords h e = absurd (omega arith)
-  input_not_built ReadFailed h e = absurd (omega arith)
-  input_not_built WriteFailed h e = absurd (omega arith)
-  input_not_built NoMemory h e = absurd (omega arith)
-  input_not_built (Limit w) h e = absurd (omega arith)
-  input_not_built (BadConfig n) h e = absurd (omega arith)
-  input_not_built (NotBuilt n) h e = told_at IsNotBuiltAt files (made_by o) left n h
 
   pub words_are_bad : (f : Fault) → Stands o files left f → status_of f ≡ 2 → IsOfTable o → ⊥
   words_are_bad (BadInput n) h e = absurd (omega arith)
@@ -194,7 +174,6 @@ module _ (o : Option Request) (files : Files) (left : Option (List ℕ)) where
   words_are_bad NoMemory h e = absurd (omega arith)
   words_are_bad (Limit w) h e = absurd (omega arith)
   words_are_bad (BadConfig n) h e = absurd (omega arith)
-  words_are_bad (NotBuilt n) h e = absurd (omega arith)
 
 -- ---- notices
 
@@ -208,7 +187,6 @@ told_stands n files left WriteFailed h = tt
 told_stands n files left NoMemory h = tt
 told_stands n files left (Limit w) h = tt
 told_stands n files left (BadConfig k) h = tt
-told_stands n files left (NotBuilt k) h = tt
 
 -- what has a text, or stops, is rightly asked for
 text_right : (n : Notice) → HasText n → IsRightlyAsked n
@@ -233,7 +211,6 @@ told_otherwise n WriteFailed h none = absurd (none (text_right n h))
 told_otherwise n NoMemory h none = (1, lit< tt, refl)
 told_otherwise n (Limit w) h none = absurd (none (run_right n (limit w) h))
 told_otherwise n (BadConfig k) h none = absurd (none (run_right n (config k) h))
-told_otherwise n (NotBuilt k) h none = absurd (none (run_right n (not_built k) h))
 
 pub told_bad : (n : Notice) (f : Fault) → IsToldFault n f → status_of f ≡ 2 → IsRightlyAsked n → ⊥
 told_bad n (BadInput k) h e = absurd (omega arith)
@@ -243,7 +220,6 @@ told_bad n WriteFailed h e = absurd (omega arith)
 told_bad n NoMemory h e = absurd (omega arith)
 told_bad n (Limit w) h e = absurd (omega arith)
 told_bad n (BadConfig k) h e = absurd (omega arith)
-told_bad n (NotBuilt k) h e = absurd (omega arith)
 
 -- ---- errors
 

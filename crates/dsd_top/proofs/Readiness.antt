@@ -15,7 +15,7 @@ use Rattle.dsd_top.specs.declared.answers.Work.{Work}
 use Rattle.dsd_top.specs.declared.answers.Work.TheVariants as work
 use Rattle.dsd_top.specs.declared.faults.Fault.{Fault}
 use Rattle.dsd_top.specs.declared.faults.Fault.TheVariants.{BadInput, BadWords, ReadFailed, WriteFailed, NoMemory}
-use Rattle.dsd_top.specs.declared.faults.Fault.TheVariants.{Limit, BadConfig, NotBuilt}
+use Rattle.dsd_top.specs.declared.faults.Fault.TheVariants.{Limit, BadConfig}
 use Rattle.dsd_top.specs.declared.words.Making.{Making}
 use Rattle.dsd_top.specs.declared.words.Making.TheVariants.{Run, RunText, CanonicalForms, Printed, Written}
 use Rattle.dsd_top.specs.declared.words.Command.{Command}
@@ -53,7 +53,6 @@ module _ (files : Files) where
   unready_known (Check k) NoMemory h = (4, lit< tt, refl)
   unready_known (Check k) (Limit w) h = absurd h
   unready_known (Check k) (BadConfig n) h = (6, lit< tt, refl)
-  unready_known (Check k) (NotBuilt n) h = absurd h
 
   unmade_known : (m : Making) (bytes : List ℕ) (f : Fault) → IsUnmadeFor m bytes f
       → Contains (statuses_by (Make m)) (status_of f)
@@ -68,11 +67,6 @@ module _ (files : Files) where
   unmade_known CanonicalForms bytes (BadConfig n) h = absurd h
   unmade_known Printed bytes (BadConfig n) h = absurd h
   unmade_known Written bytes (BadConfig n) h = absurd h
-  unmade_known Run bytes (NotBuilt n) h = (7, lit< tt, refl)
-  unmade_known RunText bytes (NotBuilt n) h = (7, lit< tt, refl)
-  unmade_known CanonicalForms bytes (NotBuilt n) h = absurd h
-  unmade_known Printed bytes (NotBuilt n) h = absurd h
-  unmade_known Written bytes (NotBuilt n) h = absurd h
 
   unjudged_known : (k : Checking) (bytes : List ℕ) (f : Fault) → IsUnjudgedFor bytes f
       → Contains (statuses_by (Check k)) (status_of f)
@@ -83,7 +77,6 @@ module _ (files : Files) where
   unjudged_known k bytes NoMemory h = (4, lit< tt, refl)
   unjudged_known k bytes (Limit w) h = (5, lit< tt, refl)
   unjudged_known k bytes (BadConfig n) h = absurd h
-  unjudged_known k bytes (NotBuilt n) h = absurd h
 
   pub cause_known : (c : Command) (w : Work) (bytes : List ℕ) (f : Fault) → IsReady files c w → IsCauseBy w bytes f
       → Contains (statuses_by c) (status_of f)
@@ -107,7 +100,6 @@ module _ (files : Files) where
   unready_stands (Check k) left (Limit w) h = absurd h
   unready_stands (Check k) None (BadConfig n) h = tt
   unready_stands (Check k) (Some bytes) (BadConfig n) h = h
-  unready_stands (Check k) left (NotBuilt n) h = absurd h
 
   -- such a cause comes before the input is read
   pub unready_early : (c : Command) (f : Fault) → IsUnready files c f → IsBehindInput c f → ⊥
@@ -119,7 +111,6 @@ module _ (files : Files) where
   unready_early (Check k) NoMemory h b = b.1 refl
   unready_early (Check k) (Limit w) h b = absurd h
   unready_early (Check k) (BadConfig n) h b = absurd (let none : Some k.file ≡ None = b.2 refl in cc)
-  unready_early (Check k) (NotBuilt n) h b = absurd h
 
   made_stands : (m : Making) (bytes : List ℕ) (f : Fault) → IsUnmadeFor m bytes f
       → Stands (Some (Do (Make m))) files (Some bytes) f
@@ -130,7 +121,6 @@ module _ (files : Files) where
   made_stands m bytes NoMemory h = tt
   made_stands m bytes (Limit w) h = h
   made_stands m bytes (BadConfig n) h = h
-  made_stands m bytes (NotBuilt n) h = h
 
   judged_stands : (k : Checking) (ds : List Definition) (bytes : List ℕ) (f : Fault) → IsSchemaIn files k ds
       → IsUnjudgedFor bytes f → Stands (Some (Do (Check k))) files (Some bytes) f
@@ -141,7 +131,6 @@ module _ (files : Files) where
   judged_stands k ds bytes NoMemory s h = tt
   judged_stands k ds bytes (Limit w) s h = ((ds, s), h)
   judged_stands k ds bytes (BadConfig n) s h = absurd h
-  judged_stands k ds bytes (NotBuilt n) s h = absurd h
 
   told_stands : (c : Command) (w : Work) (bytes : List ℕ) (f : Fault) → IsReady files c w → IsCauseBy w bytes f
       → Stands (Some (Do c)) files (Some bytes) f
@@ -165,7 +154,6 @@ module _ (files : Files) where
   untold_stands c w bytes NoMemory h k = tt
   untold_stands c w bytes (Limit v) h k = tt
   untold_stands c w bytes (BadConfig n) h k = tt
-  untold_stands c w bytes (NotBuilt n) h k = tt
 
   pub stands : (c : Command) (w : Work) (left : Option (List ℕ)) (bytes : List ℕ) (f : Fault)
       → IfSome left (λ all. bytes ≡ all) → IsReady files c w → IsCauseBy w bytes f → Stands (Some (Do c)) files left f

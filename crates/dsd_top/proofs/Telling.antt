@@ -41,14 +41,12 @@ load_stops : (l : Loading) (e : ScriptFault) → StopsAt input.Binary (load_byte
 load_stops l (stopped.Bad k) h = h
 load_stops l (stopped.Limit w) h = h
 load_stops l (stopped.Schema k) h = h
-load_stops l (stopped.NotBuilt k) h = h
 load_stops l stopped.NoMemory h = tt
 
 load_status : (l : Loading) (e : ScriptFault) → Contains (statuses_told (Load l)) (status_of (from_script e))
 load_status l (stopped.Bad k) = (1, lit< tt, refl)
 load_status l (stopped.Limit w) = (4, lit< tt, refl)
 load_status l (stopped.Schema k) = (5, lit< tt, refl)
-load_status l (stopped.NotBuilt k) = (6, lit< tt, refl)
 load_status l stopped.NoMemory = (3, lit< tt, refl)
 
 -- words that are no key and values

@@ -13,14 +13,12 @@ words_of fault.WriteFailed = codes "dsd: write failed"
 words_of fault.NoMemory = codes "dsd: out of memory"
 words_of (fault.Limit w) = codes "dsd: limit "
 words_of (fault.BadConfig n) = codes "dsd: bad config at "
-words_of (fault.NotBuilt n) = codes "dsd: not built at "
 
 -- the number behind the words, where there is one
 abbrev pub number_of : Fault → List ℕ
 number_of (fault.BadInput n) = decimal n
 number_of (fault.Limit w) = decimal w
 number_of (fault.BadConfig n) = decimal n
-number_of (fault.NotBuilt n) = decimal n
 number_of f = []
 
 abbrev pub line_of : Fault → List ℕ

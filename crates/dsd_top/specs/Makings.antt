@@ -7,7 +7,7 @@ use Rattle.sc_events.specs.declared.inputs.Form.TheVariants as input
 use Rattle.sc_report.specs.Reports.{RanState, report_of}
 use Rattle.sc_script.specs.Leavings.{ran_of}
 use Rattle.rl_stream.specs.Nexts.{Decider, Decides}
-use Rattle.sc_script.specs.Runs.{Cause, bad, limit, config, not_built, goes, stops, Running}
+use Rattle.sc_script.specs.Runs.{Cause, bad, limit, config, goes, stops, Running}
 use Rattle.sc_script.specs.Scripts.{IsCourseOf}
 use Rattle.dsd_top.specs.Forms.{in_form}
 use Rattle.dsd_top.specs.Values.{IsBadAt, AreMade}
@@ -62,9 +62,3 @@ abbrev pub IsUnschemedAt : Making → List ℕ → ℕ → Type 0
 IsUnschemedAt Run bytes n = StopsFor input.Binary bytes (config n)
 IsUnschemedAt RunText bytes n = StopsFor input.Text bytes (config n)
 IsUnschemedAt m bytes n = ⊥
-
--- value n of the input goes past what is built
-abbrev pub IsUnbuiltAt : Making → List ℕ → ℕ → Type 0
-IsUnbuiltAt Run bytes n = StopsFor input.Binary bytes (not_built n)
-IsUnbuiltAt RunText bytes n = StopsFor input.Text bytes (not_built n)
-IsUnbuiltAt m bytes n = ⊥

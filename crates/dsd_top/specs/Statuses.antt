@@ -12,7 +12,7 @@ use Rattle.dsd_top.specs.Asked.{Checking}
 use Rattle.dsd_top.specs.Commands.{made_by, IsOfTable, IsTextOf, HasText, IsRightlyAsked}
 use Rattle.dsd_top.specs.Forms.{verdict_by}
 use Rattle.dsd_top.specs.Loading.{StopsLoad}
-use Rattle.dsd_top.specs.Makings.{IsMadeOf, IsMalformedAt, IsTooLong, PassesLimit, IsUnschemedAt, IsUnbuiltAt}
+use Rattle.dsd_top.specs.Makings.{IsMadeOf, IsMalformedAt, IsTooLong, PassesLimit, IsUnschemedAt}
 use Rattle.dsd_top.specs.Schemas.{Files, IsSchemaIn, IsBadFileAt}
 use Rattle.dsd_top.specs.Values.{IsBadAt, AreMade}
 use Rattle.dsd_top.specs.declared.faults.Fault.{Fault}
@@ -36,12 +36,12 @@ use Rattle.dsd_top.specs.declared.words.Request.TheVariants.{Do, Tell}
 
 -- every status that comes
 abbrev pub IsStatus : ℕ → Type 0
-IsStatus n = Contains (0 ∷ 1 ∷ 2 ∷ 3 ∷ 4 ∷ 5 ∷ 6 ∷ 7 ∷ 10 ∷ []) n
+IsStatus n = Contains (0 ∷ 1 ∷ 2 ∷ 3 ∷ 4 ∷ 5 ∷ 6 ∷ 7 ∷ []) n
 
--- what is no schema, and what isn't built, comes of scripts alone
+-- what is no schema comes of scripts alone
 abbrev pub of_scripts : Making → List ℕ
-of_scripts Run = 7 ∷ 10 ∷ []
-of_scripts RunText = 7 ∷ 10 ∷ []
+of_scripts Run = 7 ∷ []
+of_scripts RunText = 7 ∷ []
 of_scripts m = []
 
 -- those that come for a command
@@ -54,7 +54,7 @@ abbrev pub statuses_told : Notice → List ℕ
 statuses_told Usage = 0 ∷ 4 ∷ []
 statuses_told Version = 0 ∷ 4 ∷ []
 statuses_told (Reference m) = 0 ∷ 2 ∷ 4 ∷ 5 ∷ []
-statuses_told (Load l) = 0 ∷ 1 ∷ 4 ∷ 5 ∷ 6 ∷ 7 ∷ 10 ∷ []
+statuses_told (Load l) = 0 ∷ 1 ∷ 4 ∷ 5 ∷ 6 ∷ 7 ∷ []
 
 -- those that come for what the words ask for, and where they ask for nothing
 abbrev pub statuses_of : Option Request → List ℕ
@@ -99,11 +99,6 @@ abbrev pub IsOverAt : Files → Command → List ℕ → ℕ → Type 0
 IsOverAt files (Make m) bytes w = PassesLimit m bytes w
 IsOverAt files (Check k) bytes w = HasSchema files k × IsTooLong bytes w
 
--- value n of the input goes past what is built
-abbrev pub IsNotBuiltAt : Files → Command → List ℕ → ℕ → Type 0
-IsNotBuiltAt files (Make m) bytes n = IsUnbuiltAt m bytes n
-IsNotBuiltAt files (Check k) bytes n = ⊥
-
 -- ---- for any command, and for notices
 
 -- the command's answer was appended
@@ -123,9 +118,6 @@ IsOver files c bytes = (w : ℕ) × IsOverAt files c bytes w
 abbrev pub IsBadConfig : Files → Command → List ℕ → Type 0
 IsBadConfig files c bytes = (n : ℕ) × IsBadConfigAt files c bytes n
 
-abbrev pub IsNotBuilt : Files → Command → List ℕ → Type 0
-IsNotBuilt files c bytes = (n : ℕ) × IsNotBuiltAt files c bytes n
-
 -- the notice's text was appended
 abbrev pub IsShown : Notice → Option (List ℕ) → Option (List ℕ) → Type 0
 IsShown n before now = (text : List ℕ) × IsTextOf n text × Appends before now text
@@ -144,7 +136,6 @@ status_of fault.WriteFailed = 4
 status_of fault.NoMemory = 5
 status_of (fault.Limit w) = 6
 status_of (fault.BadConfig n) = 7
-status_of (fault.NotBuilt n) = 10
 
 -- the causes of a command that come only behind the whole input: where a file is read it is judged before
 abbrev pub IsBehindInput : Command → Fault → Type 0
@@ -159,7 +150,6 @@ Stands o files left fault.WriteFailed = Unit {0}
 Stands o files left fault.NoMemory = Unit {0}
 Stands o files left (fault.Limit w) = IfTold (made_by o) left (λ c bytes. IsOverAt files c bytes w)
 Stands o files left (fault.BadConfig n) = IfTold (made_by o) left (λ c bytes. IsBadConfigAt files c bytes n)
-Stands o files left (fault.NotBuilt n) = IfTold (made_by o) left (λ c bytes. IsNotBuiltAt files c bytes n)
 
 -- what a notice runs stops for this cause
 abbrev pub StopsTelling : Notice → run.Cause → Type 0
@@ -175,7 +165,6 @@ IsToldFault n fault.WriteFailed = HasText n
 IsToldFault n fault.NoMemory = Unit {0}
 IsToldFault n (fault.Limit w) = StopsTelling n (run.limit w)
 IsToldFault n (fault.BadConfig k) = StopsTelling n (run.config k)
-IsToldFault n (fault.NotBuilt k) = StopsTelling n (run.not_built k)
 
 -- a notice isn't told, for a cause of this status
 abbrev pub IsUntold : ℕ → Notice → Type 0
@@ -185,7 +174,6 @@ abbrev pub from_script : ScriptFault → Fault
 from_script (stopped.Bad n) = fault.BadInput n
 from_script (stopped.Limit w) = fault.Limit w
 from_script (stopped.Schema n) = fault.BadConfig n
-from_script (stopped.NotBuilt n) = fault.NotBuilt n
 from_script stopped.NoMemory = fault.NoMemory
 
 abbrev pub from_input : InputFault → Fault

@@ -8,7 +8,7 @@ use Rattle.ps_read.specs.declared.faults.SchemaFault.TheVariants as schema
 use Rattle.sc_events.specs.declared.inputs.Form.TheVariants as input
 use Rattle.dsd_top.specs.Asked.{Checking}
 use Rattle.dsd_top.specs.Forms.{verdict_by}
-use Rattle.dsd_top.specs.Makings.{IsMadeOf, IsMalformedAt, IsTooLong, PassesLimit, IsUnschemedAt, IsUnbuiltAt}
+use Rattle.dsd_top.specs.Makings.{IsMadeOf, IsMalformedAt, IsTooLong, PassesLimit, IsUnschemedAt}
 use Rattle.dsd_top.specs.Schemas.{Files, IsSchemaIn, IsBadFileAt, IsRefusedAt}
 use Rattle.dsd_top.specs.Values.{IsBadAt, AreMade}
 use Rattle.dsd_top.specs.declared.answers.Work.{Work}
@@ -76,7 +76,6 @@ abbrev pub IsUnmadeFor : Making → List ℕ → Fault → Type 0
 IsUnmadeFor m bytes (fault.BadInput n) = IsMalformedAt m bytes n
 IsUnmadeFor m bytes (fault.Limit w) = PassesLimit m bytes w
 IsUnmadeFor m bytes (fault.BadConfig n) = IsUnschemedAt m bytes n
-IsUnmadeFor m bytes (fault.NotBuilt n) = IsUnbuiltAt m bytes n
 IsUnmadeFor m bytes fault.NoMemory = Unit {0}
 IsUnmadeFor m bytes f = ⊥
 

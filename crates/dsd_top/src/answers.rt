@@ -16,6 +16,7 @@ use crate::values::values_to_end;
 use crate::words::{Command, Making};
 use ds_skeleton::Skeleton;
 use hub_laws::settled_holdings_are_from_scratch;
+use lc_watch::Table;
 use out_ports::ports::Host;
 use ps_schema::Schema;
 use sc_report::report;
@@ -96,7 +97,7 @@ fn report_in(alloc: Global, bytes: &[u8], input: Input, form: Form) -> Result<Ve
     ensures stop { IfErr result (StopsAt input bytes.now) }
 {
     settled_holdings_are_from_scratch();
-    let ran = run_script::<Skeleton, Conformance>(alloc, bytes, input, Conformance)?;
+    let ran = run_script::<Skeleton, Conformance, Table>(alloc, bytes, input, Conformance, Table)?;
     let value = report(alloc, &ran)?;
     Ok(value_in(alloc, &value, form)?)
 }

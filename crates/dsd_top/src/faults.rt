@@ -22,7 +22,6 @@ pub enum Fault {
     NoMemory,
     Limit(u8),
     BadConfig(u64),
-    NotBuilt(u64),
 }
 
 impl Fault {
@@ -37,7 +36,6 @@ impl Fault {
             Fault::NoMemory => 5,
             Fault::Limit(_) => 6,
             Fault::BadConfig(_) => 7,
-            Fault::NotBuilt(_) => 10,
         }
     }
 
@@ -53,7 +51,6 @@ impl Fault {
             Fault::NoMemory => "dsd: out of memory",
             Fault::Limit(_) => "dsd: limit ",
             Fault::BadConfig(_) => "dsd: bad config at ",
-            Fault::NotBuilt(_) => "dsd: not built at ",
         }
     }
 
@@ -65,7 +62,6 @@ impl Fault {
             Fault::BadInput(n) => buffer.format(n),
             Fault::Limit(limit) => buffer.format(limit),
             Fault::BadConfig(n) => buffer.format(n),
-            Fault::NotBuilt(n) => buffer.format(n),
             _ => "",
         }
     }
@@ -79,7 +75,6 @@ impl From<ScriptFault> for Fault {
             ScriptFault::Bad(n) => Fault::BadInput(n),
             ScriptFault::Limit(limit) => Fault::Limit(limit),
             ScriptFault::Schema(n) => Fault::BadConfig(n),
-            ScriptFault::NotBuilt(n) => Fault::NotBuilt(n),
             ScriptFault::NoMemory => Fault::NoMemory,
         }
     }

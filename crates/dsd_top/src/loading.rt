@@ -11,6 +11,7 @@ use crate::forms::{Form, value_in};
 use crate::words::Loading;
 use ds_skeleton::Skeleton;
 use hub_laws::settled_holdings_are_from_scratch;
+use lc_watch::Table;
 use pv_value::{NoMemory, Node, Value};
 use pv_words::{labelled, number, number_in};
 use rl_packet::Holding;
@@ -86,7 +87,13 @@ pub fn load_line(alloc: Global, loading: &Loading) -> Result<Vec<u8>, ScriptFaul
     settled_holdings_are_from_scratch();
     let script = load_script(alloc, loading.start(), loading.count())?;
     let bytes = script.as_slice();
-    let ran = run_script::<Skeleton, Conformance>(alloc, bytes, Input::Binary, Conformance)?;
+    let ran = run_script::<Skeleton, Conformance, Table>(
+        alloc,
+        bytes,
+        Input::Binary,
+        Conformance,
+        Table,
+    )?;
     let value = load_value(alloc, loading, &ran)?;
     Ok(value_in(alloc, &value, Form::Printed)?)
 }

@@ -7,7 +7,7 @@ ghost use Rattle.dsd_top.specs.Commands.{IsRightlyAsked, is_serve as begins_with
 ghost use Rattle.dsd_top.specs.Statuses.{IsStatus, statuses_by, statuses_told, statuses_of};
 ghost use Rattle.dsd_top.specs.Statuses.{IfTold, file_of, IsAnswered, IsCut, IsShown};
 ghost use Rattle.dsd_top.specs.Statuses.{IsShownFront, IsBadInput, IsOver, IsBadConfig};
-ghost use Rattle.dsd_top.specs.Statuses.{IsNotBuilt, status_of, IsBehindInput, Stands};
+ghost use Rattle.dsd_top.specs.Statuses.{status_of, IsBehindInput, Stands};
 ghost use Rattle.dsd_top.specs.Statuses.{IsToldFault, IsUntold};
 ghost use Rattle.dsd_top.specs.Lines.{Says, SaysFront};
 ghost use Rattle.dsd_top.specs.declared.faults.Fault.TheVariants as fault;
@@ -117,7 +117,7 @@ fn show<O: Sink, E: Sink>(alloc: Global, notice: &Notice, out: &mut O, diag: &mu
 /// for, and all output written, 1 where a value of the input is malformed, 2 where the words are
 /// none of the table's, 3 where the input or a file failed, 4 where the output failed, 5 for want
 /// of memory, 6 where a limit is passed, 7 where a file is refused, or what a script says of its
-/// schema, 10 where the input goes past what is built.
+/// schema.
 /// At every status but 0 one line on `diag` says why, or a front of it where a put fails; a fault
 /// of `diag` changes nothing else.
 pub fn dsd_once<I: Source, O: Sink, E: Sink, H: Host>(
@@ -130,7 +130,7 @@ pub fn dsd_once<I: Source, O: Sink, E: Sink, H: Host>(
 ) -> u8
     requires { begins_with_serve (texts words.now) ≡ false }
     // Each status, and when it comes. Where the words are of the table, no count rose and no cause
-    // of 1, 6, 7 or 10 stands, the status is 0, or 5 for want of memory.
+    // of 1, 6 or 7 stands, the status is 0, or 5 for want of memory.
     ensures known { IsStatus result }
     ensures of_request { Contains (statuses_of (request_of (texts words.now))) result }
     ensures words { result ≡ 2 → AreOfTable (texts words.now) → ⊥ }
@@ -144,8 +144,6 @@ pub fn dsd_once<I: Source, O: Sink, E: Sink, H: Host>(
     ensures bad_config { result ≡ 7
         → IfTold (command_of (texts words.now)) (I.left input.old)
         (IsBadConfig (H.files host.old)) }
-    ensures not_built { result ≡ 10
-        → IfTold (command_of (texts words.now)) (I.left input.old) (IsNotBuilt (H.files host.old)) }
     // The count that rose is that of the input, or that of the host's files before anything was
     // read of the input.
     ensures read_failed { result ≡ 3 → Rose (I.faults input.old) (I.faults input.new)

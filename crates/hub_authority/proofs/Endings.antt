@@ -10,7 +10,7 @@ use Rattle.rl_ports.specs.Ports.{PortsState}
 use Rattle.hub_machine.specs.declared.faults.Fault.{Fault}
 use Rattle.hub_machine.specs.declared.faults.Fault.TheVariants.{Spread}
 use Rattle.hub_machine.specs.State.{State, ports_of}
-use Rattle.hub_machine.specs.Endings.{closed, failed, finished}
+use Rattle.hub_machine.specs.Endings.{closed, failed, dismissed, finished}
 use Rattle.hub_valid.specs.Lemmas.Lives.{live_ended, opened_ended}
 use Rattle.hub_valid.specs.Lemmas.StepEnds.{finished_keeps}
 
@@ -89,9 +89,22 @@ keeps_closed k j s =
     let failing = keeps_failed k j (Spread 0) s in
     record { opened = failing.opened; live = failing.live; named = failing.named }
 
+-- ---- a watcher ends
+
+pub keeps_dismissed : (k a : ℕ) (s : State) → Keeps k s (dismissed a s)
+keeps_dismissed k a s = record {
+  opened = opened_ended a s.world;
+  live = λ is. still_dead _ _ _ (live_ended (actor_of k) a s.world) is;
+  named = λ p is. record {
+    before = p;
+    there = fewer _ _ _ _ p (was_live (actor_of k == a) _ _ (live_ended (actor_of k) a s.world)) (λ e. e) is;
+    same = refl;
+  };
+}
+
 -- ---- the end of a step
 
 pub keeps_finished : (k : ℕ) (xs : List SpreadOf) (s : State) → Keeps k s (finished xs s)
 keeps_finished k xs s =
-    finished_keeps (Keeps k s) (λ j f t there kept. keeps_then k s t (failed j f t) kept (keeps_failed k j f t)) xs s
-    (keeps_all k s)
+    finished_keeps (Keeps k s) (λ j f t there kept. keeps_then k s t (failed j f t) kept (keeps_failed k j f t))
+    (λ a t high low kept. keeps_then k s t (dismissed a t) kept (keeps_dismissed k a t)) xs s (keeps_all k s)

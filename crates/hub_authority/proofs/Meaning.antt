@@ -22,7 +22,7 @@ use Rattle.rl_wire.specs.Crossing.{caveats_in, wire_value, crossed_out}
 use Rattle.rl_wire.specs.Lemmas.Exporting.{IsExported}
 use Rattle.rl_wire.specs.Lemmas.Later.{all_of_front, all_of_rest}
 use Rattle.hub_machine.specs.Machine.{told_value, foreign_told, sent_event}
-use Rattle.hub_valid.specs.Validity.{IsObject, IsObjectValue, IsValidEvent}
+use Rattle.hub_valid.specs.Validity.{Lived, IsObject, IsObjectValue, IsValidEvent}
 use Rattle.hub_valid.specs.Lemmas.Crossed.{reference_read}
 use Rattle.hub_valid.specs.Lemmas.Values.{all_weaker}
 use Rattle.hub_authority.specs.Meant.{MeansExport, Means, NamesAll, IsSentAs, AreSentAs}
@@ -81,7 +81,7 @@ own_cap k x c is own =
     (subst (λ y. (length (caveats_in y) == 0) ≡ true) (cap_is x c is) parts.1) in
     λ i. record { actor = actor i; entity = c.entity; caveats = none i }
 
-one_means : (n k : ℕ) (exports : List Plain) (x : Plain) → IsObjectValue n x
+one_means : (n : Lived) (k : ℕ) (exports : List Plain) (x : Plain) → IsObjectValue n x
     → AllByRecursion (IsExported exports) (foreign_of (actor_at k) x (reference_of x))
     → Means exports k x (reference_out exports (actor_at k) x (reference_of x))
 one_means n k exports x object there = by (cap_of x) refl object
@@ -103,7 +103,7 @@ one_means n k exports x object there = by (cap_of x) refl object
         (at c is (is_own (actor_at k) x r) refl
         (subst (λ o. AllByRecursion (IsExported exports) (foreign_of (actor_at k) x o)) read there))
 
-all_mean : (n k : ℕ) (exports xs : List Plain) → AllByRecursion (IsObjectValue n) xs
+all_mean : (n : Lived) (k : ℕ) (exports xs : List Plain) → AllByRecursion (IsObjectValue n) xs
     → AllByRecursion (IsExported exports) (flat_map (λ x. foreign_of (actor_at k) x (reference_of x)) xs)
     → AllByRecursion (λ x. Means exports k x (reference_out exports (actor_at k) x (reference_of x))) xs
 all_mean n k exports [] objects there = tt
@@ -114,14 +114,14 @@ all_mean n k exports (x ∷ xs) objects there =
       all_mean n k exports xs objects.1 (all_of_rest (IsExported exports) here rest there),
     )
 
-value_means : (n k : ℕ) (exports : List Plain) (v : Plain) → AllByRecursion (IsObjectValue n) (held_in v)
+value_means : (n : Lived) (k : ℕ) (exports : List Plain) (v : Plain) → AllByRecursion (IsObjectValue n) (held_in v)
     → AllByRecursion (IsExported exports) (foreign_in k v) → NamesAll exports k v (crossed_out exports k v)
 value_means n k exports v objects there =
     ((λ x. reference_out exports (actor_at k) x (reference_of x)), refl, all_mean n k exports (held_in v) objects there)
 
 -- ---- events
 
-event_means : (n next k : ℕ) (exports : List Plain) (e : Told) → IsValidEvent n next e
+event_means : (n : Lived) (next k : ℕ) (exports : List Plain) (e : Told) → IsValidEvent n next e
     → AllByRecursion (IsExported exports) (foreign_told k (told_value e))
     → IsSentAs exports k e (sent_event exports k e)
 event_means n next k exports (told.Assert h entity v) fits there =
@@ -132,7 +132,8 @@ event_means n next k exports (told.Message entity v) fits there =
 event_means n next k exports (told.Sync entity peer) fits there =
     (crossed_out exports k (embedded peer), refl, value_means n k exports (embedded peer) (fits.1, tt) there)
 
-pub events_mean : (n next k : ℕ) (exports : List Plain) (es : List Told) → AllByRecursion (IsValidEvent n next) es
+pub events_mean : (n : Lived) (next k : ℕ) (exports : List Plain) (es : List Told)
+    → AllByRecursion (IsValidEvent n next) es
     → AllByRecursion (IsExported exports) (flat_map (λ e. foreign_told k (told_value e)) es)
     → AreSentAs exports k es (map (sent_event exports k) es)
 events_mean n next k exports [] fit there = tt

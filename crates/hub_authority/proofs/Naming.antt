@@ -1,6 +1,6 @@
 -- In each run, what a live connection was sent means what was told.
-use Rattle.std.proofs.Common.{◌≡◌, ℕ, ◌+◌, ◌-◌, ◌<◌, ◌==◌, List, [], ◌∷◌, ◌++◌, Bool, true, false, cond, Option, Some}
-use Rattle.std.proofs.Common.{None, ◌⊎◌, inl, inr, refl, sym, ap, ◌∙◌, subst, arith, map, append-nil, append_assoc}
+use Rattle.std.proofs.Common.{◌≡◌, ℕ, ◌+◌, ◌-◌, ◌<◌, ◌≤◌, ◌==◌, List, [], ◌∷◌, ◌++◌, Bool, true, false, cond, Option}
+use Rattle.std.proofs.Common.{Some, None, ◌⊎◌, inl, inr, refl, sym, ap, ◌∙◌, subst, arith, map, append-nil, append_assoc}
 use Rattle.std.specs.List.{flat_map}
 use Rattle.std.proofs.lemmas.Bool.Decides.{nat_tests}
 use Rattle.pv_value.specs.Plain.{Plain}
@@ -22,10 +22,10 @@ use Rattle.hub_machine.specs.Machine.{tell, fault_for, after_turn, turn_of, is_w
 use Rattle.hub_machine.specs.Replays.{replay, packet_in, sent_by, sent_to}
 use Rattle.hub_machine.specs.Lemmas.ReplayLaws.{replay-more, sent_to-more}
 use Rattle.hub_machine.specs.declared.steps.Step.{Step}
-use Rattle.hub_machine.specs.declared.steps.Step.TheVariants.{Bind, Arrive, Packet, Bad, Close, Turn, Work, Stop}
+use Rattle.hub_machine.specs.declared.steps.Step.TheVariants.{Bind, Watch, Arrive, Packet, Bad, Close, Turn, Work, Stop}
 use Rattle.hub_machine.specs.declared.steps.Reply.{Reply}
 use Rattle.hub_machine.specs.declared.steps.Reply.TheVariants.{Worn}
-use Rattle.hub_valid.specs.Validity.{IsValid, IsValidBatch}
+use Rattle.hub_valid.specs.Validity.{lived, IsValid, IsValidBatch}
 use Rattle.hub_valid.specs.Lemmas.Hubs.{stays_valid}
 use Rattle.hub_valid.specs.Lemmas.Lasting.{live_popped}
 use Rattle.hub_valid.specs.Lemmas.Lists.{flat_map_append}
@@ -39,7 +39,7 @@ use Rattle.hub_authority.specs.Meant.{AreSentAs}
 use Rattle.hub_authority.specs.Named.{batch_sent, told_by, told_from, first_by}
 use Rattle.hub_authority.proofs.Exporting.{Tells, WasTold, CameWith, IsTold, told_more, one_more}
 use Rattle.hub_authority.proofs.Meaning.{events_mean, events_later, sent_append}
-use Rattle.hub_authority.proofs.Runs.{at_first}
+use Rattle.hub_authority.proofs.Runs.{counts_from_one, at_first}
 use Rattle.hub_authority.proofs.Telling.{step_tells}
 
 -- ---- what a step sends
@@ -70,6 +70,7 @@ dead_turn k s dead = by (is_live (actor_of k) s.world.table) dead
 dead_step : (k : ℕ) (s : State) (e : Step) → is_live (actor_of k) s.world.table ≡ false
     → flat_map events_in (sent_by k e (step s e).reply) ≡ []
 dead_step k s (Bind b) dead = refl
+dead_step k s (Watch x) dead = refl
 dead_step k s (Arrive space) dead = refl
 dead_step k s (Packet j es) dead = refl
 dead_step k s (Bad j f) dead = refl
@@ -113,10 +114,10 @@ module _ (k : ℕ) (s : State) (valid : IsValid s) (ports : PortsState) (named :
   sends_batch b first (Some f) t = tt
   sends_batch b first None t =
       let now : List Plain = exports_after k b ports in
-      let fits : IsValidBatch (16 + s.world.opened) s.world.table.next b =
-      first_valid (16 + s.world.opened) own s.world.table b (table_of s.world valid.world) first in
+      let fits : IsValidBatch (lived s.world) s.world.table.next b =
+      first_valid (lived s.world) own s.world.table b (table_of s.world valid.world) first in
       let means : AreSentAs now k b.events (map (sent_event now k) b.events) =
-      events_mean (16 + s.world.opened) s.world.table.next k now b.events fits
+      events_mean (lived s.world) s.world.table.next k now b.events fits
       (are_exported ports.exports (foreign_to k b)) in
       subst (λ rs. AreSentAs (all_exported ports.exports rs) k (b.events ++ []) (map (sent_event now k) b.events ++ []))
       (sym (append-nil (foreign_to k b)))
@@ -178,6 +179,7 @@ module _ (k : ℕ) (s : State) (valid : IsValid s) (ports : PortsState) (named :
   step_sends : (e : Step) → AreSentAs (all_exported ports.exports (flat_map (foreign_to k) (told_by k s e))) k
       (events_of (told_by k s e)) (flat_map events_in (sent_by k e (step s e).reply))
   step_sends (Bind b) = tt
+  step_sends (Watch x) = tt
   step_sends (Arrive space) = tt
   step_sends (Packet j es) = tt
   step_sends (Bad j f) = tt
@@ -281,16 +283,16 @@ meant_more ds k es e valid told is tells = record {
         (subst (λ ts. AreSentAs p.exports k [] ts) (sym silent) tt))
 
 -- the steps that are still to come, after those that were
-all_meant : (ds : List Definition) (k : ℕ) (before later : List Step) → AreAllowed (replay ds before) later
+all_meant : (ds : List Definition) (k : ℕ) (before later : List Step) → 1 ≤ k → AreAllowed (replay ds before) later
     → IsValid (replay ds before)
     → IsTold ds k before (replay ds before) → IsMeant ds k before (replay ds before)
     → IsMeant ds k (before ++ later) (replay ds (before ++ later))
-all_meant ds k before [] may valid told is = subst (λ es. IsMeant ds k es (replay ds es)) (sym (append-nil before)) is
-all_meant ds k before (e ∷ es) may valid told is =
-    let tells = step_tells k (replay ds before) e in
+all_meant ds k before [] one may valid told is = subst (λ es. IsMeant ds k es (replay ds es)) (sym (append-nil before)) is
+all_meant ds k before (e ∷ es) one may valid told is =
+    let tells = step_tells k (replay ds before) e one in
     let next : (step (replay ds before) e).state ≡ replay ds (before ++ e ∷ []) = sym (replay-more ds before e) in
     subst (λ all. IsMeant ds k all (replay ds all)) (append_assoc before (e ∷ []) es)
-    (all_meant ds k (before ++ e ∷ []) es
+    (all_meant ds k (before ++ e ∷ []) es one
     (subst (λ t. AreAllowed t es) next may.1)
     (subst IsValid next (stays_valid.1 (replay ds before) e valid may.0))
     (subst (IsTold ds k (before ++ e ∷ [])) next (one_more ds k before e told tells))
@@ -302,7 +304,7 @@ none_named false p is = cc
 
 pub names_mean : Names
 names_mean ds k steps ports may there =
-    (all_meant ds k [] steps may (stays_valid.0 ds) (at_first ds k)
+    (all_meant ds k [] steps (counts_from_one ds k steps ports there) may (stays_valid.0 ds) (at_first ds k)
     (record {
       unsent = λ l. refl;
       names = λ p is. absurd (none_named (is_live (actor_of k) (opening ds).world.table) p is);

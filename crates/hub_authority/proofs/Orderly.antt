@@ -5,13 +5,14 @@ use Rattle.std.proofs.Common.{refl, sym, ◌∙◌, subst, arith, length}
 use Rattle.std.specs.List.{AllByRecursion}
 use Rattle.gk_sturdy.specs.declared.bound.Binding.{Binding}
 use Rattle.ac_table.specs.declared.batches.Batch.{Batch}
-use Rattle.ac_table.specs.Tables.{is_live, first_batch, ended, rows_of, lowest}
+use Rattle.ac_table.specs.Tables.{lowest}
 use Rattle.ac_world.specs.declared.spreads.Spread.{Spread as SpreadOf}
 use Rattle.ac_world.specs.declared.turns.Turned.{Turned}
 use Rattle.ac_world.specs.declared.turns.Turned.TheVariants as turned
-use Rattle.ac_world.specs.Outboxes.{Plan, retractions}
-use Rattle.ac_world.specs.Turns.{After as TurnOf, turn_first, turn, connection_turn, system_turn}
-use Rattle.ac_world.specs.Worlds.{WorldState, actor_of, ended_of, gone, is_system, without_entry, binding}
+use Rattle.ac_world.specs.Outboxes.{Plan}
+use Rattle.ac_world.specs.Turns.{turn}
+use Rattle.ac_world.specs.declared.watched.Watched.{Watched}
+use Rattle.ac_world.specs.Worlds.{WorldState, actor_of, is_system, without_entry, binding, watching}
 use Rattle.ac_world.specs.Lemmas.Entries.{each_with, each_without, each_found, KeysAscend, ascend_none}
 use Rattle.rl_packet.specs.declared.packets.TurnEvent.{TurnEvent}
 use Rattle.rl_ports.specs.Ports.{PortsState, ports_to, with_exports}
@@ -20,14 +21,14 @@ use Rattle.hub_machine.specs.declared.faults.Fault.{Fault}
 use Rattle.hub_machine.specs.declared.steps.Reply.{Reply}
 use Rattle.hub_machine.specs.declared.steps.Reply.TheVariants.{Worn, Halted, Idle}
 use Rattle.hub_machine.specs.declared.steps.Step.{Step}
-use Rattle.hub_machine.specs.declared.steps.Step.TheVariants.{Bind, Arrive, Packet, Bad, Close, Turn, Work, Stop}
+use Rattle.hub_machine.specs.declared.steps.Step.TheVariants.{Bind, Watch, Arrive, Packet, Bad, Close, Turn, Work, Stop}
 use Rattle.hub_machine.specs.Faults.{over}
 use Rattle.hub_machine.specs.State.{State, opening, ports_of}
 use Rattle.hub_machine.specs.Admission.{Admitting, Admitted, refused, admitted, admission, before_all, unless}
 use Rattle.hub_machine.specs.Admission.{all_admitted}
-use Rattle.hub_machine.specs.Endings.{nameless, closed, failed, finished}
+use Rattle.hub_machine.specs.Endings.{nameless, closed, failed, dismissed, finished}
 use Rattle.hub_machine.specs.Machine.{unchanged, opened, refusal, arrive_unless, accepted, judged, packet_at, bad_at}
-use Rattle.hub_machine.specs.Machine.{bind_unless, is_barred}
+use Rattle.hub_machine.specs.Machine.{bind_unless, is_barred, is_unwatchable, watch_unless}
 use Rattle.hub_machine.specs.Machine.{close_at, exports_after, exporting, telling_fault, told_unless, tell, fault_for}
 use Rattle.hub_machine.specs.Machine.{tell_fault, after_turn, turn_of, rest, work_by, is_worn, done, step}
 use Rattle.hub_machine.specs.Machine.{actor_reference}
@@ -36,11 +37,11 @@ use Rattle.hub_valid.specs.Validity.{IsValid}
 use Rattle.hub_valid.specs.Lemmas.Hubs.{stays_valid}
 use Rattle.hub_valid.specs.Lemmas.Values.{all_weaker}
 use Rattle.hub_laws.specs.Laws.{AreAllowed}
-use Rattle.hub_laws.proofs.Kept.{IsSound, IsHub}
+use Rattle.hub_laws.proofs.Kept.{IsHub}
 use Rattle.hub_laws.proofs.Opening.{replay_hub}
-use Rattle.hub_laws.proofs.Posting.{posted_table}
 use Rattle.hub_laws.proofs.Steps.{named_of, step_hub}
-use Rattle.hub_laws.proofs.Turns.{without_first, turning_of, system_low, system_runs}
+use Rattle.hub_valid.specs.Lemmas.Lasting.{lasts_turn, later_watching}
+use Rattle.hub_valid.specs.Lemmas.Lives.{next_ended, next_posted}
 use Rattle.hub_valid.specs.Lemmas.StepEnds.{finished_keeps}
 use Rattle.hub_authority.specs.Laws.{TakenPackets}
 use Rattle.hub_authority.proofs.Asking.{StandBelow, HaveLed, plan_of, all_led}
@@ -66,13 +67,6 @@ with_world w s l all = later_in_order s.world.table.next w.table.next s.connecti
 
 -- ---- endings
 
-next_ended : (a : ℕ) (w : WorldState) → (ended_of a w).table.next ≡ w.table.next
-next_ended a w = by (is_live a w.table)
-  where
-    by : (b : Bool) → (cond b (gone a w) w).table.next ≡ w.table.next
-    by true = (posted_table a (retractions (rows_of a w.table.rows) []) (ended a w.table)).1
-    by false = refl
-
 closed_in_order : (k : ℕ) (s : State) → AreInOrder s → AreInOrder (closed k s)
 closed_in_order k s all =
     subst (λ n. AllByRecursion (IsInOrder n) (without_entry k s.connections)) (sym (next_ended (actor_of k) s.world))
@@ -81,8 +75,14 @@ closed_in_order k s all =
 failed_in_order : (k : ℕ) (f : Fault) (s : State) → AreInOrder s → AreInOrder (failed k f s)
 failed_in_order k f s all = closed_in_order k s all
 
+dismissed_in_order : (a : ℕ) (s : State) → AreInOrder s → AreInOrder (dismissed a s)
+dismissed_in_order a s all =
+    subst (λ n. AllByRecursion (IsInOrder n) s.connections) (sym (next_ended a s.world)) all
+
 finished_in_order : (xs : List SpreadOf) (s : State) → AreInOrder s → AreInOrder (finished xs s)
-finished_in_order xs s all = finished_keeps AreInOrder (λ k f t there ordered. failed_in_order k f t ordered) xs s all
+finished_in_order xs s all =
+    finished_keeps AreInOrder (λ k f t there ordered. failed_in_order k f t ordered)
+    (λ a t high low ordered. dismissed_in_order a t ordered) xs s all
 
 -- ---- arrivals
 
@@ -101,7 +101,7 @@ accepted_in_order : (k : ℕ) (ports : PortsState) (es : List TurnEvent) (x : Ad
 accepted_in_order k ports es x s led all =
     let plan : Plan = plan_of k s.world x in
     let next : x.next ≡ (accepted k x (nameless k s)).world.table.next =
-    sym ((posted_table (actor_of k) plan.out plan.table).1 ∙ led.walked.next_is) in
+    sym (next_posted (actor_of k) plan.out plan.table ∙ led.walked.next_is) in
     subst (λ n. AllByRecursion (IsInOrder n) (accepted k x (nameless k s)).connections) next
     (each_with (IsInOrder x.next) k x.ports (without_entry k s.connections) (led.walked.ascend, led.walked.stand)
     (later_in_order s.world.table.next x.next (without_entry k s.connections) led.later
@@ -147,32 +147,6 @@ close_in_order k (Some ports) s all = finished_in_order [] (closed k s) (closed_
 
 -- ---- turns
 
--- the next handle never falls
-abbrev IsLater : WorldState → TurnOf → Type 0
-IsLater w t = w.table.next ≤ t.world.table.next
-
-next_turned : (a : ℕ) (w : WorldState) → IsSound [] w → IsLater w (turn a w)
-next_turned a w sound = by (is_live a w.table) refl
-  where
-    taken : (b : Batch) (system : Bool) → is_live a w.table ≡ true → first_batch a w.table ≡ Some b
-        → is_system a ≡ system
-        → IsLater w (cond system (system_turn a b (without_first a w)) (connection_turn a b (without_first a w)))
-    taken b true live first is =
-        let plan : Plan = (turning_of a b w).plan in
-        let posts = (posted_table a plan.out plan.table).1 in
-        let later = (system_runs a b w sound is (system_low a w sound is live) first).moves.later in
-        omega (arith, posts, later)
-    taken b false live first is = omega arith
-
-    first : (o : Option Batch) → is_live a w.table ≡ true → first_batch a w.table ≡ o → IsLater w (turn_first a o w)
-    first None live is = omega arith
-    first (Some b) live is = taken b (is_system a) live is refl
-
-    by : (c : Bool) → is_live a w.table ≡ c
-        → IsLater w (cond c (turn_first a (first_batch a w.table) w) (record { world = w; turned = turned.Gone }))
-    by true live = first (first_batch a w.table) live refl
-    by false dead = omega arith
-
 fault_in_order : (a : ℕ) (o : Option Fault) (s : State) → AreInOrder s → AreInOrder (tell_fault a o s).state
 fault_in_order a None s all = all
 fault_in_order a (Some f) s all = finished_in_order [] (record s { faults = without_entry (a - 16) s.faults }) all
@@ -196,22 +170,22 @@ after_in_order a (turned.Taken b) s all = tell_in_order (a - 16) (ports_of (a - 
 after_in_order a turned.Idle s all = all
 after_in_order a turned.Gone s all = fault_in_order a (fault_for a s) s all
 
-turn_in_order : (a : ℕ) (s : State) → IsHub [] s → AreInOrder s → AreInOrder (turn_of a s).state
-turn_in_order a s h all =
+turn_in_order : (a : ℕ) (s : State) → AreInOrder s → AreInOrder (turn_of a s).state
+turn_in_order a s all =
     after_in_order a (turn a s.world).turned (record s { world = (turn a s.world).world })
-    (with_world (turn a s.world).world s (next_turned a s.world h.sound) all)
+    (with_world (turn a s.world).world s (lasts_turn a s.world).later all)
 
 rest_in_order : (b : Bool) (s : State) → AreInOrder s
     → AreInOrder (cond b (unchanged s Halted) (unchanged s Idle)).state
 rest_in_order true s all = all
 rest_in_order false s all = all
 
-work_in_order : (o : Option ℕ) (s : State) → IsHub [] s → AreInOrder s → AreInOrder (work_by o s).state
-work_in_order None s h all = rest_in_order s.stopped s all
-work_in_order (Some a) s h all = by (is_system a)
+work_in_order : (o : Option ℕ) (s : State) → AreInOrder s → AreInOrder (work_by o s).state
+work_in_order None s all = rest_in_order s.stopped s all
+work_in_order (Some a) s all = by (is_system a)
   where
     by : (b : Bool) → AreInOrder (cond b (turn_of a s) (rest s)).state
-    by true = turn_in_order a s h all
+    by true = turn_in_order a s all
     by false = rest_in_order s.stopped s all
 
 -- ---- steps
@@ -220,14 +194,21 @@ bind_in_order : (c : Bool) (b : Binding) (s : State) → AreInOrder s → AreInO
 bind_in_order true b s all = all
 bind_in_order false b s all = finished_in_order [] (record s { world = binding b s.world }) all
 
+watch_in_order : (c : Bool) (x : Watched) (s : State) → AreInOrder s → AreInOrder (watch_unless c x s).state
+watch_in_order true x s all = all
+watch_in_order false x s all =
+    finished_in_order [] (record s { world = watching x s.world })
+    (with_world (watching x s.world) s (later_watching x s.world) all)
+
 done_in_order : (s : State) (e : Step) → IsHub [] s → AreInOrder s → AreInOrder (done s e).state
 done_in_order s (Bind b) h all = bind_in_order (is_barred b s) b s all
+done_in_order s (Watch x) h all = watch_in_order (is_unwatchable x s) x s all
 done_in_order s (Arrive space) h all = arrive_in_order (refusal space s) space s all
 done_in_order s (Packet k es) h all = packet_in_order k (ports_of k s) es s h all refl
 done_in_order s (Bad k f) h all = bad_in_order k (ports_of k s) f s all
 done_in_order s (Close k) h all = close_in_order k (ports_of k s) s all
-done_in_order s (Turn a) h all = turn_in_order a s h all
-done_in_order s Work h all = work_in_order (lowest s.world.table) s h all
+done_in_order s (Turn a) h all = turn_in_order a s all
+done_in_order s Work h all = work_in_order (lowest s.world.table) s all
 done_in_order s Stop h all = finished_in_order [] (record s { stopped = true }) all
 
 step_in_order : (s : State) (e : Step) → IsHub [] s → AreInOrder s → AreInOrder (step s e).state

@@ -87,7 +87,10 @@ messages_ended a w = by (is_live a w.table)
 
 pub messages_finished : (xs : List SpreadOf) (s : State) → KeepsMessages s.world.table (finished xs s).world.table
 messages_finished xs s =
-    finished_keeps (λ t. KeepsMessages s.world.table t.world.table)
-    (λ k f t there kept. keeps_then s.world.table t.world.table (ended_of (actor_of k) t.world).table kept
-    (messages_ended (actor_of k) t.world))
-    xs s (keeps_all s.world.table)
+    finished_keeps (λ t. KeepsMessages s.world.table t.world.table) (λ k f t there kept. ends (actor_of k) t kept)
+    (λ a t high low kept. ends a t kept) xs s (keeps_all s.world.table)
+  where
+    ends : (a : ℕ) (t : State) → KeepsMessages s.world.table t.world.table
+        → KeepsMessages s.world.table (ended_of a t.world).table
+    ends a t kept =
+        keeps_then s.world.table t.world.table (ended_of a t.world).table kept (messages_ended a t.world)

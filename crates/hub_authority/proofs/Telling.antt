@@ -13,6 +13,8 @@ use Rattle.ac_table.specs.Tables.{Actor, TableState, is_live, first_batch, first
 use Rattle.ac_world.specs.declared.turns.Turned.TheVariants as turned
 use Rattle.ac_world.specs.Outboxes.{plan_over, all_acted, committed}
 use Rattle.ac_world.specs.Worlds.{WorldState, actor_of, entry_of, with_entry, without_entry, is_system, binding}
+use Rattle.ac_world.specs.Worlds.{watching}
+use Rattle.ac_world.specs.declared.watched.Watched.{Watched}
 use Rattle.ac_world.specs.Turns.{After as TurnOf, Turning, turn_first, turn_with, begin_turn, all_turned, system_turn}
 use Rattle.ac_world.specs.Turns.{connection_turn}
 use Rattle.ac_world.specs.Lemmas.Entries.{put_found, put_other, out_other}
@@ -28,20 +30,21 @@ use Rattle.hub_machine.specs.Admission.{Admitting, Admitted, refused, admitted}
 use Rattle.hub_machine.specs.Admission.{admission}
 use Rattle.hub_machine.specs.Endings.{nameless, failed, closed}
 use Rattle.hub_machine.specs.Machine.{After, step, done, is_worn, unchanged, ends, opened, refusal, arrive_unless}
-use Rattle.hub_machine.specs.Machine.{bind_unless, is_barred}
+use Rattle.hub_machine.specs.Machine.{bind_unless, is_barred, is_unwatchable, watch_unless}
 use Rattle.hub_machine.specs.Machine.{accepted, judged, packet_at, bad_at, close_at, foreign_to, telling_fault}
 use Rattle.hub_machine.specs.Machine.{exporting, told_unless, tell, fault_for, tell_fault, after_turn, turn_of, rest}
 use Rattle.hub_machine.specs.Machine.{work_by, actor_reference, exports_after as exports_after_turn}
 use Rattle.hub_machine.specs.declared.steps.Step.{Step}
-use Rattle.hub_machine.specs.declared.steps.Step.TheVariants.{Bind, Arrive, Packet, Bad, Close, Turn, Work, Stop}
+use Rattle.hub_machine.specs.declared.steps.Step.TheVariants.{Bind, Watch, Arrive, Packet, Bad, Close, Turn, Work, Stop}
 use Rattle.hub_machine.specs.declared.steps.Reply.{Reply}
 use Rattle.hub_machine.specs.declared.steps.Reply.TheVariants.{Worn, Barred, Halted, Full, Gone, Refused, Idle, Sent}
 use Rattle.hub_machine.specs.declared.steps.Reply.TheVariants.{Ran, Taken}
 use Rattle.hub_valid.specs.Lemmas.Admitted.{exports_stay}
-use Rattle.hub_valid.specs.Lemmas.Lasting.{live_popped, lasts_sent}
+use Rattle.hub_valid.specs.Lemmas.Lasting.{live_popped, lasts_sent, live_watching}
 use Rattle.hub_authority.specs.Named.{batch_sent, told_by, first_by, opened_as}
 use Rattle.hub_valid.specs.Lemmas.Lives.{live_placed, live_committed}
 use Rattle.hub_valid.specs.Lemmas.Plans.{goes_on_all_turned}
+use Rattle.hub_valid.specs.Lemmas.Watchers.{may_watch}
 use Rattle.hub_authority.proofs.Endings.{HadThem, Keeps, keeps_all, keeps_then, keeps_failed, keeps_closed}
 use Rattle.hub_authority.proofs.Endings.{keeps_finished}
 use Rattle.hub_authority.proofs.Exporting.{Tells, WasTold, CameWith, tells_nothing, tells_then}
@@ -255,7 +258,7 @@ quiet_system k a b s system =
     w = record s.world { table = popped a s.world.table }
 
     y : Behaviour
-    y = behaviour_of s.world.schema s.world.bindings a
+    y = behaviour_of s.world.schema s.world.bindings s.world.watches a
 
     t : Turning
     t = all_turned y a b.from b.events (begin_turn a w)
@@ -475,6 +478,18 @@ keeps_bind k false b s =
     (record { opened = refl; live = λ is. is; named = λ p is. record { before = p; there = is; same = refl } })
     (keeps_finished k [] t)
 
+-- connections count from 1, and actor 16 is a watcher
+keeps_watch : (k : ℕ) (c : Bool) (x : Watched) (s : State) → 1 ≤ k → is_unwatchable x s ≡ c
+    → Keeps k s (watch_unless c x s).state
+keeps_watch k true x s one is = keeps_all k s
+keeps_watch k false x s one is =
+    let few : length s.world.watches < 8 = (may_watch x s is).few in
+    let t : State = record s { world = watching x s.world } in
+    keeps_then k s t _
+    (keeps_world k s (watching x s.world) refl
+    (live_watching (actor_of k) x s.world (λ same. omega (arith, one, few, same))))
+    (keeps_finished k [] t)
+
 -- where it is done, unless numbers are used up
 unless_worn : (k : ℕ) (s : State) (e : Step) → Keeps k s (done s e).state → Tells k s (step s e).state [] None
 unless_worn k s e keeps = tells_nothing k s (step s e).state (by (is_worn s e))
@@ -490,12 +505,14 @@ turn_step_tells k a s = by (is_worn s (Turn a))
     by true = quiet_tells k a s (first_batch a s.world.table) (unchanged s Worn) (quiet_same k s Worn none_worn)
     by false = turn_tells k a s
 
-pub step_tells : (k : ℕ) (s : State) (e : Step) → Tells k s (step s e).state (told_by k s e) (first_by k s e)
-step_tells k s (Bind b) = unless_worn k s (Bind b) (keeps_bind k (is_barred b s) b s)
-step_tells k s (Arrive space) = arrive_tells k space s
-step_tells k s (Packet j es) = unless_worn k s (Packet j es) (keeps_packet k j es s)
-step_tells k s (Bad j f) = unless_worn k s (Bad j f) (keeps_bad k j (ports_of j s) f s)
-step_tells k s (Close j) = unless_worn k s (Close j) (keeps_close k j (ports_of j s) s)
-step_tells k s (Turn a) = turn_step_tells k a s
-step_tells k s Work = unless_worn k s Work (keeps_work k (lowest s.world.table) s)
-step_tells k s Stop = unless_worn k s Stop (keeps_stop k s)
+pub step_tells : (k : ℕ) (s : State) (e : Step) → 1 ≤ k
+    → Tells k s (step s e).state (told_by k s e) (first_by k s e)
+step_tells k s (Bind b) one = unless_worn k s (Bind b) (keeps_bind k (is_barred b s) b s)
+step_tells k s (Watch x) one = unless_worn k s (Watch x) (keeps_watch k (is_unwatchable x s) x s one refl)
+step_tells k s (Arrive space) one = arrive_tells k space s
+step_tells k s (Packet j es) one = unless_worn k s (Packet j es) (keeps_packet k j es s)
+step_tells k s (Bad j f) one = unless_worn k s (Bad j f) (keeps_bad k j (ports_of j s) f s)
+step_tells k s (Close j) one = unless_worn k s (Close j) (keeps_close k j (ports_of j s) s)
+step_tells k s (Turn a) one = turn_step_tells k a s
+step_tells k s Work one = unless_worn k s Work (keeps_work k (lowest s.world.table) s)
+step_tells k s Stop one = unless_worn k s Stop (keeps_stop k s)

@@ -1,7 +1,7 @@
 -- With a row less no key is wanted that wasn't wanted before.
 use Rattle.std.proofs.Common.{◌≡◌, ℕ, zero, suc, List, [], ◌∷◌, Bool, true, false, cond, ◌&&◌, ◌||◌, not, refl, sym, ◌∙◌}
+use Rattle.std.proofs.Common.{Option, Some, None}
 use Rattle.std.specs.List.{list_any, filter}
-use Rattle.std.specs.List.Sorted.{IsStrictlySortedBy}
 use Rattle.std.specs.BTreeMap.{is_at}
 use Rattle.std.specs.Map.{values_of, remove_entry}
 use Rattle.std.specs.Ordering.{nat_cmp}
@@ -15,8 +15,13 @@ use Rattle.ds_space.specs.Spaces.{Rows, changed}
 use Rattle.ds_space.specs.Wants.{gives, wanted, wants}
 use Rattle.ds_space.specs.declared.space.SpaceEvent.TheVariants.{Gone}
 use Rattle.gk_sturdy.specs.declared.bound.Binding.{Binding}
-use Rattle.ac_world.specs.Behaviours.{Behaviour, asks, behaviour_of}
-use Rattle.ac_world.specs.Lemmas.Asking.{asked, among_asked, among_without, without_ascends}
+use Rattle.ac_watch.specs.Lemmas.Keys.{among_keys, keys_ascend}
+use Rattle.ac_watch.specs.Watching.{keys_over, watcher_keys}
+use Rattle.ac_world.specs.Behaviours.{Behaviour, asks, other, behaviour_of}
+use Rattle.ac_watch.specs.Lemmas.Alone.{among_without, without_ascends, ascend_nothing}
+use Rattle.ac_world.specs.Lemmas.Asking.{asked, among_asked}
+use Rattle.ac_world.specs.Watchers.{Task, task_at}
+use Rattle.ac_world.specs.declared.watched.Watched.{Watched}
 
 -- ---- tests of fewer values
 
@@ -58,13 +63,9 @@ any_fewer {K = K} {X = X} p test (e ∷ es) is = by (test e.0) is (any_fewer p t
 abbrev AreAmong : List Plain → List Plain → Type 0
 AreAmong ks ls = (q : Plain) → among q ks ≡ true → among q ls ≡ true
 
-ascend_none : Ascend []
-unfolding IsStrictlySortedBy
-ascend_none = tt
-
 none_without : (ks ls : List Plain) → Ascend ks → Ascend ls → AreAmong ks ls → without ks ls ≡ []
 none_without ks ls s t all =
-    unique (without ks ls) [] (without_ascends ks ls s t) ascend_none
+    unique (without ks ls) [] (without_ascends ks ls s t) ascend_nothing
     (λ q. among_without q ks ls ∙ none (among q ks) (among q ls) (all q))
   where
     none : (b c : Bool) → (b ≡ true → c ≡ true) → (not c && b) ≡ false
@@ -104,6 +105,20 @@ asked_fewer test es =
     by q true is = any_fewer (same q) test es is
     by q false is = absurd cc
 
-pub wants_no_more : (ds : List Definition) (bs : List Binding) (a : ℕ) → WantsNoMore (behaviour_of ds bs a)
-wants_no_more ds bs zero h rows = asked_fewer (is_at (nat_cmp h)) rows
-wants_no_more ds bs (suc a) h rows = space_wants_no_more (is_at (nat_cmp h)) rows
+watched_fewer : {K : Type 0} (name : List ℕ) (test : K → Bool) (es : List (K × Plain))
+    → without (watcher_keys name (values_of (remove_entry test es))) (watcher_keys name (values_of es)) ≡ []
+watched_fewer name test es =
+    let less = values_of (remove_entry test es) in
+    none_without (watcher_keys name less) (watcher_keys name (values_of es)) (keys_ascend name less)
+    (keys_ascend name (values_of es))
+    (λ q is. among_keys q name (values_of es)
+    ∙ any_fewer (λ v. among q (keys_over name v)) test es (sym (among_keys q name less) ∙ is))
+
+other_wants_no_more : (ds : List Definition) (o : Option Task) → WantsNoMore (other ds o)
+other_wants_no_more ds None h rows = space_wants_no_more (is_at (nat_cmp h)) rows
+other_wants_no_more ds (Some task) h rows = watched_fewer task.name (is_at (nat_cmp h)) rows
+
+pub wants_no_more : (ds : List Definition) (bs : List Binding) (ws : List Watched) (a : ℕ)
+    → WantsNoMore (behaviour_of ds bs ws a)
+wants_no_more ds bs ws zero h rows = asked_fewer (is_at (nat_cmp h)) rows
+wants_no_more ds bs ws (suc a) h rows = other_wants_no_more ds (task_at (suc a) ws) h rows

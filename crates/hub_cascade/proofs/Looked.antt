@@ -1,5 +1,5 @@
 -- Who stays within the limits through each change, and what a step's end does that looks only at those who may not have.
-use Rattle.std.proofs.Common.{◌≡◌, ◌≢◌, ℕ, ◌+◌, ◌<◌, ◌≤◌, List, [], ◌∷◌, Bool, true, false, cond, Option, Some, None}
+use Rattle.std.proofs.Common.{◌≡◌, ◌≢◌, ℕ, ◌+◌, ◌≤◌, List, [], ◌∷◌, Bool, true, false, cond, Option, Some, None}
 use Rattle.std.proofs.Common.{inl, inr, refl, ap, sym, ◌∙◌, subst, arith, is_some}
 use Rattle.std.proofs.lemmas.Bool.Decides.{nat_tests}
 use Rattle.std.specs.BTreeMap.{is_at}
@@ -8,15 +8,15 @@ use Rattle.std.specs.Map.{keys_of, values_of}
 use Rattle.std.specs.Ordering.{nat_cmp}
 use Rattle.ac_table.specs.declared.batches.Batch.{Batch}
 use Rattle.ac_table.specs.Sums.{both, load_waiting, inbox_of, top_load}
-use Rattle.ac_table.specs.Tables.{find_actor, is_live, first_batch, popped}
-use Rattle.ac_world.specs.Lemmas.Entries.{out_other, put_other}
+use Rattle.ac_table.specs.Tables.{is_live, first_batch, popped}
+use Rattle.ac_world.specs.Lemmas.Entries.{put_other}
 use Rattle.ac_world.specs.Sums.{load_got, deliveries}
 use Rattle.ac_world.specs.Turns.{After as TurnOf, turn, turn_first, system_turn, connection_turn}
 use Rattle.ac_world.specs.Worlds.{actor_of, entry_of, with_entry, without_entry, held_by, is_system}
 use Rattle.ac_world.specs.declared.turns.Turned.TheVariants as turned
 use Rattle.hub_machine.specs.Admission.{Admitting}
 use Rattle.hub_machine.specs.declared.faults.Fault.{Fault}
-use Rattle.hub_machine.specs.Endings.{nameless, departed, failed, failed_where, overrun_by, overrun_of, all_overrun}
+use Rattle.hub_machine.specs.Endings.{nameless, dismissed, failed, failed_where, overrun_by, overrun_of, all_overrun}
 use Rattle.hub_machine.specs.Endings.{each_overrun}
 use Rattle.hub_machine.specs.Machine.{opened, accepted}
 use Rattle.hub_machine.specs.State.{State}
@@ -26,7 +26,7 @@ use Rattle.hub_laws.proofs.Joining.{joined_other, joined_live_other}
 use Rattle.hub_laws.proofs.Leaving.{one_or_not}
 use Rattle.hub_laws.proofs.Presence.{dead_itself}
 use Rattle.hub_laws.proofs.Uncounted.{endings_spare_others}
-use Rattle.hub_cascade.proofs.Ends.{IsAsBefore, apart_actors, live_but, unless_live, unless_named, over_as_before}
+use Rattle.hub_cascade.proofs.Ends.{apart_actors, live_but, unless_live, unless_named, over_as_before}
 use Rattle.hub_cascade.proofs.Ends.{fails_itself, within_failed, nothing_to_do, none_over}
 use Rattle.hub_cascade.proofs.Taking.{taken, others_wait}
 use Rattle.hub_cascade.proofs.Unheard.{IsApart, sent_waits}
@@ -72,19 +72,19 @@ within_nameless j k s within =
     by true (Some p) (Some q) before is = is
     by true None (Some q) before is = absurd (let none : false ≡ true = before refl in cc)
 
-pub within_departed : (j k : ℕ) (s : State) → overrun_of j s ≡ None → overrun_of j (departed k s) ≡ None
-within_departed j k s within = elim (one_or_not j k) [
+-- whoever goes
+pub within_dismissed : (j a : ℕ) (s : State) → overrun_of j s ≡ None → overrun_of j (dismissed a s) ≡ None
+within_dismissed j a s within = elim (one_or_not (actor_of j) a) [
   | inl same ↦
-      subst (λ i. overrun_of j (departed i s) ≡ None) same
-      (unless_live j (departed j s) (dead_itself (actor_of j) s.world))
+      subst (λ b. overrun_of j (dismissed b s) ≡ None) same
+      (unless_live j (dismissed (actor_of j) s) (dead_itself (actor_of j) s.world))
   | inr apart ↦
-      (let actors = apart_actors j k apart in
-      over_as_before j s (departed k s) (record {
-        live = live_but (actor_of j) (actor_of k) s.world actors;
+      over_as_before j s (dismissed a s) (record {
+        live = live_but (actor_of j) a s.world apart;
         names = refl;
-        load = endings_spare_others (actor_of k) (actor_of j) s.world actors;
+        load = endings_spare_others a (actor_of j) s.world apart;
       })
-      ∙ within)
+      ∙ within
 ]
 
 -- ---- so do all but one where that one gets names, comes, takes its turn or sends what reaches no other

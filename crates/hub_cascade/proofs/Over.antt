@@ -14,7 +14,8 @@ use Rattle.ac_world.specs.declared.turns.Turned.TheVariants as turned
 use Rattle.ac_world.specs.Sums.{deliveries}
 use Rattle.ac_world.specs.Behaviours.{behaviour_of}
 use Rattle.ac_world.specs.Turns.{After as TurnOf, begin_turn, all_turned, system_turn, connection_turn, turn_first}
-use Rattle.ac_world.specs.Worlds.{WorldState, actor_of, without_entry, is_system, binding}
+use Rattle.ac_world.specs.declared.watched.Watched.{Watched}
+use Rattle.ac_world.specs.Worlds.{WorldState, actor_of, without_entry, is_system, binding, watching}
 use Rattle.rl_packet.specs.declared.packets.TurnEvent.{TurnEvent}
 use Rattle.rl_ports.specs.Ports.{PortsState}
 use Rattle.hub_machine.specs.Limits.{most_deliveries, most_deliveries_weight}
@@ -24,12 +25,12 @@ use Rattle.hub_machine.specs.State.{State, opening, ports_of, is_there}
 use Rattle.hub_machine.specs.Admission.{Admitted, refused, admitted, admission}
 use Rattle.hub_machine.specs.Endings.{nameless, closed, failed, overrun_by, overrun_of}
 use Rattle.hub_machine.specs.Machine.{opened, refusal, arrive_unless, accepted, judged, packet_at, bind_unless}
-use Rattle.hub_machine.specs.Machine.{is_barred, bad_at, close_at, telling_fault, exporting, told_unless, tell}
-use Rattle.hub_machine.specs.Machine.{fault_for, tell_fault, after_turn, turn_of, rest, work_by, is_worn, done, step}
-use Rattle.hub_machine.specs.Machine.{unchanged}
+use Rattle.hub_machine.specs.Machine.{is_barred, is_unwatchable, watch_unless, bad_at, close_at, telling_fault}
+use Rattle.hub_machine.specs.Machine.{exporting, told_unless, tell, fault_for, tell_fault, after_turn, turn_of, rest}
+use Rattle.hub_machine.specs.Machine.{work_by, is_worn, done, step, unchanged}
 use Rattle.hub_machine.specs.Replays.{run_from, replay}
 use Rattle.hub_machine.specs.declared.steps.Step.{Step}
-use Rattle.hub_machine.specs.declared.steps.Step.TheVariants.{Bind, Arrive, Packet, Bad, Close, Turn, Work, Stop}
+use Rattle.hub_machine.specs.declared.steps.Step.TheVariants.{Bind, Watch, Arrive, Packet, Bad, Close, Turn, Work, Stop}
 use Rattle.hub_machine.specs.declared.steps.Reply.{Reply}
 use Rattle.hub_machine.specs.declared.steps.Reply.TheVariants as reply
 use Rattle.hub_laws.proofs.Presence.{presence}
@@ -84,7 +85,7 @@ after_this a s t = (after_turn a t.turned (record s { world = t.world })).state
 kind_within : (a : ℕ) (c : Bool) (b : Batch) (w : WorldState) (s : State)
     → AreWithin (after_this a s (cond c (system_turn a b w) (connection_turn a b w)))
 kind_within a true b w s =
-    none_over (all_turned (behaviour_of w.schema w.bindings a) a b.from b.events (begin_turn a w)).spreads
+    none_over (all_turned (behaviour_of w.schema w.bindings w.watches a) a b.from b.events (begin_turn a w)).spreads
     (record s { world = (system_turn a b w).world })
 kind_within a false b w s =
     let u : State = record s { world = (connection_turn a b w).world } in
@@ -120,8 +121,13 @@ bind_within : (c : Bool) (b : Binding) (s : State) → AreWithin s → AreWithin
 bind_within true b s within = within
 bind_within false b s within = none_over [] (record s { world = binding b s.world })
 
+watch_within : (c : Bool) (x : Watched) (s : State) → AreWithin s → AreWithin (watch_unless c x s).state
+watch_within true x s within = within
+watch_within false x s within = none_over [] (record s { world = watching x s.world })
+
 done_within : (s : State) (e : Step) → AreWithin s → AreWithin (done s e).state
 done_within s (Bind b) within = bind_within (is_barred b s) b s within
+done_within s (Watch x) within = watch_within (is_unwatchable x s) x s within
 done_within s (Arrive space) within = arrive_within (refusal space s) space s within
 done_within s (Packet k es) within = packet_within k (ports_of k s) es s within
 done_within s (Bad k f) within = bad_within k (ports_of k s) f s within
@@ -174,5 +180,5 @@ live_within k s there within =
     (sym (ap (λ b. cond b (overrun_by (top_load (deliveries (actor_of k) s.world))) None) there) ∙ within)
 
 pub nobody_over : NobodyIsOver
-nobody_over ds steps may k live =
-    live_within k (replay ds steps) ((presence ds steps may).names k live).1 (replay_within ds steps k)
+nobody_over ds steps may k come live =
+    live_within k (replay ds steps) ((presence ds steps may).names k come live).1 (replay_within ds steps k)

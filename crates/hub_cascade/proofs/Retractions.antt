@@ -1,6 +1,6 @@
 -- A turn over retractions ends nobody.
 use Rattle.std.proofs.Common.{◌≡◌, ◌≢◌, ℕ, ◌-◌, ◌<◌, ◌≤◌, List, [], ◌∷◌, Bool, true, false, cond, Option, Some, None}
-use Rattle.std.proofs.Common.{refl, ap, sym, ◌∙◌, subst, arith, is_some, drop}
+use Rattle.std.proofs.Common.{inl, inr, refl, ap, sym, ◌∙◌, subst, arith, is_some, drop}
 use Rattle.std.specs.Prelude.{option_and_then}
 use Rattle.std.specs.List.{AllByRecursion, flat_map}
 use Rattle.std.specs.Map.{values_of}
@@ -15,7 +15,7 @@ use Rattle.ac_world.specs.Outboxes.{committed}
 use Rattle.ac_world.specs.Sums.{load_got}
 use Rattle.ac_world.specs.Turns.{After as TurnOf, Turning, begin_turn, all_turned, system_turn, connection_turn}
 use Rattle.ac_world.specs.Turns.{turn_first}
-use Rattle.ac_world.specs.Worlds.{actor_of, is_system, held_by}
+use Rattle.ac_world.specs.Worlds.{actor_of, entry_of, is_system, held_by}
 use Rattle.ac_world.specs.declared.turns.Turned.TheVariants as turned
 use Rattle.rl_ports.specs.Ports.{PortsState}
 use Rattle.rl_wire.specs.Crossing.{fault_out}
@@ -30,12 +30,14 @@ use Rattle.hub_machine.specs.declared.steps.Reply.TheVariants as reply
 use Rattle.hub_valid.specs.Lemmas.Lasting.{live_popped}
 use Rattle.hub_valid.specs.Lemmas.Lives.{live_committed}
 use Rattle.hub_valid.specs.Lemmas.Plans.{GoesOn, goes_on_all_turned}
+use Rattle.hub_laws.proofs.Leaving.{one_or_not}
+use Rattle.hub_laws.proofs.Opening.{replay_hub}
 use Rattle.hub_laws.proofs.Posting.{found-with_inbox_other}
 use Rattle.hub_laws.proofs.Presence.{presence}
 use Rattle.hub_laws.specs.Presence.{ArePresent}
 use Rattle.hub_cascade.specs.Laws.{TakesItsTurn, RetractionsEndNobody}
 use Rattle.hub_cascade.specs.Sparing.{SparesAll, IsRetraction, TakesBack, TellsBack, EndsNobody}
-use Rattle.hub_cascade.proofs.Ends.{IsAsBefore, over_as_before}
+use Rattle.hub_cascade.proofs.Ends.{IsAsBefore, over_as_before, unless_named}
 use Rattle.hub_cascade.proofs.Fewer.{wants_no_more}
 use Rattle.hub_cascade.proofs.Over.{AreWithin, replay_within}
 use Rattle.hub_cascade.proofs.Retracting.{IsQuiet, all_quiet}
@@ -47,12 +49,14 @@ use Rattle.hub_cascade.proofs.Uncounted.{posted_waits}
 
 abbrev turning : ℕ → Batch → State → Turning
 turning a b s =
-    all_turned (behaviour_of s.world.schema s.world.bindings a) a b.from b.events (begin_turn a (less a s))
+    all_turned (behaviour_of s.world.schema s.world.bindings s.world.watches a) a b.from b.events
+    (begin_turn a (less a s))
 
 turning_quiet : (a : ℕ) (b : Batch) (s : State) → TakesBack b → IsQuiet (turning a b s)
 turning_quiet a b s back =
-    all_quiet (behaviour_of s.world.schema s.world.bindings a) a b.from b.events (begin_turn a (less a s))
-    (wants_no_more s.world.schema s.world.bindings a) back (record { spreads = refl; told = tt })
+    all_quiet (behaviour_of s.world.schema s.world.bindings s.world.watches a) a b.from b.events
+    (begin_turn a (less a s)) (wants_no_more s.world.schema s.world.bindings s.world.watches a) back
+    (record { spreads = refl; told = tt })
 
 -- s once a system actor has taken its batch
 abbrev system_took : ℕ → Batch → State → State
@@ -62,7 +66,7 @@ system_lives : (a : ℕ) (b : Batch) (s : State) → SparesAll s (system_took a 
 system_lives a b s c =
     let t : Turning = turning a b s in
     let on : GoesOn (popped a s.world.table) t.plan.table =
-    goes_on_all_turned (behaviour_of s.world.schema s.world.bindings a) a b.from b.events
+    goes_on_all_turned (behaviour_of s.world.schema s.world.bindings s.world.watches a) a b.from b.events
     (begin_turn a (less a s)) in
     live_committed c a t.plan ∙ ap (λ xs. is_some (find_actor c xs)) on.actors ∙ live_popped c a s.world.table
 
@@ -78,7 +82,7 @@ others_as_before j a b s back apart = record {
 
     on : GoesOn (popped a s.world.table) t.plan.table
     on =
-        goes_on_all_turned (behaviour_of s.world.schema s.world.bindings a) a b.from b.events
+        goes_on_all_turned (behaviour_of s.world.schema s.world.bindings s.world.watches a) a b.from b.events
         (begin_turn a (less a s))
 
     waits : load_waiting (inbox_of (find_actor (actor_of j) (committed a t.plan).actors))
@@ -89,19 +93,28 @@ others_as_before j a b s back apart = record {
         ∙ ap (λ o. load_waiting (inbox_of o))
         (found-with_inbox_other a (actor_of j) (drop 1) s.world.table.actors apart)
 
-system_ends : (a : ℕ) (b : Batch) (s : State) → TakesBack b → AreWithin s → ((j : ℕ) → actor_of j ≢ a)
+-- the last watcher has the number that a connection 0 would have
+system_ends : (a : ℕ) (b : Batch) (s : State) → a < 17 → entry_of 0 s.connections ≡ None → TakesBack b → AreWithin s
     → EndsNobody a s (finished (turning a b s).spreads (system_took a b s))
-system_ends a b s back within apart =
+system_ends a b s low none back within =
     subst (λ xs. EndsNobody a s (finished xs (system_took a b s))) (sym quiet.spreads)
-    (ends_nobody a s (system_took a b s) (record { all = system_lives a b s; told = tells })
-    (λ j. over_as_before j s (system_took a b s) (others_as_before j a b s back (apart j)) ∙ within j))
+    (ends_nobody a s (system_took a b s) (record { all = system_lives a b s; told = tells }) still_within)
   where
+    still_within : AreWithin (system_took a b s)
+    still_within j = elim (one_or_not (actor_of j) a) [
+      | inl same ↦
+          (let zero_is : 0 ≡ j = omega (arith, low, same) in
+          unless_named j (system_took a b s) (ap (λ i. entry_of i s.connections) (sym zero_is) ∙ none))
+      | inr apart ↦ over_as_before j s (system_took a b s) (others_as_before j a b s back apart) ∙ within j
+    ]
+
     quiet : IsQuiet (turning a b s)
     quiet = turning_quiet a b s back
 
     on : GoesOn (popped a s.world.table) (turning a b s).plan.table
     on =
-        goes_on_all_turned (behaviour_of s.world.schema s.world.bindings a) a b.from b.events (begin_turn a (less a s))
+        goes_on_all_turned (behaviour_of s.world.schema s.world.bindings s.world.watches a) a b.from b.events
+        (begin_turn a (less a s))
 
     tells : TellsBack a s (system_took a b s)
     tells c x other found =
@@ -167,63 +180,58 @@ turn_unrefused a b s f first back =
 
 -- ---- whoever it is
 
-connection_spares : (k : ℕ) (b : Batch) (s : State) → ArePresent s → AreWithin s
+connection_spares : (k : ℕ) (b : Batch) (s : State) → 1 ≤ k → ArePresent s → AreWithin s
     → first_batch (actor_of k) s.world.table ≡ Some b → TakesBack b
     → EndsNobody (actor_of k) s (turn_of (actor_of k) s).state
-connection_spares k b s here within first back =
-    let most = turn_ends k s here within in
+connection_spares k b s come here within first back =
+    let most = turn_ends k s come here within in
     record { all = most.itself (λ f. turn_unrefused (actor_of k) b s f first back); told = most.told }
 
-system_spares : (a : ℕ) (b : Batch) (s : State) → ArePresent s → AreWithin s → is_system a ≡ true
+system_spares : (a : ℕ) (b : Batch) (s : State) → entry_of 0 s.connections ≡ None → AreWithin s → is_system a ≡ true
     → first_batch a s.world.table ≡ Some b → TakesBack b → EndsNobody a s (turn_of a s).state
-system_spares a b s here within system first back =
+system_spares a b s zeroth within system first back =
     subst (λ o. EndsNobody a s (after_this a s (cond (is_live a s.world.table) (turn_first a o s.world) none)).state)
-    (sym first) (by (is_live a s.world.table) refl)
+    (sym first) (by (is_live a s.world.table))
   where
     none : TurnOf
     none = record { world = s.world; turned = turned.Gone }
 
-    -- the system actors that are live have lower numbers than connections
-    apart : is_live a s.world.table ≡ true → (j : ℕ) → actor_of j ≢ a
-    apart live j same =
-        let low : a < 17 = grind (arith, nat_tests, system) in
-        let dead : is_live a s.world.table ≡ false = here.no_watchers a (omega (arith, same)) low in
-        absurd cc
+    low : a < 17
+    low = grind (arith, nat_tests, system)
 
-    kinds : (c : Bool) → c ≡ true → is_live a s.world.table ≡ true
+    kinds : (c : Bool) → c ≡ true
         → EndsNobody a s (after_this a s (cond c (system_turn a b (less a s)) (connection_turn a b (less a s)))).state
-    kinds true is live = system_ends a b s back within (apart live)
-    kinds false is live = absurd cc
+    kinds true is = system_ends a b s low zeroth back within
+    kinds false is = absurd cc
 
-    by : (c : Bool) → is_live a s.world.table ≡ c
-        → EndsNobody a s (after_this a s (cond c (turn_first a (Some b) s.world) none)).state
-    by true live = kinds (is_system a) system live
-    by false dead = fault_spares a a (fault_for a s) s within
+    by : (c : Bool) → EndsNobody a s (after_this a s (cond c (turn_first a (Some b) s.world) none)).state
+    by true = kinds (is_system a) system
+    by false = fault_spares a a (fault_for a s) s within
 
-turn_spares : (a : ℕ) (b : Batch) (s : State) → ArePresent s → AreWithin s → first_batch a s.world.table ≡ Some b
-    → TakesBack b → EndsNobody a s (turn_of a s).state
-turn_spares a b s here within first back = by (is_system a) refl
+turn_spares : (a : ℕ) (b : Batch) (s : State) → ArePresent s → entry_of 0 s.connections ≡ None → AreWithin s
+    → first_batch a s.world.table ≡ Some b → TakesBack b → EndsNobody a s (turn_of a s).state
+turn_spares a b s here zeroth within first back = by (is_system a) refl
   where
     by : (c : Bool) → is_system a ≡ c → EndsNobody a s (turn_of a s).state
-    by true system = system_spares a b s here within system first back
+    by true system = system_spares a b s zeroth within system first back
     by false far =
         let high : 17 ≤ a = grind (arith, nat_tests, far) in
         let its : actor_of (a - 16) ≡ a = omega (arith, high) in
         subst (λ i. EndsNobody i s (turn_of i s).state) its
-        (connection_spares (a - 16) b s here within
+        (connection_spares (a - 16) b s (omega (arith, high)) here within
         (ap (λ i. first_batch i s.world.table) its ∙ first) back)
 
 -- ---- the steps
 
-pub back_ends_nobody : (a : ℕ) (b : Batch) (s : State) → ArePresent s → AreWithin s
-    → first_batch a s.world.table ≡ Some b → TakesBack b → TakesItsTurn a s
-back_ends_nobody a b s here within first back = record {
+pub back_ends_nobody : (a : ℕ) (b : Batch) (s : State) → ArePresent s → entry_of 0 s.connections ≡ None
+    → AreWithin s → first_batch a s.world.table ≡ Some b → TakesBack b → TakesItsTurn a s
+back_ends_nobody a b s here zeroth within first back = record {
   turn = turning_by (is_worn s (Turn a));
   work = λ is. working_by is (is_worn s Work);
 }
   where
     all : EndsNobody a s (turn_of a s).state
-    all = turn_spares a b s here within first back
+    all = turn_spares a b s here zeroth within first back
 
     rest_spares : (c : Bool) → EndsNobody a s (cond c (unchanged s reply.Halted) (unchanged s reply.Idle)).state
     rest_spares true = nobody_ends a s
@@ -244,4 +252,5 @@ back_ends_nobody a b s here within first back = record {
 
 pub retractions_end_nobody : RetractionsEndNobody
 retractions_end_nobody ds steps may a b first back =
-    back_ends_nobody a b (replay ds steps) (presence ds steps may) (replay_within ds steps) first back
+    back_ends_nobody a b (replay ds steps) (presence ds steps may) (replay_hub ds steps may).first
+    (replay_within ds steps) first back

@@ -186,8 +186,8 @@ kind_ends : (k : ℕ) (b : Batch) (s : State) → first_batch (actor_of k) s.wor
 kind_ends k b s first within named true is = absurd cc
 kind_ends k b s first within named false is = connection_ends k b s first within named
 
-pub turn_ends : (k : ℕ) (s : State) → ArePresent s → AreWithin s → EndsAtMost k s (turn_of (actor_of k) s)
-turn_ends k s here within =
+pub turn_ends : (k : ℕ) (s : State) → 1 ≤ k → ArePresent s → AreWithin s → EndsAtMost k s (turn_of (actor_of k) s)
+turn_ends k s come here within =
     by (is_live (actor_of k) s.world.table) (first_batch (actor_of k) s.world.table) refl refl
   where
     none : TurnOf
@@ -198,23 +198,22 @@ turn_ends k s here within =
         → EndsAtMost k s (after_this (actor_of k) s (cond c (turn_first (actor_of k) o s.world) none))
     by true None live first = ends_none k s (unchanged s reply.Idle) (nobody_ends (actor_of k) s)
     by true (Some b) live first =
-        let names = here.names k live in
-        let come : 1 ≤ k = names.0.0 in
-        kind_ends k b s first within (named_there k s names.1) (is_system (actor_of k)) (grind (arith, nat_tests, come))
+        kind_ends k b s first within (named_there k s (here.names k come live).1) (is_system (actor_of k))
+        (grind (arith, nat_tests, come))
     by false o live first =
         ends_none k s (tell_fault (actor_of k) (fault_for (actor_of k) s) s)
         (fault_spares (actor_of k) (actor_of k) (fault_for (actor_of k) s) s within)
 
-pub at_most_itself : (k : ℕ) (s : State) → ArePresent s → AreWithin s → EndsAtMostItself k s
-at_most_itself k s here within = record { others = most.others; told = most.told; itself = most.itself }
+pub at_most_itself : (k : ℕ) (s : State) → 1 ≤ k → ArePresent s → AreWithin s → EndsAtMostItself k s
+at_most_itself k s come here within = record { others = most.others; told = most.told; itself = most.itself }
   where
     by : (c : Bool) → EndsAtMost k s (cond c (unchanged s reply.Worn) (done s (Turn (actor_of k))))
     by true = ends_none k s (unchanged s reply.Worn) (nobody_ends (actor_of k) s)
-    by false = turn_ends k s here within
+    by false = turn_ends k s come here within
 
     most : EndsAtMost k s (step s (Turn (actor_of k)))
     most = by (is_worn s (Turn (actor_of k)))
 
 pub a_turn_ends_at_most_itself : ATurnEndsAtMostItself
-a_turn_ends_at_most_itself ds steps may k =
-    at_most_itself k (replay ds steps) (presence ds steps may) (replay_within ds steps)
+a_turn_ends_at_most_itself ds steps may k come =
+    at_most_itself k (replay ds steps) come (presence ds steps may) (replay_within ds steps)

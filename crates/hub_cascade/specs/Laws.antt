@@ -1,6 +1,6 @@
 -- No cascade: after every list of steps whose callers saw to their conditions, whoever ends takes nobody along. The
 -- limits on what is held and waits are this server's own.
-use Rattle.std.specs.Prelude.{◌≡◌, ◌≢◌, ℕ, List, true, Some}
+use Rattle.std.specs.Prelude.{◌≡◌, ◌≢◌, ℕ, ◌≤◌, List, true, Some}
 use Rattle.ac_table.specs.declared.batches.Batch.{Batch}
 use Rattle.ac_table.specs.Tables.{is_live, first_batch, lowest}
 use Rattle.ac_world.specs.Worlds.{actor_of}
@@ -14,9 +14,10 @@ use Rattle.hub_laws.specs.Laws.{AfterAll}
 use Rattle.hub_cascade.specs.Sparing.{IsWithin, SparesAll, SparesOthers, EndsAlone, EndsNobody}
 use Rattle.hub_cascade.specs.Sparing.{TakesBack, TellsBack}
 
--- between steps no more is held and waits for a live connection than may be
+-- between steps no more is held and waits for a live connection than may be; they count from 1
 abbrev pub NobodyIsOver : Type 0
-NobodyIsOver = AfterAll (λ s. (k : ℕ) → is_live (actor_of k) s.world.table ≡ true → IsWithin (actor_of k) s.world)
+NobodyIsOver =
+    AfterAll (λ s. (k : ℕ) → 1 ≤ k → is_live (actor_of k) s.world.table ≡ true → IsWithin (actor_of k) s.world)
 
 -- in s connection k closes, sends what is no packet, or a packet that is refused
 pub record EndsOne (k : ℕ) (s : State) : Type 0 where
@@ -36,7 +37,7 @@ pub record EndsAtMostItself (k : ℕ) (s : State) : Type 0 where
       → SparesAll s (step s (Turn (actor_of k))).state
 
 abbrev pub ATurnEndsAtMostItself : Type 0
-ATurnEndsAtMostItself = AfterAll (λ s. (k : ℕ) → EndsAtMostItself k s)
+ATurnEndsAtMostItself = AfterAll (λ s. (k : ℕ) → 1 ≤ k → EndsAtMostItself k s)
 
 -- in s actor a takes its turn, by itself or as work
 pub record TakesItsTurn (a : ℕ) (s : State) : Type 0 where

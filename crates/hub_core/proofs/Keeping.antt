@@ -8,20 +8,23 @@ use Rattle.std.specs.Ordering.{nat_cmp}
 use Rattle.pv_value.specs.Plain.{Plain}
 use Rattle.sr_caveat.specs.Caps.{IsSound}
 use Rattle.gk_sturdy.specs.declared.bound.Binding.{Binding}
-use Rattle.ac_world.specs.Worlds.{WorldState, arrived, ended_of, actor_of, entry_of, binding}
+use Rattle.ac_world.specs.declared.watched.Watched.{Watched}
+use Rattle.ac_world.specs.Worlds.{WorldState, arrived, ended_of, entry_of, binding, watching}
 use Rattle.ac_world.specs.Turns.{turn}
 use Rattle.rl_ports.specs.Ports.{PortsState, ports_to}
 use Rattle.hub_machine.specs.declared.faults.Fault.{Fault}
 use Rattle.hub_machine.specs.State.{State}
-use Rattle.hub_machine.specs.Machine.{actor_reference, is_barred}
-use Rattle.hub_valid.specs.Validity.{AreValid, IsValidEntry}
-use Rattle.hub_valid.specs.Lemmas.Hubs.{opened_is_valid, nameless_is_valid, departed_is_valid, turned_is_valid}
-use Rattle.hub_valid.specs.Lemmas.Hubs.{bound_is_valid}
-use Rattle.hub_cascade.proofs.Looked.{within_nameless, within_departed, within_named, within_opened}
+use Rattle.hub_machine.specs.Machine.{actor_reference, is_barred, is_unwatchable}
+use Rattle.hub_valid.specs.Validity.{lived, AreValid, IsValidEntry}
+use Rattle.hub_valid.specs.Lemmas.Hubs.{opened_is_valid, nameless_is_valid, dismissed_is_valid, turned_is_valid}
+use Rattle.hub_valid.specs.Lemmas.Hubs.{bound_is_valid, watched_is_valid}
+use Rattle.hub_cascade.proofs.Ends.{unless_named}
+use Rattle.hub_cascade.proofs.Looked.{within_nameless, within_dismissed, within_named, within_opened}
 use Rattle.hub_core.specs.declared.unlooked.Unlooked.{Unlooked}
 use Rattle.hub_core.specs.Looking.{AreLeft, and_one, and_turned}
 use Rattle.hub_core.proofs.Looking.{state_of, left_still, left_and_one, left_turned}
 use Rattle.hub_core.proofs.Small.{AreSmall, small_with, small_without, entry_at}
+use Rattle.hub_core.proofs.Watching.{may_watch, none_named}
 
 abbrev pub AreKept : Unlooked → WorldState → List (ℕ × PortsState) → List (ℕ × Fault) → Type 0
 AreKept u w names faults = AreSmall names × AreSmall faults × AreValid w names × AreLeft u w names
@@ -38,15 +41,15 @@ kept_without k u w names less faults is kept =
           (λ j. within_nameless j k (state_of w names)) kept.3,
     )
 
-pub kept_ended : (k : ℕ) (u : Unlooked) (w world : WorldState) (names : List (ℕ × PortsState))
-    (faults : List (ℕ × Fault)) → world ≡ ended_of (actor_of k) w → AreKept u w names faults
-    → AreKept u world names faults
-kept_ended k u w world names faults is kept =
+-- whoever goes
+pub kept_dismissed : (a : ℕ) (u : Unlooked) (w world : WorldState) (names : List (ℕ × PortsState))
+    (faults : List (ℕ × Fault)) → world ≡ ended_of a w → AreKept u w names faults → AreKept u world names faults
+kept_dismissed a u w world names faults is kept =
     subst (λ (x : WorldState). AreKept u x names faults) (sym is) (
       kept.0,
       kept.1,
-      departed_is_valid k (state_of w names) kept.2,
-      left_still u w (ended_of (actor_of k) w) names names (λ j. within_departed j k (state_of w names)) kept.3,
+      dismissed_is_valid a (state_of w names) kept.2,
+      left_still u w (ended_of a w) names names (λ j. within_dismissed j a (state_of w names)) kept.3,
     )
 
 -- names come, in a world that may have changed
@@ -80,6 +83,20 @@ kept_bound b u s world sound free is kept =
       left_still u s.world (binding b s.world) s.connections s.connections (λ j within. within) kept.3,
     )
 
+-- no connection has names then
+pub kept_watched : (x : Watched) (u : Unlooked) (s : State) (world : WorldState) → is_unwatchable x s ≡ false
+    → world ≡ watching x s.world → AreKept u s.world s.connections s.faults
+    → AreKept u world s.connections s.faults
+kept_watched x u s world free is kept =
+    let none = none_named (lived s.world) s.connections (may_watch x s free).0 kept.2.named in
+    subst (λ (w : WorldState). AreKept u w s.connections s.faults) (sym is) (
+      kept.0,
+      kept.1,
+      watched_is_valid x s free kept.2,
+      left_still u s.world (watching x s.world) s.connections s.connections
+          (λ j within. unless_named j (state_of (watching x s.world) s.connections) (none j)) kept.3,
+    )
+
 -- a connection's names are put back
 pub left_named : (k : ℕ) (p : PortsState) (u v : Unlooked) (w : WorldState) (names : List (ℕ × PortsState))
     → v ≡ and_one k u → AreLeft u w names → AreLeft v w (insert_entry nat_cmp names k p)
@@ -110,6 +127,6 @@ opened_valid space number at first w world names p l few world_is number_is at_i
 
 -- the names of a connection are valid
 pub entry_valid : (k : ℕ) (w : WorldState) (names : List (ℕ × PortsState)) (o : Option PortsState) → AreValid w names
-    → o ≡ entry_of k names → IfSome o (λ p. IsValidEntry w.opened (k, p))
+    → o ≡ entry_of k names → IfSome o (λ p. IsValidEntry (lived w) (k, p))
 entry_valid k w names None valid is = tt
-entry_valid k w names (Some p) valid is = entry_at (IsValidEntry w.opened) k names p valid.named (sym is)
+entry_valid k w names (Some p) valid is = entry_at (IsValidEntry (lived w)) k names p valid.named (sym is)

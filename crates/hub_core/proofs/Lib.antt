@@ -3,3 +3,4 @@ pub mod Looking
 pub mod Small
 pub mod Tellings
 pub mod Turning
+pub mod Watching

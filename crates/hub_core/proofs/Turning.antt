@@ -1,5 +1,5 @@
 -- A turn that takes a batch draws no handle, and lets nobody come; so the batch is valid after it.
-use Rattle.std.proofs.Common.{◌≡◌, ℕ, ◌+◌, ◌<◌, ◌≤◌, ◌^◌, Bool, true, false, Option, Some, None, refl, sym, ap, subst}
+use Rattle.std.proofs.Common.{◌≡◌, ℕ, ◌<◌, ◌≤◌, ◌^◌, Bool, true, false, Option, Some, None, refl, sym, ap, subst}
 use Rattle.std.proofs.Common.{◌∙◌, arith}
 use Rattle.std.proofs.lemmas.Bool.Decides.{nat_tests}
 use Rattle.std.specs.Prelude.{if◌then◌else◌, nat_lt, nat_le, length}
@@ -13,13 +13,13 @@ use Rattle.hub_machine.specs.Limits.{last_dataspace, most_connections}
 use Rattle.hub_machine.specs.State.{State}
 use Rattle.hub_machine.specs.Machine.{refusal}
 use Rattle.hub_machine.specs.declared.steps.Reply.TheVariants.{Barred, Halted, Full}
-use Rattle.hub_valid.specs.Validity.{IsValid, IsValidBatch}
+use Rattle.hub_valid.specs.Validity.{Lived, lived, IsValid, IsValidBatch}
 use Rattle.hub_core.specs.Telling.{IsToldSoundly}
 use Rattle.hub_valid.specs.Lemmas.Hubs.{taken_is_valid}
 
--- as many came, and the next handle is the same
+-- as many came and watch, and the next handle is the same
 abbrev pub IsSame : WorldState → WorldState → Type 0
-IsSame w x = (x.opened ≡ w.opened) × (x.table.next ≡ w.table.next)
+IsSame w x = (lived x ≡ lived w) × (x.table.next ≡ w.table.next)
 
 same_with : (a : ℕ) (c b : Batch) (w : WorldState) → (turn_with a c w).turned ≡ Taken b
     → IsSame w (turn_with a c w).world
@@ -53,11 +53,11 @@ told_soundly a s t Idle valid next world is = tt
 told_soundly a s t Gone valid next world is = tt
 told_soundly a s t (Taken b) valid next world is =
     let same = same_taken a b s.world (sym is) in
-    let opened : t.world.opened ≡ s.world.opened = ap (λ (w : WorldState). w.opened) world ∙ same.0 in
+    let lives : lived t.world ≡ lived s.world = ap (λ (w : WorldState). lived w) world ∙ same.0 in
     let drawn : t.world.table.next ≡ s.world.table.next = ap (λ (w : WorldState). w.table.next) world ∙ same.1 in (
       omega (arith, drawn, next),
-      subst (λ (n : ℕ). IsValidBatch (16 + n) t.world.table.next b) (sym opened)
-          (subst (λ (n : ℕ). IsValidBatch (16 + s.world.opened) n b) (sym drawn)
+      subst (λ (n : Lived). IsValidBatch n t.world.table.next b) (sym lives)
+          (subst (λ (n : ℕ). IsValidBatch (lived s.world) n b) (sym drawn)
           (taken_is_valid a s b valid (sym is))),
     )
 

@@ -1,5 +1,5 @@
 -- What a turn takes, and what becomes of the batch.
-use Rattle.std.specs.Prelude.{ℕ, ◌+◌, ◌^◌, ◌≤◌, [], Option, Some, None}
+use Rattle.std.specs.Prelude.{ℕ, ◌^◌, ◌≤◌, [], Option, Some, None}
 use Rattle.ac_table.specs.declared.batches.Batch.{Batch}
 use Rattle.ac_world.specs.declared.turns.Turned.{Turned}
 use Rattle.ac_world.specs.declared.turns.Turned.TheVariants.{Ran, Taken, Idle, Gone}
@@ -9,12 +9,12 @@ use Rattle.hub_machine.specs.State.{State}
 use Rattle.hub_machine.specs.Endings.{departed_for}
 use Rattle.hub_machine.specs.Machine.{After, ends, exporting, exports_after, packet_to}
 use Rattle.hub_machine.specs.declared.steps.Reply.TheVariants.{Refused}
-use Rattle.hub_valid.specs.Validity.{IsValidBatch}
+use Rattle.hub_valid.specs.Validity.{lived, IsValidBatch}
 
 -- a batch that a turn took holds references, and its handles can stand in a packet
 abbrev pub IsToldSoundly : Turned → State → Type 0
 IsToldSoundly (Taken b) s =
-    (s.world.table.next ≤ 2 ^ 63) × IsValidBatch (16 + s.world.opened) s.world.table.next b
+    (s.world.table.next ≤ 2 ^ 63) × IsValidBatch (lived s.world) s.world.table.next b
 IsToldSoundly (Ran xs) s = Unit {0}
 IsToldSoundly Idle s = Unit {0}
 IsToldSoundly Gone s = Unit {0}

@@ -1,16 +1,17 @@
-//! How connections end, and who ends at the end of a step.
+//! How connections and watchers end, and who ends at the end of a step.
 ghost use Rattle.std.specs.Prelude.{◌≡◌, ◌≤◌, ◌^◌, IfOk, IfSome};
 ghost use Rattle.std.specs.Map.{keys_of};
 ghost use Rattle.hub_machine.specs.Endings.{departed, departed_for, closed, failed, failed_where};
-ghost use Rattle.hub_machine.specs.Endings.{spread_out, all_spread_out, overrun_by, overrun_of};
-ghost use Rattle.hub_machine.specs.Endings.{all_overrun, each_overrun, finished};
+ghost use Rattle.hub_machine.specs.Endings.{dismissed, spread_out, all_spread_out, overrun_by};
+ghost use Rattle.hub_machine.specs.Endings.{overrun_of, all_overrun, each_overrun, finished};
 ghost use Rattle.hub_core.specs.Looking.{AreWithin, AreWithinBut, AreLeft};
 
 use crate::hub::Hub;
 use crate::unlooked::Unlooked;
 use ac_world::{FIRST_CONNECTION, Load, Spread};
 use ds_space::Space;
-use hub_machine::{DELIVERIES, DELIVERIES_WEIGHT, Fault, Reply, overrun};
+use hub_machine::{DATASPACES, DELIVERIES, DELIVERIES_WEIGHT, Fault, Reply, overrun};
+use lc_watch::Behaves;
 use pv_value::NoMemory;
 use sr_pass::Judge;
 use std::alloc::Global;
@@ -22,11 +23,11 @@ fn overrun_by(load: Load) -> Option<Fault>
     overrun(DELIVERIES, 1, load.count).or(overrun(DELIVERIES_WEIGHT, 2, load.weight))
 }
 
-impl<S: Space + Drop, J: Judge + Drop> Hub<S, J> {
-    /// A connection ends. Its names are gone already.
-    fn end(self, alloc: Global, connection: u32) -> Result<Hub<S, J>, NoMemory>
-        requires { connection ≤ 2 ^ 31 }
-        ensures { IfOk result (λ h. h ≡ departed connection self) }
+impl<S: Space + Drop, J: Judge + Drop, B: Behaves + Drop> Hub<S, J, B> {
+    /// An actor that isn't always live goes, where it is live.
+    fn dismiss(self, alloc: Global, actor: u32) -> Result<Hub<S, J, B>, NoMemory>
+        requires { 9 ≤ actor }
+        ensures { IfOk result (λ h. h ≡ dismissed actor self) }
     {
         let Hub {
             world,
@@ -35,7 +36,7 @@ impl<S: Space + Drop, J: Judge + Drop> Hub<S, J> {
             stopped,
             unlooked,
         } = self;
-        let world = world.end(alloc, 16 + connection)?;
+        let world = world.end(alloc, actor)?;
         Ok(Hub {
             world,
             connections,
@@ -45,8 +46,16 @@ impl<S: Space + Drop, J: Judge + Drop> Hub<S, J> {
         })
     }
 
+    /// A connection ends. Its names are gone already.
+    fn end(self, alloc: Global, connection: u32) -> Result<Hub<S, J, B>, NoMemory>
+        requires { connection ≤ 2 ^ 31 }
+        ensures { IfOk result (λ h. h ≡ departed connection self) }
+    {
+        self.dismiss(alloc, 16 + connection)
+    }
+
     /// A connection ends.
-    pub(crate) fn close(mut self, alloc: Global, connection: u32) -> Result<Hub<S, J>, NoMemory>
+    pub(crate) fn close(mut self, alloc: Global, connection: u32) -> Result<Hub<S, J, B>, NoMemory>
         requires { connection ≤ 2 ^ 31 }
         ensures { IfOk result (λ h. h ≡ closed connection self) }
     {
@@ -60,7 +69,7 @@ impl<S: Space + Drop, J: Judge + Drop> Hub<S, J> {
         alloc: Global,
         connection: u32,
         fault: Fault,
-    ) -> Result<Hub<S, J>, NoMemory>
+    ) -> Result<Hub<S, J, B>, NoMemory>
         requires { connection ≤ 2 ^ 31 }
         ensures { IfOk result (λ h. h ≡ departed_for connection fault self) }
     {
@@ -75,7 +84,7 @@ impl<S: Space + Drop, J: Judge + Drop> Hub<S, J> {
         alloc: Global,
         connection: u32,
         fault: Fault,
-    ) -> Result<Hub<S, J>, NoMemory>
+    ) -> Result<Hub<S, J, B>, NoMemory>
         requires { connection ≤ 2 ^ 31 }
         ensures { IfOk result (λ h. h ≡ failed connection fault self) }
     {
@@ -83,18 +92,25 @@ impl<S: Space + Drop, J: Judge + Drop> Hub<S, J> {
         self.end_for(alloc, connection, fault)
     }
 
-    /// A connection that spread ends, where it is there.
-    fn spread_out(self, alloc: Global, spread: Spread) -> Result<Hub<S, J>, NoMemory>
+    /// Who spread ends, where it isn't always live: a connection for a fault, where it is there,
+    /// and a watcher without one.
+    fn spread_out(self, alloc: Global, spread: Spread) -> Result<Hub<S, J, B>, NoMemory>
         ensures { IfOk result (λ h. h ≡ spread_out spread self) }
     {
-        if spread.actor < FIRST_CONNECTION || !self.live(spread.actor - 16) {
+        if spread.actor <= u32::from(DATASPACES) {
+            return Ok(self);
+        }
+        if spread.actor < FIRST_CONNECTION {
+            return self.dismiss(alloc, spread.actor);
+        }
+        if !self.live(spread.actor - 16) {
             return Ok(self);
         }
         self.fail(alloc, spread.actor - 16, Fault::Spread(spread.weight))
     }
 
     /// Those that spread end, in order.
-    fn all_spread_out(self, alloc: Global, spreads: &[Spread]) -> Result<Hub<S, J>, NoMemory>
+    fn all_spread_out(self, alloc: Global, spreads: &[Spread]) -> Result<Hub<S, J, B>, NoMemory>
         ensures { IfOk result (λ h. h ≡ all_spread_out spreads.now self) }
     {
         let mut hub = self;
@@ -121,7 +137,7 @@ impl<S: Space + Drop, J: Judge + Drop> Hub<S, J> {
         alloc: Global,
         connection: u32,
         fault: Option<Fault>,
-    ) -> Result<Hub<S, J>, NoMemory>
+    ) -> Result<Hub<S, J, B>, NoMemory>
         requires { IfSome fault (λ f. connection ≤ 2 ^ 31) }
         ensures { IfOk result (λ h. h ≡ failed_where connection fault self) }
     {
@@ -132,7 +148,7 @@ impl<S: Space + Drop, J: Judge + Drop> Hub<S, J> {
     }
 
     /// The connections of these numbers end for which too much is held and waits, in order.
-    fn all_overrun(self, alloc: Global, connections: &[u32]) -> Result<Hub<S, J>, NoMemory>
+    fn all_overrun(self, alloc: Global, connections: &[u32]) -> Result<Hub<S, J, B>, NoMemory>
         ensures { IfOk result (λ h. h ≡ all_overrun connections.now self) }
     {
         let mut hub = self;
@@ -162,7 +178,7 @@ impl<S: Space + Drop, J: Judge + Drop> Hub<S, J> {
     }
 
     /// Nobody is left to be looked at.
-    fn looked(mut self) -> Hub<S, J>
+    fn looked(mut self) -> Hub<S, J, B>
         requires { AreWithin self }
         ensures { result ≡ self }
     {
@@ -171,7 +187,7 @@ impl<S: Space + Drop, J: Judge + Drop> Hub<S, J> {
     }
 
     /// The one connection is looked at that is left, and ends, where it has to.
-    fn look_at(self, alloc: Global, connection: u32) -> Result<Hub<S, J>, NoMemory>
+    fn look_at(self, alloc: Global, connection: u32) -> Result<Hub<S, J, B>, NoMemory>
         requires { AreWithinBut connection self }
         ensures { IfOk result (λ h. h ≡ each_overrun self) }
     {
@@ -181,7 +197,7 @@ impl<S: Space + Drop, J: Judge + Drop> Hub<S, J> {
     }
 
     /// Each live connection is looked at, and those end who have to.
-    fn look_at_each(self, alloc: Global) -> Result<Hub<S, J>, NoMemory>
+    fn look_at_each(self, alloc: Global) -> Result<Hub<S, J, B>, NoMemory>
         ensures { IfOk result (λ h. h ≡ each_overrun self) }
     {
         let numbers = self.numbers(alloc)?;
@@ -190,7 +206,7 @@ impl<S: Space + Drop, J: Judge + Drop> Hub<S, J> {
     }
 
     /// Those are looked at that are left, and those end who have to.
-    fn look(self, alloc: Global) -> Result<Hub<S, J>, NoMemory>
+    fn look(self, alloc: Global) -> Result<Hub<S, J, B>, NoMemory>
         ensures { IfOk result (λ h. h ≡ each_overrun self) }
     {
         match self.unlooked() {
@@ -201,7 +217,7 @@ impl<S: Space + Drop, J: Judge + Drop> Hub<S, J> {
     }
 
     /// The step's end: those end who have to.
-    fn finish(self, alloc: Global, spreads: &[Spread]) -> Result<Hub<S, J>, NoMemory>
+    fn finish(self, alloc: Global, spreads: &[Spread]) -> Result<Hub<S, J, B>, NoMemory>
         ensures { IfOk result (λ h. h ≡ finished spreads.now self) }
     {
         let hub = self.all_spread_out(alloc, spreads)?;
@@ -214,7 +230,7 @@ impl<S: Space + Drop, J: Judge + Drop> Hub<S, J> {
         alloc: Global,
         spreads: &[Spread],
         reply: Reply,
-    ) -> Result<(Hub<S, J>, Reply), NoMemory>
+    ) -> Result<(Hub<S, J, B>, Reply), NoMemory>
         ensures state { IfOk result (λ done. done.0 ≡ finished spreads.now self) }
         ensures reply { IfOk result (λ done. done.1 ≡ reply) }
     {

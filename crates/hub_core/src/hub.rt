@@ -12,10 +12,11 @@ ghost use Rattle.hub_machine.specs.Completeness.{IsComplete};
 ghost use Rattle.hub_machine.specs.Replays.{pending, lowest, first_failed, least};
 
 use crate::unlooked::Unlooked;
-use ac_world::World;
+use ac_world::{Watched, World};
 use ds_space::{Reference, Space, reference_value};
 use gk_sturdy::Binding;
 use hub_machine::{CONNECTIONS, DATASPACES, Fault, Reply, Step, WORN_CONNECTIONS, WORN_HANDLE};
+use lc_watch::Behaves;
 use pv_value::{NoMemory, Value};
 use rl_ports::Ports;
 use sr_caveat::{Cap, has_embedded};
@@ -27,8 +28,8 @@ use std::marker::Model;
 /// The state of the server: its world, what each live connection names, and the faults of which
 /// connections are still to be told.
 #[derive(Drop)]
-pub struct Hub<S: Space + Drop, J: Judge + Drop> {
-    pub(crate) world: World<S, J>,
+pub struct Hub<S: Space + Drop, J: Judge + Drop, B: Behaves + Drop> {
+    pub(crate) world: World<S, J, B>,
     pub(crate) connections: BTreeMap<u32, Ports>,
     pub(crate) faults: BTreeMap<u32, Fault>,
     pub(crate) stopped: bool,
@@ -36,7 +37,7 @@ pub struct Hub<S: Space + Drop, J: Judge + Drop> {
     pub(crate) unlooked: Unlooked,
 }
 
-impl<S: Space + Drop, J: Judge + Drop> Model for Hub<S, J> {
+impl<S: Space + Drop, J: Judge + Drop, B: Behaves + Drop> Model for Hub<S, J, B> {
     ghost use Rattle.std.specs.Prelude.{◌≤◌, ◌^◌};
     ghost use Rattle.std.specs.List.{AllByRecursion};
     ghost use Rattle.std.specs.Coded.{codes};
@@ -89,14 +90,14 @@ fn is_to_space(cap: &Cap) -> bool
     (1..=u32::from(DATASPACES)).contains(&cap.actor) && cap.entity == 0
 }
 
-impl<S: Space + Drop, J: Judge + Drop> Hub<S, J> {
+impl<S: Space + Drop, J: Judge + Drop, B: Behaves + Drop> Hub<S, J, B> {
     /// The server at its beginning: the gatekeeper and the dataspaces, which have got nothing.
-    /// Guards judge by what is handed in.
-    pub fn begin(alloc: Global, judge: J) -> Result<Hub<S, J>, NoMemory>
+    /// Guards judge by what is handed in, and so do watchers act.
+    pub fn begin(alloc: Global, judge: J, behaves: B) -> Result<Hub<S, J, B>, NoMemory>
         ensures { IfOk result (λ h. h ≡ opening (J.schema judge)) }
     {
         Ok(Hub {
-            world: World::begin(alloc, judge)?,
+            world: World::begin(alloc, judge, behaves)?,
             connections: BTreeMap::new(alloc),
             faults: BTreeMap::new(alloc),
             stopped: false,
@@ -156,6 +157,18 @@ impl<S: Space + Drop, J: Judge + Drop> Hub<S, J> {
         self.world.judge()
     }
 
+    /// What watchers act by.
+    pub fn behaves(&self) -> &B {
+        self.world.behaves()
+    }
+
+    /// The watchers that were ever made: actor 9 is the first.
+    pub fn watches(&self) -> &[Watched]
+        ensures { result.now ≡ self.now.world.watches }
+    {
+        self.world.watches()
+    }
+
     /// How many connections have come.
     pub fn opened(&self) -> u32
         ensures { result ≡ self.now.world.opened }
@@ -190,7 +203,7 @@ impl<S: Space + Drop, J: Judge + Drop> Hub<S, J> {
     }
 
     /// A reference is bound, where it may.
-    fn bind(self, alloc: Global, binding: Binding) -> Result<(Hub<S, J>, Reply), NoMemory>
+    fn bind(self, alloc: Global, binding: Binding) -> Result<(Hub<S, J, B>, Reply), NoMemory>
         ensures state { IfOk result
             (λ done. done.0 ≡ (bind_unless (is_barred binding self) binding self).state) }
         ensures reply { IfOk result
@@ -217,7 +230,7 @@ impl<S: Space + Drop, J: Judge + Drop> Hub<S, J> {
     }
 
     /// A connection comes.
-    fn open(self, alloc: Global, space: u8) -> Result<(Hub<S, J>, u32), NoMemory>
+    fn open(self, alloc: Global, space: u8) -> Result<(Hub<S, J, B>, u32), NoMemory>
         requires few { self.world.opened < 2 ^ 31 }
         requires space { space ≤ 8 }
         ensures state { IfOk result (λ done. done.0 ≡ opened space self) }
@@ -259,7 +272,7 @@ impl<S: Space + Drop, J: Judge + Drop> Hub<S, J> {
     }
 
     /// A connection comes, where it may.
-    fn arrive(self, alloc: Global, space: u8) -> Result<(Hub<S, J>, Reply), NoMemory>
+    fn arrive(self, alloc: Global, space: u8) -> Result<(Hub<S, J, B>, Reply), NoMemory>
         requires { self.world.opened < 2 ^ 31 }
         ensures state { IfOk result
             (λ done. done.0 ≡ (arrive_unless (refusal space self) space self).state) }
@@ -276,7 +289,7 @@ impl<S: Space + Drop, J: Judge + Drop> Hub<S, J> {
     }
 
     /// No connection is to come any more.
-    fn stop(mut self, alloc: Global) -> Result<(Hub<S, J>, Reply), NoMemory>
+    fn stop(mut self, alloc: Global) -> Result<(Hub<S, J, B>, Reply), NoMemory>
         ensures state { IfOk result
             (λ done. done.0 ≡ finished [] (record self { stopped = true })) }
         ensures reply { IfOk result (λ done. done.1 ≡ reply.Taken) }
@@ -286,7 +299,7 @@ impl<S: Space + Drop, J: Judge + Drop> Hub<S, J> {
     }
 
     /// A step that may be done.
-    fn machine_step(self, alloc: Global, event: Step) -> Result<(Hub<S, J>, Reply), NoMemory>
+    fn machine_step(self, alloc: Global, event: Step) -> Result<(Hub<S, J, B>, Reply), NoMemory>
         ensures state { IfOk result (λ done. done.0 ≡ (step_of self event).state) }
         ensures reply { IfOk result (λ done. done.1 ≡ (step_of self event).reply) }
     {
@@ -295,6 +308,7 @@ impl<S: Space + Drop, J: Judge + Drop> Hub<S, J> {
         }
         match event {
             Step::Bind(binding) => self.bind(alloc, binding),
+            Step::Watch(watched) => self.watch(alloc, watched),
             Step::Arrive(space) => self.arrive(alloc, space),
             Step::Packet(connection, turn) => self.packet(alloc, connection, &turn),
             Step::Bad(connection, fault) => self.bad(alloc, connection, fault),
@@ -306,7 +320,7 @@ impl<S: Space + Drop, J: Judge + Drop> Hub<S, J> {
     }
 
     /// The state after a step, and what is answered to it. For want of memory the state is gone.
-    pub fn step(self, alloc: Global, event: Step) -> Result<(Hub<S, J>, Reply), NoMemory>
+    pub fn step(self, alloc: Global, event: Step) -> Result<(Hub<S, J, B>, Reply), NoMemory>
         ensures state { IfOk result (λ done. done.0 ≡ (step_of self event).state) }
         ensures reply { IfOk result (λ done. done.1 ≡ (step_of self event).reply) }
         ensures complete { IfOk result (λ done. IsComplete self event done.1) }

@@ -11,11 +11,12 @@ mod hub;
 mod packets;
 mod turns;
 mod unlooked;
+mod watchers;
 
 pub use hub::Hub;
 pub use hub_machine::{
     BACKLOG, BACKLOG_WEIGHT, CONNECTIONS, DATASPACES, DELIVERIES, DELIVERIES_WEIGHT, Fault,
-    HANDLES, ROWS_WEIGHT, Reply, Step, TURN_EVENTS, WANTED_WEIGHT, refusals_change_nothing,
-    refused_packets_have_their_cause, refused_packets_leave_nothing,
+    HANDLES, ROWS_WEIGHT, Reply, Step, TURN_EVENTS, WANTED_WEIGHT, WATCHERS,
+    refusals_change_nothing, refused_packets_have_their_cause, refused_packets_leave_nothing,
 };
 pub use rl_ports::Inbound;

@@ -13,13 +13,14 @@ ghost use Rattle.hub_machine.specs.Admission.{admission};
 ghost use Rattle.hub_machine.specs.Endings.{nameless, departed_for, finished};
 ghost use Rattle.hub_machine.specs.Machine.{judged, accepted, packet_at, bad_at, close_at};
 ghost use Rattle.hub_machine.specs.declared.steps.Reply.TheVariants as reply;
-ghost use Rattle.hub_valid.specs.Validity.{IsValid, IsValidEntry};
+ghost use Rattle.hub_valid.specs.Validity.{lived, IsValid, IsValidEntry};
 ghost use Rattle.hub_packets.specs.Refusals.{IsCauseAnd};
 
 use crate::hub::Hub;
 use ds_space::Space;
 use hub_machine::{Fault, Reply};
 use hub_packets::{Admitting, Refusal, admission};
+use lc_watch::Behaves;
 use pv_value::NoMemory;
 use rl_packet::Turn;
 use rl_ports::Ports;
@@ -34,7 +35,7 @@ fn keeps_its_order(connections: &BTreeMap<u32, Ports>)
     let _ = connections.len();
 }
 
-impl<S: Space + Drop, J: Judge + Drop> Hub<S, J> {
+impl<S: Space + Drop, J: Judge + Drop, B: Behaves + Drop> Hub<S, J, B> {
     /// A live connection's names, which are taken out of the state.
     pub(crate) fn take_ports(&mut self, connection: u32) -> Option<Ports>
         ensures ports { result ≡ ports_of connection self.old }
@@ -42,7 +43,7 @@ impl<S: Space + Drop, J: Judge + Drop> Hub<S, J> {
             ≡ (if is_some result then nameless connection self.old else self.old) }
         ensures small { IfSome result (λ ports. connection ≤ 2 ^ 31) }
         ensures valid { IfSome result
-            (λ ports. IsValidEntry self.old.world.opened (connection, ports)) }
+            (λ ports. IsValidEntry (lived self.old.world) (connection, ports)) }
         ensures ordered { IsStrictlySortedBy nat_cmp (keys_of self.old.connections) }
     {
         keeps_its_order(&self.connections);
@@ -58,7 +59,7 @@ impl<S: Space + Drop, J: Judge + Drop> Hub<S, J> {
         alloc: Global,
         connection: u32,
         admitting: Admitting,
-    ) -> Result<Hub<S, J>, NoMemory>
+    ) -> Result<Hub<S, J, B>, NoMemory>
         requires live { is_live (actor_of connection) self.world.table ≡ true }
         requires small { connection ≤ 2 ^ 31 }
         requires valid { IsValid self → IsValid (accepted connection admitting self) }
@@ -90,7 +91,7 @@ impl<S: Space + Drop, J: Judge + Drop> Hub<S, J> {
         alloc: Global,
         connection: u32,
         refusal: Refusal,
-    ) -> Result<(Hub<S, J>, Reply), NoMemory>
+    ) -> Result<(Hub<S, J, B>, Reply), NoMemory>
         requires { connection ≤ 2 ^ 31 }
         ensures state { IfOk result (λ done. IsCauseAnd refusal
             (λ f. done.0 ≡ finished [] (departed_for connection f self))) }
@@ -113,11 +114,11 @@ impl<S: Space + Drop, J: Judge + Drop> Hub<S, J> {
         connection: u32,
         ports: Ports,
         turn: &Turn,
-    ) -> Result<(Hub<S, J>, Reply), NoMemory>
+    ) -> Result<(Hub<S, J, B>, Reply), NoMemory>
         requires live { is_live (actor_of connection) self.world.table ≡ true }
         requires small { connection ≤ 2 ^ 31 }
         requires next { self.world.table.next < worn_handle }
-        requires valid { IsValidEntry self.world.opened (connection, ports) }
+        requires valid { IsValidEntry (lived self.world) (connection, ports) }
         ensures state { IfOk result (λ done. done.0
             ≡ (judged connection (admission connection ports self.world turn.now) self).state) }
         ensures reply { IfOk result (λ done. done.1
@@ -139,7 +140,7 @@ impl<S: Space + Drop, J: Judge + Drop> Hub<S, J> {
         alloc: Global,
         connection: u32,
         turn: &Turn,
-    ) -> Result<(Hub<S, J>, Reply), NoMemory>
+    ) -> Result<(Hub<S, J, B>, Reply), NoMemory>
         requires next { self.world.table.next < worn_handle }
         ensures state { IfOk result (λ done. done.0
             ≡ (packet_at connection (ports_of connection self) turn.now self).state) }
@@ -158,7 +159,7 @@ impl<S: Space + Drop, J: Judge + Drop> Hub<S, J> {
         alloc: Global,
         connection: u32,
         fault: Fault,
-    ) -> Result<(Hub<S, J>, Reply), NoMemory>
+    ) -> Result<(Hub<S, J, B>, Reply), NoMemory>
         ensures state { IfOk result (λ done. done.0
             ≡ (bad_at connection (ports_of connection self) fault self).state) }
         ensures reply { IfOk result (λ done. done.1
@@ -176,7 +177,7 @@ impl<S: Space + Drop, J: Judge + Drop> Hub<S, J> {
         self,
         alloc: Global,
         connection: u32,
-    ) -> Result<(Hub<S, J>, Reply), NoMemory>
+    ) -> Result<(Hub<S, J, B>, Reply), NoMemory>
         ensures state { IfOk result (λ done. done.0
             ≡ (close_at connection (ports_of connection self) self).state) }
         ensures reply { IfOk result (λ done. done.1

@@ -1,12 +1,12 @@
 //! Turns of actors, and what connections get by them.
-ghost use Rattle.std.specs.Prelude.{◌≡◌, ◌≤◌, ◌<◌, ◌+◌, ◌^◌, IfOk};
+ghost use Rattle.std.specs.Prelude.{◌≡◌, ◌≤◌, ◌<◌, ◌^◌, IfOk};
 ghost use Rattle.ac_table.specs.Tables.{lowest as lowest_waiting};
 ghost use Rattle.ac_world.specs.Worlds.{with_entry};
 ghost use Rattle.hub_machine.specs.Limits.{worn_handle};
 ghost use Rattle.hub_machine.specs.State.{ports_of};
 ghost use Rattle.hub_machine.specs.Machine.{tell, tell_fault, fault_for, after_turn, turn_of};
 ghost use Rattle.hub_machine.specs.Machine.{work_by, telling_fault};
-ghost use Rattle.hub_valid.specs.Validity.{IsValid, IsValidBatch, IsValidEntry};
+ghost use Rattle.hub_valid.specs.Validity.{lived, IsValid, IsValidBatch, IsValidEntry};
 ghost use Rattle.hub_core.specs.Telling.{IsToldSoundly, told_by};
 
 use crate::hub::Hub;
@@ -15,15 +15,16 @@ use ac_world::{FIRST_CONNECTION, Turned};
 use ds_space::Space;
 use hub_machine::Reply;
 use hub_packets::all_to_send;
+use lc_watch::Behaves;
 use pv_value::NoMemory;
 use rl_packet::{Packet, Turn};
 use rl_ports::Ports;
 use sr_pass::Judge;
 use std::alloc::Global;
 
-impl<S: Space + Drop, J: Judge + Drop> Hub<S, J> {
+impl<S: Space + Drop, J: Judge + Drop, B: Behaves + Drop> Hub<S, J, B> {
     /// The fault of an ended connection is told, where it is still to be told.
-    fn tell_fault(mut self, alloc: Global, actor: u32) -> Result<(Hub<S, J>, Reply), NoMemory>
+    fn tell_fault(mut self, alloc: Global, actor: u32) -> Result<(Hub<S, J, B>, Reply), NoMemory>
         ensures state { IfOk result
             (λ done. done.0 ≡ (tell_fault actor (fault_for actor self) self).state) }
         ensures reply { IfOk result
@@ -42,7 +43,7 @@ impl<S: Space + Drop, J: Judge + Drop> Hub<S, J> {
     }
 
     /// A connection names this from now on.
-    fn name(mut self, connection: u32, ports: Ports) -> Result<Hub<S, J>, NoMemory>
+    fn name(mut self, connection: u32, ports: Ports) -> Result<Hub<S, J, B>, NoMemory>
         requires small { connection ≤ 2 ^ 31 }
         requires valid { IsValid self → IsValid
             (record self { connections = with_entry connection ports self.connections }) }
@@ -61,9 +62,9 @@ impl<S: Space + Drop, J: Judge + Drop> Hub<S, J> {
         alloc: Global,
         connection: u32,
         batch: Batch,
-    ) -> Result<(Hub<S, J>, Reply), NoMemory>
+    ) -> Result<(Hub<S, J, B>, Reply), NoMemory>
         requires next { self.world.table.next ≤ 2 ^ 63 }
-        requires valid { IsValidBatch (16 + self.world.opened) self.world.table.next batch }
+        requires valid { IsValidBatch (lived self.world) self.world.table.next batch }
         ensures state { IfOk result
             (λ done. done.0 ≡ (tell connection (ports_of connection self) batch self).state) }
         ensures reply { IfOk result
@@ -82,11 +83,11 @@ impl<S: Space + Drop, J: Judge + Drop> Hub<S, J> {
         connection: u32,
         mut ports: Ports,
         batch: Batch,
-    ) -> Result<(Hub<S, J>, Reply), NoMemory>
+    ) -> Result<(Hub<S, J, B>, Reply), NoMemory>
         requires small { connection ≤ 2 ^ 31 }
         requires next { self.world.table.next ≤ 2 ^ 63 }
-        requires batch { IsValidBatch (16 + self.world.opened) self.world.table.next batch }
-        requires entry { IsValidEntry self.world.opened (connection, ports) }
+        requires batch { IsValidBatch (lived self.world) self.world.table.next batch }
+        requires entry { IsValidEntry (lived self.world) (connection, ports) }
         ensures state { IfOk result (λ done. done.0 ≡ (told_by
             (telling_fault connection batch ports) connection ports batch self).state) }
         ensures reply { IfOk result (λ done. done.1 ≡ (told_by
@@ -108,7 +109,7 @@ impl<S: Space + Drop, J: Judge + Drop> Hub<S, J> {
         alloc: Global,
         actor: u32,
         turned: Turned,
-    ) -> Result<(Hub<S, J>, Reply), NoMemory>
+    ) -> Result<(Hub<S, J, B>, Reply), NoMemory>
         requires { IsToldSoundly turned self }
         ensures state { IfOk result (λ done. done.0 ≡ (after_turn actor turned self).state) }
         ensures reply { IfOk result (λ done. done.1 ≡ (after_turn actor turned self).reply) }
@@ -122,7 +123,7 @@ impl<S: Space + Drop, J: Judge + Drop> Hub<S, J> {
     }
 
     /// An actor's turn.
-    pub(crate) fn turn(self, alloc: Global, actor: u32) -> Result<(Hub<S, J>, Reply), NoMemory>
+    pub(crate) fn turn(self, alloc: Global, actor: u32) -> Result<(Hub<S, J, B>, Reply), NoMemory>
         requires { self.world.table.next < worn_handle }
         ensures state { IfOk result (λ done. done.0 ≡ (turn_of actor self).state) }
         ensures reply { IfOk result (λ done. done.1 ≡ (turn_of actor self).reply) }
@@ -146,7 +147,7 @@ impl<S: Space + Drop, J: Judge + Drop> Hub<S, J> {
     }
 
     /// The turn of the lowest of the system's actors for which a batch waits.
-    pub(crate) fn work(self, alloc: Global) -> Result<(Hub<S, J>, Reply), NoMemory>
+    pub(crate) fn work(self, alloc: Global) -> Result<(Hub<S, J, B>, Reply), NoMemory>
         requires { self.world.table.next < worn_handle }
         ensures state { IfOk result (λ done. done.0
             ≡ (work_by (lowest_waiting self.world.table) self).state) }

@@ -14,9 +14,10 @@ use Rattle.ac_table.specs.Tables.{rows_of_others, without_row}
 use Rattle.ac_table.specs.Lemmas.Lists.{all_filter}
 use Rattle.ac_world.specs.Outboxes.{Outbox, Plan, plan_over, drop_row, drop_own, told, told_to, retractions}
 use Rattle.ac_world.specs.Lemmas.Entries.{KeysAscend, AreAbove, all_append, ascend_none, ascend_with}
-use Rattle.hub_laws.proofs.Kept.{FitsEvent, Moves}
+use Rattle.hub_laws.proofs.Kept.{IsGood, Spares, FitsEvent, Moves}
 use Rattle.hub_laws.proofs.Promised.{RetractionsAscend, EndedTable, ServedAfterEnd}
 use Rattle.hub_laws.proofs.Finding.{Ascend, ascend_filter, unless_own, find_row-others}
+use Rattle.hub_laws.proofs.Good.{spares}
 use Rattle.hub_laws.proofs.Moving.{event_for, told_to-told, begin_moves, dropped_moves}
 use Rattle.hub_laws.proofs.Serving.{leads_from, served_on}
 
@@ -30,19 +31,28 @@ retractions_on (r ∷ rs) out s =
 pub retractions_ascend : RetractionsAscend
 retractions_ascend a rows = retractions_on (rows_of a rows) [] ascend_none
 
--- a retraction always fits
-retractions_fit : (n a b : ℕ) (rows rs : List Row) (out : Outbox)
-    → AllByRecursion (FitsEvent n rows b a) (told_to b out)
-    → AllByRecursion (FitsEvent n rows b a) (told_to b (retractions rs out))
-retractions_fit n a b rows [] out fits = fits
-retractions_fit n a b rows (r ∷ rs) out fits =
-    retractions_fit n a b rows rs (told r.target (Retract r.handle r.entity) out)
+-- a retraction fits wherever the row might stand
+pub retractions_fit : (a b : ℕ) (rows rs : List Row) (out : Outbox) → AllByRecursion (λ r. Spares a r.target) rs
+    → AllByRecursion (FitsEvent rows b a) (told_to b out)
+    → AllByRecursion (FitsEvent rows b a) (told_to b (retractions rs out))
+retractions_fit a b rows [] out spare fits = fits
+retractions_fit a b rows (r ∷ rs) out spare fits =
+    retractions_fit a b rows rs (told r.target (Retract r.handle r.entity) out) spare.1
     (rw (told_to-told b r.target (Retract r.handle r.entity) out)
-    (all_append _ (told_to b out) (event_for b r.target (Retract r.handle r.entity)) fits (one (r.target == b))))
+    (all_append _ (told_to b out) (event_for b r.target (Retract r.handle r.entity)) fits (one (r.target == b) refl)))
   where
-    one : (c : Bool) → AllByRecursion (FitsEvent n rows b a) (cond c (Retract r.handle r.entity ∷ []) [])
-    one true = (tt, tt)
-    one false = tt
+    one : (c : Bool) → (r.target == b) ≡ c
+        → AllByRecursion (FitsEvent rows b a) (cond c (Retract r.handle r.entity ∷ []) [])
+    one true is = (subst (λ (m : ℕ). Spares a m) (grind (arith, nat_tests, is)) spare.0, tt)
+    one false is = tt
+
+-- the rows of an actor stand where it may make them
+pub own_spare : (a : ℕ) (rows : List Row) → AllByRecursion IsGood rows
+    → AllByRecursion (λ r. Spares a r.target) (rows_of a rows)
+own_spare a rows good =
+    all_filter IsGood (λ r. Spares a r.target) (λ r. r.owner == a)
+    (λ r own g. subst (λ (b : ℕ). Spares b r.target) (grind (arith, nat_tests, own)) (spares r.owner r.target g)) rows
+    good
 
 -- ---- the first of an actor's rows
 
@@ -155,11 +165,11 @@ pub ended_moves : (a : ℕ) (t : TableState) → IsTable t → Moves a t (emptie
 ended_moves a t k = emptied_moves a t (rows_of a t.rows) (plan_over t) refl (begin_moves a t k)
 
 pub served_after_end : ServedAfterEnd
-served_after_end X f ends n a b t got old new k s posted =
-    served_on f ends n a b t.next t.next t.rows (rows_of_others a t.rows)
+served_after_end X f ends a b t got old new k good s posted =
+    served_on f ends a b t.next t.next t.rows (rows_of_others a t.rows)
     (told_to b (retractions (rows_of a t.rows) [])) got old new
-    (leads_from f n a b t (emptied a (rows_of a t.rows) (plan_over t)) k (ended_moves a t k)
-    (retractions_fit n a b (rows_of_others a t.rows) (rows_of a t.rows) [] tt)) posted s
+    (leads_from f a b t (emptied a (rows_of a t.rows) (plan_over t)) k (ended_moves a t k)
+    (retractions_fit a b (rows_of_others a t.rows) (rows_of a t.rows) [] (own_spare a t.rows good) tt)) posted s
 
 -- ---- who is live afterwards
 

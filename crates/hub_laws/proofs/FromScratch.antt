@@ -23,7 +23,7 @@ use Rattle.ac_table.specs.Tables.{TableState, Actor, IsTable, find_actor, is_liv
 use Rattle.ac_table.specs.Lemmas.Lists.{all_weaker}
 use Rattle.ac_world.specs.declared.held.Held.{Held}
 use Rattle.ac_world.specs.Worlds.{WorldState, resident_of, held_by, actor_of, is_system}
-use Rattle.ac_world.specs.Behaviours.{Behaviour, behaviour_of}
+use Rattle.ac_world.specs.Behaviours.{Behaviour, behaviour_of, other}
 use Rattle.hub_machine.specs.State.{State, opening}
 use Rattle.hub_machine.specs.Replays.{replay, IsSettled}
 use Rattle.hub_machine.specs.declared.steps.Step.{Step}
@@ -32,18 +32,17 @@ use Rattle.hub_laws.specs.Scratch.{Pair, asserted_at, pair_at, told_over, told_d
 use Rattle.hub_laws.specs.Scratch.{told_replies}
 use Rattle.hub_laws.specs.Scratch.{scratch, exports_of}
 use Rattle.hub_laws.specs.Settled.{holding_of, pair_of}
-use Rattle.hub_laws.specs.Wanting.{passing}
+use Rattle.hub_laws.specs.Wanting.{passing, IsMet}
 use Rattle.hub_laws.specs.Standing.{stands, took_all, events_of, value_alone, at_object}
 use Rattle.hub_laws.proofs.Bags.{map_flat, permutation_flat, filter_alike, filter_filter, by_number}
-use Rattle.hub_laws.proofs.Finding.{all_from_found, found_owner}
-use Rattle.hub_laws.proofs.Hubs.{is_far}
-use Rattle.hub_laws.proofs.Kept.{IsNear, IsServedBy, IsServed, IsSound, IsHub, IsLawful}
+use Rattle.hub_laws.proofs.Kept.{IsNear, IsServedBy, IsServed, IsSound, IsHub, IsLawful, IsGood}
 use Rattle.hub_laws.proofs.Lists.{near_exact, kept_of, entry_of-stands}
 use Rattle.hub_laws.proofs.OwnRows.{pair_of_row, own_are_meant}
 use Rattle.hub_laws.proofs.Owned.{rows_of_met}
 use Rattle.hub_laws.proofs.Told.{goes_to, goes_passing, pair_by, wants_are_told, keys_are_replied}
 use Rattle.hub_laws.proofs.Passing.{passing_ascends}
 use Rattle.hub_laws.proofs.Wanted.{lawful}
+use Rattle.hub_laws.proofs.Watching.{low_is_none, low_has_no_task}
 
 -- ---- where nothing waits, what stands is what was got
 
@@ -64,9 +63,9 @@ inbox_empty a (y ∷ ys) x none is = by (y.number == a) refl (inbox_empty a ys x
         nil_from_length x.inbox (ap (λ (z : Actor). length z.inbox) (sym one) ∙ omega arith)
     by false other later = later (rw other at is)
 
-got_stands : {X : Type 0} (f : ℕ → Plain → X) (n a : ℕ) (t : TableState) (got : List (ℕ × X)) (inbox : List Batch)
-    → IsTable t → inbox ≡ [] → IsServedBy f [] n t.rows t.next a got inbox → got ≡ stands f a t.rows
-got_stands f n a t got inbox k empty served =
+got_stands : {X : Type 0} (f : ℕ → Plain → X) (a : ℕ) (t : TableState) (got : List (ℕ × X)) (inbox : List Batch)
+    → IsTable t → inbox ≡ [] → IsServedBy f [] t.rows t.next a got inbox → got ≡ stands f a t.rows
+got_stands f a t got inbox k empty served =
     near_exact [] t.rows (stands f a t.rows) got
     (subst (λ (bs : List Batch). IsNear [] t.rows (stands f a t.rows) (took_all f (events_of bs) got)) empty
     (served.near refl))
@@ -130,7 +129,7 @@ module _ (exports : List Plain) (w : WorldState) (s : IsSound [] w) (quiet : wai
       → values_of (resident_of d w).got ≡ asserted_at d rows
   got_asserted d low live =
       let x = found_live (find_actor d w.table.actors) live in
-      ap values_of (got_stands value_alone (16 + w.opened) d w.table (resident_of d w).got x.0.inbox s.table
+      ap values_of (got_stands value_alone d w.table (resident_of d w).got x.0.inbox s.table
       (inbox_empty d w.table.actors x.0 quiet x.1)
       (subst (IsServed [] d x.0.inbox w) (low_system d low) (s.served d x.0 x.1)))
       ∙ stands_map value_alone (λ e. e.1) (λ r. r.value) (λ r. refl) d rows
@@ -142,25 +141,30 @@ module _ (exports : List Plain) (w : WorldState) (s : IsSound [] w) (quiet : wai
   held_stands n other live =
       let x = found_live (find_actor (actor_of n) w.table.actors) live in
       ap (map (pair_held exports n))
-      (got_stands at_object (16 + w.opened) (actor_of n) w.table (held_by (actor_of n) w) x.0.inbox s.table
+      (got_stands at_object (actor_of n) w.table (held_by (actor_of n) w) x.0.inbox s.table
       (inbox_empty (actor_of n) w.table.actors x.0 quiet x.1)
       (subst (IsServed [] (actor_of n) x.0.inbox w) other (s.served (actor_of n) x.0 x.1)))
       ∙ stands_map at_object (pair_held exports n) (pair_of_row exports n) (λ r. refl) (actor_of n) rows
 
   abbrev behaves : ℕ → Behaviour
-  behaves d = behaviour_of w.schema w.bindings d
+  behaves d = behaviour_of w.schema w.bindings w.watches d
 
   -- what a system actor tells a connection, from scratch
   abbrev tells : ℕ → ℕ → List Pair
   tells n zero = told_replies w.schema exports n w.bindings (asserted_at 0 rows)
   tells n (suc d) = told_over w.schema exports n (asserted_at (suc d) rows)
 
-  keys_told : (n d : ℕ)
+  keys_told : (n d : ℕ) → d < 9
       → IsPermutation
       (map (pair_by (behaves d) exports n) (filter (goes_to (behaves d) (actor_of n))
       ((behaves d).keys (asserted_at d rows)))) (tells n d)
-  keys_told n zero = keys_are_replied w.schema exports n w.bindings (asserted_at 0 rows)
-  keys_told n (suc d) = wants_are_told w.schema exports n (asserted_at (suc d) rows)
+  keys_told n zero low = keys_are_replied w.schema exports n w.bindings (asserted_at 0 rows)
+  keys_told n (suc d) low =
+      subst (λ o. IsPermutation
+      (map (pair_by (other w.schema o) exports n) (filter (goes_to (other w.schema o) (actor_of n))
+      ((other w.schema o).keys (asserted_at (suc d) rows)))) (tells n (suc d)))
+      (sym (low_has_no_task (suc d) w.watches low))
+      (wants_are_told w.schema exports n (asserted_at (suc d) rows))
 
   -- the rows of a system actor at a connection are what it tells it
   actor_tells : (n d : ℕ) → d < 9 → is_live d w.table ≡ true
@@ -168,8 +172,10 @@ module _ (exports : List Plain) (w : WorldState) (s : IsSound [] w) (quiet : wai
       (tells n d)
   actor_tells n d low live =
       let y : Behaviour = behaves d in
-      let law : IsLawful y = lawful w.schema w.bindings d in
-      let met = s.met d low in
+      let law : IsLawful y d = lawful w.schema w.bindings w.watches d s.watches (omega (arith, low)) in
+      let met : IsMet y None d (resident_of d w) rows =
+      subst (λ o. IsMet y o d (resident_of d w) rows) (low_is_none d w.watches low)
+      (s.met d (omega (arith, low)) live) in
       let wanted : keys_of (resident_of d w).handles ≡ passing y (y.keys (asserted_at d rows)) =
       met.keys ∙ ap (λ vs. passing y (y.keys vs)) (got_asserted d low live) in
       let apart : IsDistinct same (keys_of (resident_of d w).handles) =
@@ -180,17 +186,30 @@ module _ (exports : List Plain) (w : WorldState) (s : IsSound [] w) (quiet : wai
       ap (filter (goes_to y (actor_of n))) wanted ∙ goes_passing y (actor_of n) (y.keys (asserted_at d rows)) in
       IsPermutation-trans _ _ _
       (own_are_meant y exports n d (resident_of d w).handles rows s.table.rows_ascend apart
-      (rows_of_met y d (resident_of d w) rows met))
-      (subst (λ ks. IsPermutation (map (pair_by y exports n) ks) (tells n d)) (sym meant) (keys_told n d))
+      (rows_of_met y None d (resident_of d w) rows met))
+      (subst (λ ks. IsPermutation (map (pair_by y exports n) ks) (tells n d)) (sym meant) (keys_told n d low))
 
-  -- the others are a connection's
-  owned_directly : AllByRecursion (λ r. is_direct r ≡ nat_le 17 r.owner) rows
-  owned_directly =
-      all_from_found _ rows s.table.rows_ascend
-      (λ h r is. owner_kind r.owner
-      (λ low high. let live = found_owner h w.table r s.table is in
-      let dead = s.no_watchers r.owner low high in
-      absurd cc))
+  -- the others there are a connection's, since those of watchers are at dataspaces
+  owned_directly : (n : ℕ) → AllByRecursion
+      (λ r. ((r.target == actor_of n) && is_direct r) ≡ ((r.target == actor_of n) && nat_le 17 r.owner)) rows
+  owned_directly n = all_weaker IsGood _ (λ r good. by r good (nat_le 9 r.owner && nat_lt r.owner 17) refl) rows s.rows
+    where
+      elsewhere : (t : ℕ) → t < 9 → (t == actor_of n) ≡ false
+      elsewhere t l = grind (arith, nat_tests, l)
+
+      watches : (o : ℕ) → (nat_le 9 o && nat_lt o 17) ≡ true → (9 ≤ o) × (o < 17)
+      watches o is = (grind (arith, nat_tests, is), grind (arith, nat_tests, is))
+
+      none : (o : ℕ) → (nat_le 9 o && nat_lt o 17) ≡ false → 9 ≤ o → o < 17 → ⊥
+      none o is high low = grind (arith, nat_tests, is, high, low)
+
+      by : (r : Row) → IsGood r → (b : Bool) → (nat_le 9 r.owner && nat_lt r.owner 17) ≡ b
+          → ((r.target == actor_of n) && is_direct r) ≡ ((r.target == actor_of n) && nat_le 17 r.owner)
+      by r good true is =
+          let both = watches r.owner is in
+          let away : (r.target == actor_of n) ≡ false = elsewhere r.target (good.near both.0 both.1).1 in
+          ap (λ c. c && is_direct r) away ∙ sym (ap (λ c. c && nat_le 17 r.owner) away)
+      by r good false is = ap (λ c. (r.target == actor_of n) && c) (owner_kind r.owner (none r.owner is))
 
   -- the pairs of a system actor's rows at a connection
   abbrev pairs_of : ℕ → ℕ → List Pair
@@ -213,7 +232,7 @@ module _ (exports : List Plain) (w : WorldState) (s : IsSound [] w) (quiet : wai
   direct n =
       ap (map (pair_of_row exports n))
       (filter_filter is_direct (λ r. r.target == actor_of n) rows
-      ∙ filter_alike _ _ rows (all_weaker _ _ (λ r is. ap (λ b. (r.target == actor_of n) && b) is) rows owned_directly))
+      ∙ filter_alike _ _ rows (owned_directly n))
 
   pub held_scratch : (n : ℕ) → is_system (actor_of n) ≡ false → is_live (actor_of n) w.table ≡ true
       → IsPermutation (map (pair_held exports n) (held_by (actor_of n) w))
@@ -235,16 +254,13 @@ module _ (exports : List Plain) (w : WorldState) (s : IsSound [] w) (quiet : wai
 
 -- ---- a hub
 
--- a connection that is live is no system actor
-no_system : (k : ℕ) (w : WorldState) → IsSound [] w → is_live (actor_of k) w.table ≡ true
-    → is_system (actor_of k) ≡ false
-no_system k w s live = let far = is_far [] w k s live in grind (arith, nat_tests, far)
+no_system : (k : ℕ) → 1 ≤ k → is_system (actor_of k) ≡ false
+no_system k since = grind (arith, nat_tests, since)
 
-pub scratch_stands : (s : State) → IsHub [] s → IsSettled s → (k : ℕ) → is_live (actor_of k) s.world.table ≡ true
+pub scratch_stands : (s : State) → IsHub [] s → IsSettled s → (k : ℕ) → 1 ≤ k → is_live (actor_of k) s.world.table ≡ true
     → IsPermutation (map (pair_held (exports_of k s) k) (held_by (actor_of k) s.world)) (scratch k s)
-scratch_stands s hub settled k live =
-    held_scratch (exports_of k s) s.world hub.sound (omega (arith, settled)) k
-    (no_system k s.world hub.sound live) live
+scratch_stands s hub settled k since live =
+    held_scratch (exports_of k s) s.world hub.sound (omega (arith, settled)) k (no_system k since) live
 
 -- ---- in order
 
@@ -275,7 +291,7 @@ pairs_of_holdings exports n (e ∷ es) = ap (λ l. pair_held exports n e ∷ l) 
 pub settled_from : Holdings
     → ((ds : List Definition) (steps : List Step) → AreAllowed (opening ds) steps → IsHub [] (replay ds steps))
     → SettledHoldings
-settled_from holdings hubs ds k steps allowed settled live =
+settled_from holdings hubs ds k steps allowed since settled live =
     let a = actor_of k in
     let s = replay ds steps in
     let exports : List Plain = exports_of k s in
@@ -285,4 +301,4 @@ settled_from holdings hubs ds k steps allowed settled live =
     (IsPermutation-map pair_of (holdings_in_order got) got
     (IsPermutation-sym got (holdings_in_order got) (in_order_permutes got)))
     (subst (λ l. IsPermutation l (scratch k s)) (sym (pairs_of_holdings exports k (held_by a s.world)))
-    (scratch_stands s (hubs ds steps allowed) settled k live)))
+    (scratch_stands s (hubs ds steps allowed) settled k since live)))

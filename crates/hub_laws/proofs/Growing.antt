@@ -9,7 +9,7 @@ use Rattle.ac_table.specs.declared.batches.Row.{Row}
 use Rattle.ac_table.specs.declared.batches.Event.{Event}
 use Rattle.ac_table.specs.declared.batches.Event.TheVariants.{Retract, Message, Sync}
 use Rattle.ac_table.specs.declared.batches.Batch.{Batch}
-use Rattle.ac_table.specs.Tables.{TableState, Actor, IsTable, find_actor, is_live, ended, rows_of, first_batch}
+use Rattle.ac_table.specs.Tables.{TableState, Actor, IsTable, find_actor, is_live, joined, ended, rows_of, first_batch}
 use Rattle.ac_world.specs.declared.acts.Act.{Act}
 use Rattle.ac_world.specs.declared.acts.Act.TheVariants as act
 use Rattle.ac_world.specs.declared.turns.Turned.TheVariants.{Gone}
@@ -17,17 +17,19 @@ use Rattle.ac_world.specs.Outboxes.{Outbox, Plan, plan_over, told, told_to, post
 use Rattle.ac_world.specs.Turns.{After as TurnOf, connection_turn, turn_with, turn_first, turn, system_turn}
 use Rattle.ac_world.specs.Turns.{deliver}
 use Rattle.ac_world.specs.Worlds.{WorldState, held_by, without_entry, is_system, actor_of, all_delivered}
-use Rattle.ac_world.specs.Worlds.{arrived, sent, gone, ended_of}
+use Rattle.ac_world.specs.Worlds.{arrived, sent, watching, gone, ended_of}
+use Rattle.ac_world.specs.declared.watched.Watched.{Watched}
+use Rattle.ac_world.specs.Watchers.{next_watcher, observation_by}
 use Rattle.ac_world.specs.Lemmas.Entries.{put_other, out_other, KeysAscend, ascend_none}
 use Rattle.hub_laws.proofs.Committing.{done_in}
 use Rattle.hub_laws.proofs.EndingActors.{retractions_ascend, ended_none, ended_other}
-use Rattle.hub_laws.proofs.Joining.{joined_other}
+use Rattle.hub_laws.proofs.Joining.{joined_is_table, joined_live, joined_other}
 use Rattle.hub_laws.proofs.Kept.{made_in, IsLog, IsSound, Moves}
 use Rattle.hub_laws.proofs.Leaving.{one_or_not}
 use Rattle.hub_laws.proofs.Moving.{made_in-told, begin_moves, put_moves, dropped_moves, said_moves}
 use Rattle.hub_laws.proofs.Posting.{posted_to, posted_table, found-popped_other}
 use Rattle.hub_laws.proofs.Serving.{events_posted, log_posted}
-use Rattle.hub_laws.proofs.Turns.{without_first, turning_of, system_after, system_low, system_runs}
+use Rattle.hub_laws.proofs.Turns.{without_first, turning_of, system_after, system_runs}
 
 -- The actor b, found as x in the later world, was there in the earlier one. It has taken nothing since, and what came
 -- to its inbox goes on from the handles of before.
@@ -123,13 +125,15 @@ pub gone_grows : (a b : ℕ) (w : WorldState) → Grows b w (gone a w)
 gone_grows a b w =
     let out : Outbox = retractions (rows_of a w.table.rows) [] in
     let none : made_in (told_to b out) ≡ [] = retractions_make b (rows_of a w.table.rows) [] in
-    posted_grows a b out (ended a w.table) w (record w { held = without_entry a w.held })
+    posted_grows a b out (ended a w.table) w left
     (retractions_ascend a w.table.rows) (omega arith) (omega arith) there
     (rw none ascend_none) (rw none tt)
   where
+    left : WorldState
+    left = record w { residents = without_entry a w.residents; held = without_entry a w.held }
+
     there : (x : Actor) → find_actor b (ended a w.table).actors ≡ Some x
-        → (find_actor b w.table.actors ≡ Some x)
-        × (held_by b (record w { held = without_entry a w.held }) ≡ held_by b w)
+        → (find_actor b w.table.actors ≡ Some x) × (held_by b left ≡ held_by b w)
     there x is = elim (one_or_not b a) [
       | inl same ↦
           absurd (let gone : find_actor b (ended a w.table).actors ≡ None =
@@ -170,6 +174,18 @@ sent_grows a b xs w k live =
     done_grows a b w (all_acted a xs (plan_over w.table))
     (all_acted_moves a w.table xs (plan_over w.table) live (begin_moves a w.table k))
 
+-- ---- a watcher begins
+
+pub watching_grows : (b : ℕ) (x : Watched) (w : WorldState) → IsTable w.table
+    → is_live (next_watcher w.watches) w.table ≡ false → b ≢ next_watcher w.watches → Grows b w (watching x w)
+watching_grows b x w k dead apart =
+    let new : ℕ = next_watcher w.watches in
+    let joint : WorldState = record w { watches = w.watches ++ x ∷ []; table = joined new w.table } in
+    grows_on b w joint (watching x w)
+    (grows_alike b w joint (omega arith) refl (joined_other new b w.table apart) refl)
+    (sent_grows new b (act.Assert x.from 0 (observation_by new x.pattern) ∷ []) joint
+    (joined_is_table new w.table dead k) (joined_live new w.table dead))
+
 -- ---- another actor takes its turn
 
 -- it takes its batch, and gets what is in it
@@ -179,12 +195,12 @@ deliver_grows a b es w apart =
     (ap (λ o. unwrap_or o []) (put_other a b (all_delivered es (held_by a w)) w.held apart))
 
 module _ (a b : ℕ) (w : WorldState) (k : IsSound [] w) (apart : b ≢ a) where
-  system_grows : (batch : Batch) → first_batch a w.table ≡ Some batch → is_system a ≡ true → a < 9
+  system_grows : (batch : Batch) → first_batch a w.table ≡ Some batch → is_system a ≡ true → is_live a w.table ≡ true
       → Grows b w (system_turn a batch (without_first a w)).world
-  system_grows batch is system low =
+  system_grows batch is system live =
       let u : WorldState = system_after a batch w in
       grows_on b w u _ (grows_alike b w u (omega arith) refl (found-popped_other a b w.table apart) refl)
-      (done_grows a b u (turning_of a batch w).plan (system_runs a batch w k system low is).moves)
+      (done_grows a b u (turning_of a batch w).plan (system_runs a batch w k system live is).moves)
 
   with_grows : (batch : Batch) → first_batch a w.table ≡ Some batch → is_live a w.table ≡ true
       → Grows b w (turn_with a batch (without_first a w)).world
@@ -193,7 +209,7 @@ module _ (a b : ℕ) (w : WorldState) (k : IsSound [] w) (apart : b ≢ a) where
       by : (c : Bool) → is_system a ≡ c
           → Grows b w (cond c (system_turn a batch (without_first a w))
           (connection_turn a batch (without_first a w))).world
-      by true system = system_grows batch is system (system_low a w k system live)
+      by true system = system_grows batch is system live
       by false far = deliver_grows a b batch.events w apart
 
   first_grows : (o : Option Batch) → first_batch a w.table ≡ o → is_live a w.table ≡ true

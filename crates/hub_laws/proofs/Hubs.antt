@@ -1,7 +1,7 @@
 -- What endings keep of a hub, and that at a step's end nothing is missing any more.
-use Rattle.std.proofs.Common.{◌≡◌, ◌≢◌, ℕ, ◌-◌, ◌<◌, ◌≤◌, List, [], ◌∷◌, Bool, true, false, cond, ◌&&◌, ◌||◌}
+use Rattle.std.proofs.Common.{◌≡◌, ◌≢◌, ℕ, ◌-◌, ◌<◌, ◌≤◌, List, [], ◌∷◌, Bool, true, false, cond, nat_lt, ◌||◌}
 use Rattle.std.proofs.Common.{Option, Some, None}
-use Rattle.std.proofs.Common.{refl, sym, ap, ◌∙◌, subst, arith, eqb, leb, inl, inr, IsTrue}
+use Rattle.std.proofs.Common.{refl, sym, ap, ◌∙◌, subst, arith, eqb, inl, inr, IsTrue}
 use Rattle.std.specs.Prelude.{is_some}
 use Rattle.std.specs.List.{AllByRecursion}
 use Rattle.std.specs.Map.{keys_of}
@@ -11,15 +11,17 @@ use Rattle.ac_table.specs.Tables.{TableState, Actor, IsTable, find_actor, find_r
 use Rattle.ac_world.specs.declared.spreads.Spread.{Spread as SpreadOf}
 use Rattle.ac_world.specs.Worlds.{WorldState, entry_of, with_entry, without_entry, is_system, actor_of, gone}
 use Rattle.ac_world.specs.Worlds.{ended_of}
-use Rattle.ac_world.specs.Lemmas.Entries.{put_found, put_other, out_other, out_gone, ascend_without, ascend_with}
+use Rattle.ac_world.specs.Lemmas.Entries.{KeysAscend, put_found, put_other, out_other, out_gone, ascend_without}
+use Rattle.ac_world.specs.Lemmas.Entries.{ascend_with}
 use Rattle.rl_ports.specs.Ports.{PortsState}
 use Rattle.hub_machine.specs.declared.faults.Fault.{Fault}
 use Rattle.hub_machine.specs.declared.faults.Fault.TheVariants.{Spread}
 use Rattle.hub_machine.specs.State.{State, is_there}
-use Rattle.hub_machine.specs.Endings.{closed, failed, failed_where, spread_out, all_spread_out, overrun_of, all_overrun}
-use Rattle.hub_machine.specs.Endings.{finished}
-use Rattle.hub_laws.proofs.Kept.{is_in, IsExcused, IsNear, IsServed, IsSound, IsHub, actors_in}
-use Rattle.hub_laws.proofs.Leaving.{Endings, one_or_not, gone_not_live, gone_others_live, gone_live_before, gone_sound}
+use Rattle.hub_machine.specs.Endings.{closed, failed, failed_where, dismissed, spread_out, all_spread_out, overrun_of}
+use Rattle.hub_machine.specs.Endings.{all_overrun, finished}
+use Rattle.hub_laws.proofs.Kept.{is_in, IsExcused, IsNear, IsServed, IsHub, actors_in}
+use Rattle.hub_laws.proofs.Leaving.{Endings, OneOrNot, one_or_not, gone_not_live, gone_others_live, gone_live_before}
+use Rattle.hub_laws.proofs.Leaving.{gone_sound}
 
 -- ---- a connection ends
 
@@ -29,30 +31,24 @@ other_actor j k ne same = ne (ap actor_of same)
 other_number : (j k : ℕ) → j ≢ k → actor_of j ≢ actor_of k
 other_number j k ne same = ne (omega (arith, same))
 
--- a connection that is live is no watcher
-pub is_far : (ends : List ℕ) (w : WorldState) (k : ℕ) → IsSound ends w → is_live (actor_of k) w.table ≡ true
-    → 17 ≤ actor_of k
-is_far ends w k s live = by (leb 17 (actor_of k)) refl
-  where
-    by : (b : Bool) → leb 17 (actor_of k) ≡ b → 17 ≤ actor_of k
-    by true is = grind (arith, nat_tests, is)
-    by false is =
-        let low : actor_of k < 17 = grind (arith, nat_tests, is) in
-        let f : is_live (actor_of k) w.table ≡ false = s.no_watchers (actor_of k) (omega arith) low in
-        absurd cc
-
 abbrev pub without : ℕ → WorldState → State → State
 without k w s = record s { world = w; connections = without_entry k s.connections }
+
+-- no connection has the number 0
+first_left : (k : ℕ) (es : List (ℕ × PortsState)) → KeysAscend es → entry_of 0 es ≡ None
+    → entry_of 0 (without_entry k es) ≡ None
+first_left k es ascend none = elim (one_or_not 0 k) [
+  | inl same ↦ ap (λ i. entry_of i (without_entry k es)) same ∙ out_gone k es ascend
+  | inr ne ↦ out_other k 0 es ne ∙ none
+]
 
 left_live : (P : Endings) (ends : List ℕ) (k : ℕ) (s : State) → is_live (actor_of k) s.world.table ≡ true
     → IsHub ends s → IsHub ends (without k (gone (actor_of k) s.world) s)
 left_live P ends k s live h = record {
-  sound = gone_sound P ends (actor_of k) s.world (is_far ends s.world k h.sound live)
-      (λ none. absurd (omega (arith, is_far ends s.world k h.sound live, h.sound.numbers (actor_of k) live, none)))
-      h.sound;
-  named = λ j is.
+  sound = gone_sound P ends (actor_of k) s.world (omega arith) live h.sound;
+  named = λ j since is.
       let b = gone_live_before P (actor_of k) (actor_of j) s.world h.sound.table is in
-      let n = h.named j b.0 in
+      let n = h.named j since b.0 in
       (n.0, out_other k j s.connections (other_actor j k b.1) ∙ n.1);
   nameless = λ j is. elim (one_or_not j k) [
     | inl same ↦ ap (λ i. entry_of i (without_entry k s.connections)) same ∙ out_gone k s.connections h.names_ascend
@@ -60,6 +56,7 @@ left_live P ends k s live h = record {
         ∙ h.nameless j
         (sym (gone_others_live P (actor_of k) (actor_of j) s.world h.sound.table (other_number j k ne)) ∙ is)
   ];
+  first = first_left k s.connections h.names_ascend h.first;
   names_ascend = ascend_without k s.connections h.names_ascend;
 }
 
@@ -67,8 +64,8 @@ left_dead : (ends : List ℕ) (k : ℕ) (s : State) → is_live (actor_of k) s.w
     → IsHub ends s → IsHub ends (without k s.world s)
 left_dead ends k s dead h = record {
   sound = h.sound;
-  named = λ j is.
-      let n = h.named j is in
+  named = λ j since is.
+      let n = h.named j since is in
       let ne : j ≢ k = λ same. absurd (let f : is_live (actor_of j) s.world.table ≡ false =
       ap (λ i. is_live (actor_of i) s.world.table) same ∙ dead in cc) in
       (n.0, out_other k j s.connections ne ∙ n.1);
@@ -76,6 +73,7 @@ left_dead ends k s dead h = record {
     | inl same ↦ ap (λ i. entry_of i (without_entry k s.connections)) same ∙ out_gone k s.connections h.names_ascend
     | inr ne ↦ out_other k j s.connections ne ∙ h.nameless j is
   ];
+  first = first_left k s.connections h.names_ascend h.first;
   names_ascend = ascend_without k s.connections h.names_ascend;
 }
 
@@ -89,18 +87,19 @@ closed_hub P ends k s h = by (is_live (actor_of k) s.world.table) refl
         (left_dead ends k s dead h)
 
 -- a live connection names other things
-pub with_names : (ends : List ℕ) (k : ℕ) (p : PortsState) (s : State) → is_live (actor_of k) s.world.table ≡ true
+pub with_names : (ends : List ℕ) (k : ℕ) (p : PortsState) (s : State) → 1 ≤ k → is_live (actor_of k) s.world.table ≡ true
     → IsHub ends s → IsHub ends (record s { connections = with_entry k p s.connections })
-with_names ends k p s live h = record {
+with_names ends k p s come live h = record {
   sound = h.sound;
-  named = λ j is. elim (one_or_not j k) [
+  named = λ j since is. elim (one_or_not j k) [
     | inl same ↦ (p, ap (λ i. entry_of i (with_entry k p s.connections)) same ∙ put_found k p s.connections)
-    | inr ne ↦ (let n = h.named j is in (n.0, put_other k j p s.connections ne ∙ n.1))
+    | inr ne ↦ (let n = h.named j since is in (n.0, put_other k j p s.connections ne ∙ n.1))
   ];
   nameless = λ j dead.
       let ne : j ≢ k = λ same. absurd (let f : is_live (actor_of j) s.world.table ≡ true =
       ap (λ i. is_live (actor_of i) s.world.table) same ∙ live in cc) in
       put_other k j p s.connections ne ∙ h.nameless j dead;
+  first = put_other k 0 p s.connections (λ same. absurd (omega (arith, come, same))) ∙ h.first;
   names_ascend = ascend_with k p s.connections h.names_ascend;
 }
 
@@ -108,11 +107,23 @@ with_names ends k p s live h = record {
 pub with_faults : (ends : List ℕ) (s : State) (fs : List (ℕ × Fault)) → IsHub ends s → IsHub ends
     (record s { faults = fs })
 with_faults ends s fs h =
-    record { sound = h.sound; named = h.named; nameless = h.nameless; names_ascend = h.names_ascend }
+    record {
+      sound = h.sound;
+      named = h.named;
+      nameless = h.nameless;
+      first = h.first;
+      names_ascend = h.names_ascend;
+    }
 
 pub with_stop : (ends : List ℕ) (s : State) → IsHub ends s → IsHub ends (record s { stopped = true })
 with_stop ends s h =
-    record { sound = h.sound; named = h.named; nameless = h.nameless; names_ascend = h.names_ascend }
+    record {
+      sound = h.sound;
+      named = h.named;
+      nameless = h.nameless;
+      first = h.first;
+      names_ascend = h.names_ascend;
+    }
 
 pub failed_hub : (P : Endings) (ends : List ℕ) (k : ℕ) (f : Fault) (s : State) → IsHub ends s → IsHub ends
     (failed k f s)
@@ -140,17 +151,47 @@ ended_dead P a w k = by (is_live a w.table) refl
     by true is = ap (λ c. is_live a (cond c (gone a w) w).table) is ∙ gone_not_live P a w k
 
 -- a connection that isn't there isn't live
-not_there : (ends : List ℕ) (k : ℕ) (s : State) → IsHub ends s → is_there k s ≡ false
+not_there : (ends : List ℕ) (k : ℕ) (s : State) → 1 ≤ k → IsHub ends s → is_there k s ≡ false
     → is_live (actor_of k) s.world.table ≡ false
-not_there ends k s h away = by (is_live (actor_of k) s.world.table) refl
+not_there ends k s since h away = by (is_live (actor_of k) s.world.table) refl
   where
     by : (b : Bool) → is_live (actor_of k) s.world.table ≡ b → is_live (actor_of k) s.world.table ≡ false
     by false is = is
     by true is =
-        let n = h.named k is in
+        let n = h.named k since is in
         let there : is_there k s ≡ true =
         ap (λ b. is_some (cond b (entry_of k s.connections) None)) is ∙ ap is_some n.1 in
         absurd cc
+
+-- a watcher ends
+dismissed_hub : (P : Endings) (ends : List ℕ) (a : ℕ) (s : State) → 9 ≤ a → a < 17 → IsHub ends s
+    → IsHub ends (dismissed a s)
+dismissed_hub P ends a s far low h = by (is_live a s.world.table) refl
+  where
+    target : Bool → State
+    target b = record s { world = cond b (gone a s.world) s.world }
+
+    other : (j : ℕ) → 1 ≤ j → actor_of j ≢ a
+    other j since same = absurd (omega (arith, since, low, same))
+
+    nobody : (j : ℕ) → is_live (actor_of j) (gone a s.world).table ≡ false → OneOrNot (actor_of j) a
+        → entry_of j s.connections ≡ None
+    nobody j dead (inl same) = ap (λ i. entry_of i s.connections) (zero_is j same) ∙ h.first
+      where
+        zero_is : (j : ℕ) → actor_of j ≡ a → j ≡ 0
+        zero_is j same = omega (arith, same, low)
+    nobody j dead (inr ne) = h.nameless j (sym (gone_others_live P a (actor_of j) s.world h.sound.table ne) ∙ dead)
+
+    by : (b : Bool) → is_live a s.world.table ≡ b → IsHub ends (dismissed a s)
+    by false dead = subst (λ c. IsHub ends (target c)) (sym dead) h
+    by true live = subst (λ c. IsHub ends (target c)) (sym live) (record {
+      sound = gone_sound P ends a s.world far live h.sound;
+      named = λ j since is. h.named j since
+          (sym (gone_others_live P a (actor_of j) s.world h.sound.table (other j since)) ∙ is);
+      nameless = λ j dead. nobody j dead (one_or_not (actor_of j) a);
+      first = h.first;
+      names_ascend = h.names_ascend;
+    })
 
 -- after it the actor isn't live, and who wasn't before isn't either
 pub record IsOut (ends : List ℕ) (a : ℕ) (s t : State) : Type 0 where
@@ -161,34 +202,39 @@ pub record IsOut (ends : List ℕ) (a : ℕ) (s t : State) : Type 0 where
 number_back : (a : ℕ) → 17 ≤ a → actor_of (a - 16) ≡ a
 number_back a far = omega (arith, far)
 
-spread_hub : (P : Endings) (ends : List ℕ) (x : SpreadOf) (s : State) → 17 ≤ x.actor → IsHub ends s
+spread_hub : (P : Endings) (ends : List ℕ) (x : SpreadOf) (s : State) → 9 ≤ x.actor → IsHub ends s
     → IsOut ends x.actor s (spread_out x s)
-spread_hub P ends x s far h = by (is_there (x.actor - 16) s) refl
+spread_hub P ends x s far h =
+    subst (λ c. IsOut ends x.actor s (cond c s (ending (nat_lt x.actor 17) (is_there (x.actor - 16) s)))) (sym here)
+    (kind (nat_lt x.actor 17) refl)
   where
-    here : leb 17 x.actor ≡ true
+    here : nat_lt x.actor 9 ≡ false
     here = grind (arith, nat_tests, far)
 
-    is_same : actor_of (x.actor - 16) ≡ x.actor
-    is_same = number_back x.actor far
+    ending : Bool → Bool → State
+    ending c b = cond c (dismissed x.actor s) (cond b (failed (x.actor - 16) (Spread x.weight) s) s)
 
-    target : Bool → State
-    target b = cond b (failed (x.actor - 16) (Spread x.weight) s) s
+    by : (b : Bool) → 17 ≤ x.actor → is_there (x.actor - 16) s ≡ b → IsOut ends x.actor s (ending false b)
+    by true high is = record {
+      hub = failed_hub P ends (x.actor - 16) _ s h;
+      out = subst (λ a. is_live a (ended_of (actor_of (x.actor - 16)) s.world).table ≡ false) (number_back x.actor high)
+          (ended_dead P (actor_of (x.actor - 16)) s.world h.sound.table);
+      others = λ b dead. ended_live P (actor_of (x.actor - 16)) b s.world h.sound.table dead;
+    }
+    by false high is = record {
+      hub = h;
+      out = subst (λ a. is_live a s.world.table ≡ false) (number_back x.actor high)
+          (not_there ends (x.actor - 16) s (omega (arith, high)) h is);
+      others = λ b dead. dead;
+    }
 
-    by : (b : Bool) → is_there (x.actor - 16) s ≡ b → IsOut ends x.actor s (spread_out x s)
-    by true is = subst (λ c. IsOut ends x.actor s (target c)) (sym (ap (λ c. c && is_there (x.actor - 16) s) here ∙ is))
-        (record {
-          hub = failed_hub P ends (x.actor - 16) _ s h;
-          out = subst (λ a. is_live a (ended_of (actor_of (x.actor - 16)) s.world).table ≡ false) is_same
-              (ended_dead P (actor_of (x.actor - 16)) s.world h.sound.table);
-          others = λ b dead. ended_live P (actor_of (x.actor - 16)) b s.world h.sound.table dead;
-        })
-    by false is = subst (λ c. IsOut ends x.actor s (target c))
-        (sym (ap (λ c. c && is_there (x.actor - 16) s) here ∙ is))
-        (record {
-          hub = h;
-          out = subst (λ a. is_live a s.world.table ≡ false) is_same (not_there ends (x.actor - 16) s h is);
-          others = λ b dead. dead;
-        })
+    kind : (c : Bool) → nat_lt x.actor 17 ≡ c → IsOut ends x.actor s (ending c (is_there (x.actor - 16) s))
+    kind true is = record {
+      hub = dismissed_hub P ends x.actor s far (grind (arith, nat_tests, is)) h;
+      out = ended_dead P x.actor s.world h.sound.table;
+      others = λ b dead. ended_live P x.actor b s.world h.sound.table dead;
+    }
+    kind false is = by (is_there (x.actor - 16) s) (grind (arith, nat_tests, is)) refl
 
 abbrev AreOut : List ℕ → State → Type 0
 AreOut ends s = AllByRecursion (λ a. is_live a s.world.table ≡ false) ends
@@ -205,7 +251,7 @@ pub record AllOut (ends : List ℕ) (xs : List SpreadOf) (s t : State) : Type 0 
   pub others : (b : ℕ) → is_live b s.world.table ≡ false → is_live b t.world.table ≡ false
 
 all_spread_hub : (P : Endings) (ends : List ℕ) (xs : List SpreadOf) (s : State)
-    → AllByRecursion (λ c. 17 ≤ c) (actors_in xs) → IsHub ends s → AllOut ends xs s (all_spread_out xs s)
+    → AllByRecursion (λ c. 9 ≤ c) (actors_in xs) → IsHub ends s → AllOut ends xs s (all_spread_out xs s)
 all_spread_hub P ends [] s far h = record { hub = h; out = tt; others = λ b dead. dead }
 all_spread_hub P ends (x ∷ xs) s far h =
     let one = spread_hub P ends x s far.0 h in
@@ -291,18 +337,22 @@ settled ends s out h = record {
   sound = record {
     table = h.sound.table;
     always = h.sound.always;
-    no_watchers = h.sound.no_watchers;
+    watchers = h.sound.watchers;
+    watches = h.sound.watches;
     numbers = h.sound.numbers;
     rows = h.sound.rows;
     served = λ a x found. served_none ends s a x h.sound.table out found (is_system a) (h.sound.served a x found);
     met = h.sound.met;
-    known = h.sound.known;
     fresh = h.sound.fresh;
+    residents_ascend = h.sound.residents_ascend;
+    unkept = h.sound.unkept;
     held_ascends = h.sound.held_ascends;
     unheld = h.sound.unheld;
+    system_unheld = h.sound.system_unheld;
   };
   named = h.named;
   nameless = h.nameless;
+  first = h.first;
   names_ascend = h.names_ascend;
 }
 
@@ -319,7 +369,7 @@ all_overrun_hub P ends (k ∷ ks) s h =
     all_overrun_hub P ends ks (failed_where k (overrun_of k s) s) (where_hub P ends k (overrun_of k s) s h)
 
 -- after a step's end nothing is missing
-pub finished_hub : (P : Endings) (xs : List SpreadOf) (s : State) → AllByRecursion (λ c. 17 ≤ c) (actors_in xs)
+pub finished_hub : (P : Endings) (xs : List SpreadOf) (s : State) → AllByRecursion (λ c. 9 ≤ c) (actors_in xs)
     → IsHub (actors_in xs) s → IsHub [] (finished xs s)
 finished_hub P xs s far h =
     let out = all_spread_hub P (actors_in xs) xs s far h in

@@ -56,4 +56,5 @@ have_ended ds steps may =
       owners = h.sound.table.owners_live;
       names = λ k dead. h.nameless k dead;
       got = λ k dead. h.sound.unheld (actor_of k) dead;
+      watchers = h.sound.unkept;
     }

@@ -1,5 +1,5 @@
 -- A world that an actor has left is sound.
-use Rattle.std.proofs.Common.{◌≡◌, ◌≢◌, ℕ, ◌+◌, ◌≤◌, List, [], ◌∷◌, Bool, true, false, cond, not, Some}
+use Rattle.std.proofs.Common.{◌≡◌, ◌≢◌, ℕ, ◌<◌, ◌≤◌, List, [], ◌∷◌, Bool, true, false, cond, not, Some}
 use Rattle.std.proofs.Common.{refl, sym, ap, ◌∙◌, subst, arith, eqb, ◌⊎◌, inl, inr}
 use Rattle.std.specs.Prelude.{unwrap_or}
 use Rattle.std.specs.List.{AllByRecursion, filter}
@@ -10,13 +10,17 @@ use Rattle.ac_table.specs.declared.batches.Batch.{Batch}
 use Rattle.ac_table.specs.Tables.{Actor, IsTable, find_actor, is_live, ended, rows_of}
 use Rattle.ac_table.specs.Tables.{rows_of_others}
 use Rattle.ac_world.specs.Outboxes.{told_to, retractions}
-use Rattle.ac_world.specs.Worlds.{WorldState, resident_of, held_by, entry_of, without_entry, is_system, gone}
+use Rattle.ac_world.specs.Watchers.{watcher_of}
+use Rattle.ac_world.specs.Worlds.{WorldState, Resident, resident_of, held_by, entry_of, without_entry, is_system, gone}
+use Rattle.ac_world.specs.Worlds.{no_resident}
 use Rattle.ac_world.specs.Lemmas.Entries.{out_other, out_gone, ascend_without}
 use Rattle.ac_world.specs.Behaviours.{behaviour_of}
 use Rattle.hub_laws.specs.Standing.{value_alone, at_object}
 use Rattle.hub_laws.specs.Wanting.{IsMet}
 use Rattle.hub_laws.proofs.Asked.{MetKept, OthersFound, OthersKeep}
-use Rattle.hub_laws.proofs.Kept.{IsGood, IsServedBy, IsServed, IsSound}
+use Rattle.hub_laws.proofs.EndingActors.{own_spare, retractions_fit}
+use Rattle.hub_laws.proofs.Fresh.{TellsOfRows, none_told, quiet_posted, retractions_of_rows}
+use Rattle.hub_laws.proofs.Kept.{IsGood, IsServedBy, IsServed, IsSound, IsFresh, IsMetIn}
 use Rattle.hub_laws.proofs.Promised.{PostedTo, PostedTable, ServedAfterEnd, RetractionsAscend, EndedTable, IsPostedTo}
 
 -- what the lemmas of other parts give
@@ -61,13 +65,12 @@ found_before a b (x ∷ xs) y is = by (eqb x.number a) (eqb x.number b) refl ref
     )
     by false false p q is later = later (rw q at is)
 
-all_others : (n a : ℕ) (rows : List Row) → AllByRecursion (IsGood n) rows → AllByRecursion (IsGood n)
-    (rows_of_others a rows)
-all_others n a [] all = tt
-all_others n a (r ∷ rs) all = by (eqb r.owner a) (all_others n a rs all.1)
+all_others : (a : ℕ) (rows : List Row) → AllByRecursion IsGood rows → AllByRecursion IsGood (rows_of_others a rows)
+all_others a [] all = tt
+all_others a (r ∷ rs) all = by (eqb r.owner a) (all_others a rs all.1)
   where
-    by : (c : Bool) → AllByRecursion (IsGood n) (rows_of_others a rs)
-        → AllByRecursion (IsGood n) (cond (not c) (r ∷ rows_of_others a rs) (rows_of_others a rs))
+    by : (c : Bool) → AllByRecursion IsGood (rows_of_others a rs)
+        → AllByRecursion IsGood (cond (not c) (r ∷ rows_of_others a rs) (rows_of_others a rs))
     by true later = later
     by false later = (all.0, later)
 
@@ -93,24 +96,34 @@ gone_live_before P a b w k is = elim (one_or_not b a) [
   | inr ne ↦ (sym (gone_others_live P a b w k ne) ∙ is, ne)
 ]
 
-served_in : (P : Endings) (ends : List ℕ) (a b : ℕ) (w : WorldState) (old new : List Batch) → IsTable w.table → b ≢ a
+-- what another actor keeps, and what was delivered to it, stays
+other_kept : (a b : ℕ) (w : WorldState) → b ≢ a → resident_of b (gone a w) ≡ resident_of b w
+other_kept a b w ne = ap (λ o. unwrap_or o no_resident) (out_other a b w.residents ne)
+
+other_held : (a b : ℕ) (w : WorldState) → b ≢ a → held_by b (gone a w) ≡ held_by b w
+other_held a b w ne = ap (λ o. unwrap_or o []) (out_other a b w.held ne)
+
+served_rest : {X : Type 0} (P : Endings) (f : ℕ → Plain → X) (ends : List ℕ) (a b : ℕ) (w : WorldState)
+    (before after : List (ℕ × X)) (old new : List Batch) → IsTable w.table → AllByRecursion IsGood w.table.rows
+    → after ≡ before → IsPostedTo a (told_to b (retractions (rows_of a w.table.rows) [])) old new
+    → IsServedBy f ends w.table.rows w.table.next b before old
+    → IsServedBy f ends (gone a w).table.rows (gone a w).table.next b after new
+served_rest {X = X} P f ends a b w before after old new k good same is s =
+    let q = P.posted_table a (retractions (rows_of a w.table.rows) []) (ended a w.table) in
+    subst (λ got. IsServedBy f ends (gone a w).table.rows (gone a w).table.next b got new) (sym same)
+    (subst (λ rows. IsServedBy f ends rows (gone a w).table.next b before new) (sym q.0)
+    (subst (λ n. IsServedBy f ends (rows_of_others a w.table.rows) n b before new) (sym q.1)
+    (P.served_after_end X f ends a b w.table before old new k good s is)))
+
+served_in : (P : Endings) (ends : List ℕ) (a b : ℕ) (w : WorldState) (old new : List Batch) → IsTable w.table
+    → AllByRecursion IsGood w.table.rows → b ≢ a
     → IsPostedTo a (told_to b (retractions (rows_of a w.table.rows) [])) old new → (s : Bool) → IsServed ends b old w s
     → IsServed ends b new (gone a w) s
-served_in P ends a b w old new k ne is true s =
-    let q = P.posted_table a (retractions (rows_of a w.table.rows) []) (ended a w.table) in
-    subst (λ rows. IsServedBy value_alone ends (16 + w.opened) rows (gone a w).table.next b (resident_of b w).got new)
-    (sym q.0)
-    (subst (λ n. IsServedBy value_alone ends (16 + w.opened) (rows_of_others a w.table.rows) n b
-    (resident_of b w).got new)
-    (sym q.1)
-    (P.served_after_end Plain value_alone ends (16 + w.opened) a b w.table (resident_of b w).got old new k s is))
-served_in P ends a b w old new k ne is false s =
-    let q = P.posted_table a (retractions (rows_of a w.table.rows) []) (ended a w.table) in
-    let same : held_by b w ≡ held_by b (gone a w) = sym (ap (λ o. unwrap_or o []) (out_other a b w.held ne)) in
-    subst (λ got. IsServedBy at_object ends (16 + w.opened) (gone a w).table.rows (gone a w).table.next b got new) same
-    (subst (λ rows. IsServedBy at_object ends (16 + w.opened) rows (gone a w).table.next b (held_by b w) new) (sym q.0)
-    (subst (λ n. IsServedBy at_object ends (16 + w.opened) (rows_of_others a w.table.rows) n b (held_by b w) new)
-    (sym q.1) (P.served_after_end _ at_object ends (16 + w.opened) a b w.table (held_by b w) old new k s is)))
+served_in P ends a b w old new k good ne is true s =
+    served_rest P value_alone ends a b w (resident_of b w).got (resident_of b (gone a w)).got old new k good
+    (ap (λ (r : Resident). r.got) (other_kept a b w ne)) is s
+served_in P ends a b w old new k good ne is false s =
+    served_rest P at_object ends a b w (held_by b w) (held_by b (gone a w)) old new k good (other_held a b w ne) is s
 
 served_gone : (P : Endings) (ends : List ℕ) (a : ℕ) (w : WorldState) → IsSound ends w → (b : ℕ) (x : Actor)
     → find_actor b (gone a w).table.actors ≡ Some x → IsServed ends b x.inbox (gone a w) (is_system b)
@@ -118,36 +131,73 @@ served_gone P ends a w k b x found =
     let out = retractions (rows_of a w.table.rows) [] in
     let y = P.posted_to a b out (ended a w.table) x (P.retractions_ascend a w.table.rows) found in
     let before = found_before a b w.table.actors y.0 y.1 in
-    served_in P ends a b w y.0.inbox x.inbox k.table before.1 y.2 (is_system b) (k.served b y.0 before.0)
+    served_in P ends a b w y.0.inbox x.inbox k.table k.rows before.1 y.2 (is_system b) (k.served b y.0 before.0)
 
-pub gone_sound : (P : Endings) (ends : List ℕ) (a : ℕ) (w : WorldState) → 17 ≤ a → w.opened ≢ 0 → IsSound ends w
-    → IsSound ends (gone a w)
-gone_sound P ends a w far some k =
+-- the wants of others stay met
+met_gone : (P : Endings) (a b : ℕ) (w : WorldState) → IsTable w.table → b ≢ a → IsMetIn w w.table.rows b
+    → IsMetIn (gone a w) (rows_of_others a w.table.rows) b
+met_gone P a b w k ne m =
+    subst (λ (r : Resident). IsMet (behaviour_of w.schema w.bindings w.watches b) (watcher_of b w.watches) b r
+    (rows_of_others a w.table.rows)) (sym (other_kept a b w ne))
+    (P.met_kept (behaviour_of w.schema w.bindings w.watches b) (watcher_of b w.watches) b (resident_of b w)
+    w.table.rows (rows_of_others a w.table.rows) m
+    (λ h r own found. P.others_keep a h w.table.rows r found (λ same. ne (sym own ∙ same)))
+    (λ h r own found. (P.others_found a h w.table.rows r k.rows_ascend found).0))
+
+-- before the first connection comes only a watcher ends
+fresh_gone : (P : Endings) (ends : List ℕ) (a : ℕ) (w : WorldState) → 9 ≤ a → is_live a w.table ≡ true
+    → IsSound ends w → w.opened ≡ 0 → IsFresh (gone a w)
+fresh_gone P ends a w far live k none =
+    let f = k.fresh none in
+    let rows = rows_of a w.table.rows in
+    let out = retractions rows [] in
+    let of : TellsOfRows out = retractions_of_rows rows [] (λ b. tt) in
+    let low : a < 17 = omega (arith, k.numbers a live, none) in
+    let ne : 0 ≢ a = λ same. absurd (omega (arith, far, same)) in
+    record {
+      got = ap (λ (r : Resident). r.got) (other_kept a 0 w ne) ∙ f.got;
+      inboxes = quiet_posted a out (ended a w.table) (P.retractions_ascend a w.table.rows) of
+          (none_told a [] (told_to 0 out) low (of 0)
+          (retractions_fit a 0 [] rows [] (own_spare a w.table.rows k.rows) tt))
+          (record {
+            none = λ x found. f.inboxes.none x (found_before a 0 w.table.actors x found).0;
+            of_rows = λ b x found. f.inboxes.of_rows b x (found_before a b w.table.actors x found).0;
+          });
+    }
+
+pub gone_sound : (P : Endings) (ends : List ℕ) (a : ℕ) (w : WorldState) → 9 ≤ a → is_live a w.table ≡ true
+    → IsSound ends w → IsSound ends (gone a w)
+gone_sound P ends a w far live k =
     let q = P.posted_table a (retractions (rows_of a w.table.rows) []) (ended a w.table) in
     record {
       table = q.3 (P.ended_table a w.table k.table).0;
       always = λ b l. gone_others_live P a b w k.table (λ same. absurd (omega (arith, l, far, same))) ∙ k.always b l;
-      no_watchers = λ b l m. gone_others_live P a b w k.table (λ same. absurd (omega (arith, m, far, same)))
-          ∙ k.no_watchers b l m;
+      watchers = λ b l is. k.watchers b l (gone_live_before P a b w k.table is).0;
+      watches = k.watches;
       numbers = λ b is. k.numbers b (gone_live_before P a b w k.table is).0;
-      rows = subst (AllByRecursion (IsGood (16 + w.opened))) (sym q.0)
-          (all_others (16 + w.opened) a w.table.rows k.rows);
+      rows = subst (AllByRecursion IsGood) (sym q.0) (all_others a w.table.rows k.rows);
       served = served_gone P ends a w k;
-      met = λ b is.
-          let ne : b ≢ a = λ same. absurd (omega (arith, is, far, same)) in
-          subst (IsMet (behaviour_of w.schema w.bindings b) b (resident_of b w)) (sym q.0)
-          (P.met_kept (behaviour_of w.schema w.bindings b) b (resident_of b w) w.table.rows
-          (rows_of_others a w.table.rows)
-          (k.met b is)
-          (λ h r own found. P.others_keep a h w.table.rows r found (λ same. ne (sym own ∙ same)))
-          (λ h r own found. (P.others_found a h w.table.rows r k.table.rows_ascend found).0));
-      known = k.known;
-      fresh = λ none. absurd (some none);
+      met = λ b l is.
+          let before = gone_live_before P a b w k.table is in
+          subst (λ rows. IsMetIn (gone a w) rows b) (sym q.0)
+          (met_gone P a b w k.table before.1 (k.met b l before.0));
+      fresh = fresh_gone P ends a w far live k;
+      residents_ascend = ascend_without a w.residents k.residents_ascend;
+      unkept = λ b is. elim (one_or_not b a) [
+        | inl same ↦
+            ap (λ c. entry_of c (without_entry a w.residents)) same ∙ out_gone a w.residents k.residents_ascend
+        | inr ne ↦
+            out_other a b w.residents ne ∙ k.unkept b (sym (gone_others_live P a b w k.table ne) ∙ is)
+      ];
       held_ascends = ascend_without a w.held k.held_ascends;
       unheld = λ b is. elim (one_or_not b a) [
         | inl same ↦
             ap (λ c. entry_of c (without_entry a w.held)) same ∙ out_gone a w.held k.held_ascends
         | inr ne ↦
             out_other a b w.held ne ∙ k.unheld b (sym (gone_others_live P a b w k.table ne) ∙ is)
+      ];
+      system_unheld = λ b low. elim (one_or_not b a) [
+        | inl same ↦ ap (λ c. entry_of c (without_entry a w.held)) same ∙ out_gone a w.held k.held_ascends
+        | inr ne ↦ out_other a b w.held ne ∙ k.system_unheld b low
       ];
     }

@@ -1,11 +1,13 @@
 pub mod Arriving
 pub mod Asked
 pub mod Bags
+pub mod Beginning
 pub mod Committing
 pub mod Distinct
 pub mod EndingActors
 pub mod Finding
 pub mod FirstActors
+pub mod Fresh
 pub mod FromScratch
 pub mod Good
 pub mod Growing
@@ -14,7 +16,6 @@ pub mod Hubs
 pub mod Joining
 pub mod Kept
 pub mod Keys
-pub mod Knowing
 pub mod LawsHold
 pub mod Leaving
 pub mod Lists
@@ -44,4 +45,7 @@ pub mod Turning
 pub mod Turns
 pub mod Uncounted
 pub mod Wanted
+pub mod WatchersLeave
+pub mod Watching
 pub mod WhoLeaves
+pub mod Zeroth

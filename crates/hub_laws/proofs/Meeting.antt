@@ -1,5 +1,5 @@
 -- A system actor's rows follow its wants.
-use Rattle.std.proofs.Common.{◌≡◌, ℕ, ◌<◌, ◌≤◌, ◌==◌, List, [], ◌∷◌, ◌++◌, map, Bool, true, false, cond, ◌&&◌, ◌||◌}
+use Rattle.std.proofs.Common.{◌≡◌, ℕ, ◌==◌, List, [], ◌∷◌, ◌++◌, map, Bool, true, false, cond, ◌&&◌, ◌||◌}
 use Rattle.std.proofs.Common.{not, Option, Some, None, is_some, refl, ap, sym, ◌∙◌, subst, arith}
 use Rattle.std.specs.List.{AllByRecursion, IsDistinct}
 use Rattle.std.specs.Map.{keys_of, values_of}
@@ -37,8 +37,9 @@ use Rattle.hub_laws.proofs.Good.{with_trees_good, put_good, dropped_good}
 use Rattle.hub_laws.proofs.Keys.{lookup-insert_entry, lookup-without_entry, insert_entry_ascends, remove_entry_ascends}
 use Rattle.hub_laws.proofs.Moving.{with_trees_moves, put_moves, dropped_moves}
 use Rattle.hub_laws.proofs.Owned.{HasRows, rows_of_met, met_of_rows, rows_same, rows_less, rows_more}
-use Rattle.ac_world.specs.Lemmas.Asking.{without_ascends, among_without}
+use Rattle.ac_watch.specs.Lemmas.Alone.{without_ascends, among_without}
 use Rattle.ac_world.specs.Behaviours.{Behaviour}
+use Rattle.ac_world.specs.declared.watched.Watched.{Watched}
 use Rattle.ac_world.specs.Systems.{changes}
 use Rattle.hub_laws.proofs.Wanted.{came_aimed}
 use Rattle.hub_laws.proofs.Passing.{among_passing, passing_ascends}
@@ -70,11 +71,11 @@ all_changed-append y a (c ∷ cs) ds u = all_changed-append y a cs ds (changed_b
 
 -- ---- a turn whose rows fit its keys
 
-record Meets (y : Behaviour) (n a : ℕ) (t : TableState) (u : Turning) : Type 1 where
+record Meets (y : Behaviour) (o : Option Watched) (a : ℕ) (t : TableState) (u : Turning) : Type 1 where
   pub moves : Moves a t u.plan
-  pub good : AreGood n a u.plan
+  pub good : AreGood a u.plan
   pub ascend : Ascend (keys_of u.resident.handles)
-  pub rows : HasRows y a u.resident.handles u.plan.table.rows
+  pub rows : HasRows y o a u.resident.handles u.plan.table.rows
 
 abbrev has_key : Plain → Turning → Bool
 has_key q u = among q (keys_of u.resident.handles)
@@ -84,19 +85,20 @@ among_found q met = sym (is_some-lookup (same q) met)
 
 -- ---- facets change
 
-module _ (y : Behaviour) (n a : ℕ) (t : TableState) (g : Option Plain) (u : Turning) (m : Meets y n a t u) where
-  vacating_meets : Meets y n a t (vacating a g u)
+module _ (y : Behaviour) (o : Option Watched) (a : ℕ) (t : TableState) (g : Option Plain) (u : Turning)
+    (m : Meets y o a t u) where
+  vacating_meets : Meets y o a t (vacating a g u)
   vacating_meets = record {
     moves = with_trees_moves a t u.plan (vacated a g u.resident.facets u.plan.table).trees m.moves;
-    good = with_trees_good n a u.plan (vacated a g u.resident.facets u.plan.table).trees m.good;
+    good = with_trees_good a u.plan (vacated a g u.resident.facets u.plan.table).trees m.good;
     ascend = m.ascend;
     rows = m.rows;
   }
 
-  housing_meets : Meets y n a t (housing a g u)
+  housing_meets : Meets y o a t (housing a g u)
   housing_meets = record {
     moves = with_trees_moves a t u.plan (housed a g u.resident.facets u.plan.table).trees m.moves;
-    good = with_trees_good n a u.plan (housed a g u.resident.facets u.plan.table).trees m.good;
+    good = with_trees_good a u.plan (housed a g u.resident.facets u.plan.table).trees m.good;
     ascend = m.ascend;
     rows = m.rows;
   }
@@ -112,8 +114,8 @@ dropped_rows a h p r found own =
     ∙ ap (λ b. (cond b (drop_row r p) p).table.rows) owns
     ∙ ap (λ g. without_row g p.table.rows) (found_handle h p.table.rows r found)
 
-module _ (y : Behaviour) (n a : ℕ) (t : TableState) where
-  module _ (k : Plain) (u : Turning) (m : Meets y n a t u) where
+module _ (y : Behaviour) (o : Option Watched) (a : ℕ) (t : TableState) where
+  module _ (k : Plain) (u : Turning) (m : Meets y o a t u) where
     left_found : (q : Plain) → handle_for q (row_gone a k u).resident.handles
         ≡ cond (same k q) None (handle_for q u.resident.handles)
     left_found q = lookup-without_entry order_total order_same q k u.resident.handles m.ascend
@@ -130,10 +132,10 @@ module _ (y : Behaviour) (n a : ℕ) (t : TableState) where
         by false None = refl
         by false (Some h) = refl
 
-    left_rows : (o : Option ℕ) → handle_for k u.resident.handles ≡ o
-        → HasRows y a (row_gone a k u).resident.handles (drop_met a o u.plan).table.rows
+    left_rows : (h : Option ℕ) → handle_for k u.resident.handles ≡ h
+        → HasRows y o a (row_gone a k u).resident.handles (drop_met a h u.plan).table.rows
     left_rows None none =
-        rows_same y a u.resident.handles (row_gone a k u).resident.handles u.plan.table.rows
+        rows_same y o a u.resident.handles (row_gone a k u).resident.handles u.plan.table.rows
         (λ q. left_found q ∙ by q (same k q) refl) m.rows
       where
         by : (q : Plain) (b : Bool) → same k q ≡ b
@@ -142,12 +144,12 @@ module _ (y : Behaviour) (n a : ℕ) (t : TableState) where
         by q false e = refl
     left_rows (Some h) found =
         let met = m.rows.stand k h found in
-        rows_less y a u.resident.handles u.plan.table.rows m.rows k h found (row_gone a k u).resident.handles
+        rows_less y o a u.resident.handles u.plan.table.rows m.rows k h found (row_gone a k u).resident.handles
         (dropped a h u.plan).table.rows left_found
         (λ g. ap (find_row g) (dropped_rows a h u.plan met.row met.stands met.fits.owner)
         ∙ find_row-without g h u.plan.table.rows)
 
-    row_gone_meets : Meets y n a t (row_gone a k u)
+    row_gone_meets : Meets y o a t (row_gone a k u)
     row_gone_meets = record {
       moves = moves (handle_for k u.resident.handles);
       good = good (handle_for k u.resident.handles);
@@ -159,19 +161,19 @@ module _ (y : Behaviour) (n a : ℕ) (t : TableState) where
         moves None = m.moves
         moves (Some h) = dropped_moves a t u.plan m.moves h
 
-        good : (o : Option ℕ) → AreGood n a (drop_met a o u.plan)
+        good : (o : Option ℕ) → AreGood a (drop_met a o u.plan)
         good None = m.good
-        good (Some h) = dropped_good n a t u.plan m.moves m.good h
+        good (Some h) = dropped_good a t u.plan m.moves m.good h
 
-    left_meets : Meets y n a t (left y a k u)
-    left_meets = vacating_meets y n a t (y.group k) (row_gone a k u) row_gone_meets
+    left_meets : Meets y o a t (left y a k u)
+    left_meets = vacating_meets y o a t (y.group k) (row_gone a k u) row_gone_meets
 
   -- and all that leave
   record HaveLeft (ks : List Plain) (u v : Turning) : Type 1 where
-    pub meets : Meets y n a t v
+    pub meets : Meets y o a t v
     pub keys : (q : Plain) → has_key q v ≡ (has_key q u && not (among q ks))
 
-  all_left : (ks : List Plain) (u : Turning) → Meets y n a t u → HaveLeft ks u (all_changed y a (map Left ks) u)
+  all_left : (ks : List Plain) (u : Turning) → Meets y o a t u → HaveLeft ks u (all_changed y a (map Left ks) u)
   all_left [] u m = record { meets = m; keys = λ q. by (has_key q u) }
     where
       by : (b : Bool) → b ≡ (b && true)
@@ -198,8 +200,8 @@ none_from : {X : Type 0} (o : Option X) → is_some o ≡ false → o ≡ None
 none_from None e = refl
 none_from (Some x) e = absurd cc
 
-module _ (y : Behaviour) (n a : ℕ) (t : TableState) (low : a < 9) (live : is_live a t ≡ true) where
-  module _ (k : Plain) (u : Turning) (m : Meets y n a t u) (known : IsAimed y n k) (aim : Aim)
+module _ (y : Behaviour) (o : Option Watched) (a : ℕ) (t : TableState) (live : is_live a t ≡ true) where
+  module _ (k : Plain) (u : Turning) (m : Meets y o a t u) (known : IsAimed y a k) (aim : Aim)
       (aimed : y.aim k ≡ Some aim) where
     placed_found : (q : Plain)
         → handle_for q (came_at a (y.group k) k (Some aim) u).resident.handles
@@ -218,15 +220,14 @@ module _ (y : Behaviour) (n a : ℕ) (t : TableState) (low : a < 9) (live : is_l
         by false o = refl
 
     -- the row comes in any facet
-    row_come_meets : (facet : ℕ) → has_key k u ≡ false → Meets y n a t (row_come a facet k aim u)
+    row_come_meets : (facet : ℕ) → has_key k u ≡ false → Meets y o a t (row_come a facet k aim u)
     row_come_meets facet new = record {
       moves = put_moves a t u.plan m.moves live facet aim.at.actor aim.at.entity aim.value;
       good =
-          put_good n a t u.plan m.moves m.good facet aim.at.actor aim.at.entity aim.value (λ l. goes.0) goes.1
-          (λ l. absurd (let f = goes.0 in omega arith));
+          put_good a t u.plan m.moves m.good facet aim.at.actor aim.at.entity aim.value (known aim aimed);
       ascend = insert_entry_ascends order_total order_same k u.plan.table.next u.resident.handles m.ascend;
       rows =
-          rows_more y a u.resident.handles u.plan.table.rows m.rows k u.plan.table.next
+          rows_more y o a u.resident.handles u.plan.table.rows m.rows k u.plan.table.next
           (row_next a facet aim.at.actor aim.at.entity aim.value u.plan.table)
           (none_from (handle_for k u.resident.handles) (sym (among_found k u.resident.handles) ∙ new))
           (none_from_next u.plan.table.next u.plan.table m.moves.table (omega arith))
@@ -241,25 +242,22 @@ module _ (y : Behaviour) (n a : ℕ) (t : TableState) (low : a < 9) (live : is_l
           (row_come a facet k aim u).resident.handles (row_come a facet k aim u).plan.table.rows placed_found
           (λ h. find_row-asserted h a facet aim.at.actor aim.at.entity aim.value u.plan.table m.moves.table);
     }
-      where
-        goes : (9 ≤ aim.at.actor) × (aim.at.actor ≤ n)
-        goes = known aim aimed
 
   -- and it comes in the facet of its group
-  came_meets : (k : Plain) (u : Turning) → Meets y n a t u → IsAimed y n k → (aim : Aim) → y.aim k ≡ Some aim
-      → has_key k u ≡ false → Meets y n a t (came y a k u)
+  came_meets : (k : Plain) (u : Turning) → Meets y o a t u → IsAimed y a k → (aim : Aim) → y.aim k ≡ Some aim
+      → has_key k u ≡ false → Meets y o a t (came y a k u)
   came_meets k u m known aim aimed new =
-      subst (λ o. Meets y n a t (came_at a (y.group k) k o u)) (sym aimed)
-      (row_come_meets k (housing a (y.group k) u) (housing_meets y n a t (y.group k) u m) known aim aimed
+      subst (λ p. Meets y o a t (came_at a (y.group k) k p u)) (sym aimed)
+      (row_come_meets k (housing a (y.group k) u) (housing_meets y o a t (y.group k) u m) known aim aimed
       (housed a (y.group k) u.resident.facets u.plan.table).facet new)
 
   -- and all that come, of which those have a row that pass
   record HaveCome (ks : List Plain) (u v : Turning) : Type 1 where
-    pub meets : Meets y n a t v
+    pub meets : Meets y o a t v
     pub keys : (q : Plain) → has_key q v ≡ (among q (passing y ks) || has_key q u)
 
-  all_came : (ks : List Plain) (u : Turning) → IsDistinct (eq_by_cmp order) ks → AllByRecursion (IsAimed y n) ks
-      → ((q : Plain) → among q ks ≡ true → has_key q u ≡ false) → Meets y n a t u
+  all_came : (ks : List Plain) (u : Turning) → IsDistinct (eq_by_cmp order) ks → AllByRecursion (IsAimed y a) ks
+      → ((q : Plain) → among q ks ≡ true → has_key q u ≡ false) → Meets y o a t u
       → HaveCome ks u (all_changed y a (map Came ks) u)
   all_came [] u d aimed fresh m = record { meets = m; keys = λ q. refl }
   all_came (k ∷ ks) u d aimed fresh m =
@@ -290,8 +288,8 @@ module _ (y : Behaviour) (n a : ℕ) (t : TableState) (low : a < 9) (live : is_l
       through : (aim : Aim) → y.aim k ≡ Some aim → passing y (k ∷ ks) ≡ k ∷ passing y ks
       through aim is = ap (λ (o : Option Aim). cond (is_some o) (k ∷ passing y ks) (passing y ks)) is
 
-      by : (o : Option Aim) → y.aim k ≡ o
-          → ((v : Turning) → ((q : Plain) → among q ks ≡ true → has_key q v ≡ false) → Meets y n a t v
+      by : (p : Option Aim) → y.aim k ≡ p
+          → ((v : Turning) → ((q : Plain) → among q ks ≡ true → has_key q v ≡ false) → Meets y o a t v
           → HaveCome ks v (all_changed y a (map Came ks) v))
           → HaveCome (k ∷ ks) u (all_changed y a (map Came (k ∷ ks)) u)
       by None is others =
@@ -337,23 +335,23 @@ absent true true a x e = absurd cc
 absent true false a x e = refl
 
 pub regot_met : (y : Behaviour) → RegotMet y
-regot_met y law a n t u rows low nine live moves good met known =
+regot_met y o a law t u rows live moves good met =
     let before = y.keys (values_of u.resident.got) in
     let after = y.keys (values_of rows) in
     let gone = without before after in
     let new = without after before in
     let rise : Ascend before = law.ascend (values_of u.resident.got) in
     let rise_after : Ascend after = law.ascend (values_of rows) in
-    let begun : Meets y n a t (with_rows rows u) = record {
+    let begun : Meets y o a t (with_rows rows u) = record {
       moves = moves;
       good = good;
       ascend = subst Ascend (sym met.keys) (passing_ascends y before rise);
-      rows = rows_of_met y a u.resident u.plan.table.rows met;
+      rows = rows_of_met y o a u.resident u.plan.table.rows met;
     } in
     let passes : Plain → Bool = λ q. is_some (y.aim q) in
     let had : (q : Plain) → has_key q (with_rows rows u) ≡ (passes q && among q before) =
     λ q. ap (among q) met.keys ∙ among_passing y q before in
-    let l = all_left y n a t gone (with_rows rows u) begun in
+    let l = all_left y o a t gone (with_rows rows u) begun in
     let mid = all_changed y a (map Left gone) (with_rows rows u) in
     let mid_keys : (q : Plain)
     → has_key q mid ≡ ((passes q && among q before) && not (not (among q after) && among q before)) =
@@ -361,9 +359,9 @@ regot_met y law a n t u rows low nine live moves good met known =
     let fresh : (q : Plain) → among q new ≡ true → has_key q mid ≡ false =
     λ q e. mid_keys q ∙ absent (passes q) (among q before) (among q after) _ (sym (among_without q after before) ∙ e) in
     let c =
-    all_came y n a t low live new mid
+    all_came y o a t live new mid
     (IsDistinct-from_sorted order new (without_ascends after before rise_after rise))
-    (came_aimed y law n (values_of rows) before known) fresh l.meets in
+    (came_aimed y a law (values_of rows) before) fresh l.meets in
     let last = all_changed y a (map Came new) mid in
     let kept = all_changed_keeps y a (changes before after) (with_rows rows u) in
     let steps : regot y a rows u ≡ last =
@@ -374,12 +372,12 @@ regot_met y law a n t u rows low nine live moves good met known =
     ∙ (λ i. (among_passing y q new ∙ ap (λ b. passes q && b) (among_without q after before)) i || mid_keys q i)
     ∙ exchanged (passes q) (among q before) (among q after)
     ∙ sym (among_passing y q after)) in
-    let is_met : IsMet y a last.resident last.plan.table.rows =
-    met_of_rows y a last.resident last.plan.table.rows
+    let is_met : IsMet y o a last.resident last.plan.table.rows =
+    met_of_rows y o a last.resident last.plan.table.rows
     (keys ∙ ap (λ (r : Rows). passing y (y.keys (values_of r)))
     (sym (ap (λ (v : Turning). v.resident.got) (sym steps) ∙ kept.0)))
     c.meets.rows in
-    subst (λ (v : Turning). Moves a t v.plan × AreGood n a v.plan × IsMet y a v.resident v.plan.table.rows
+    subst (λ (v : Turning). Moves a t v.plan × AreGood a v.plan × IsMet y o a v.resident v.plan.table.rows
     × (v.resident.got ≡ rows) × (v.spreads ≡ u.spreads)) (sym steps) (
       c.meets.moves,
       c.meets.good,

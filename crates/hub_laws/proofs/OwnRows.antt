@@ -169,7 +169,7 @@ pair_found exports n (Some r) = pair_of_row exports n r
 
 module _ (y : Behaviour) (exports : List Plain) (n d : ℕ) (met : List (Plain × ℕ)) (rows : List Row)
     (rise : Ascend rows)
-    (keys : IsDistinct same (keys_of met)) (has : HasRows y d met rows) where
+    (keys : IsDistinct same (keys_of met)) (has : HasRows y None d met rows) where
   abbrev is_own : Row → Bool
   is_own r = (r.target == actor_of n) && (r.owner == d)
 

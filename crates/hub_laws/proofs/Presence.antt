@@ -6,23 +6,25 @@ use Rattle.std.specs.List.{AllByRecursion}
 use Rattle.ps_schema.specs.declared.Definition.{Definition}
 use Rattle.ac_table.specs.Tables.{is_live}
 use Rattle.ac_world.specs.Turns.{turn}
-use Rattle.ac_world.specs.Worlds.{WorldState, actor_of, entry_of, without_entry, ended_of, sent}
+use Rattle.ac_world.specs.declared.watched.Watched.{Watched}
+use Rattle.ac_world.specs.Worlds.{WorldState, actor_of, entry_of, without_entry, ended_of, sent, watching}
 use Rattle.ac_world.specs.Lemmas.Entries.{each_with, each_without, each_found}
 use Rattle.rl_ports.specs.Ports.{PortsState, ports_to, with_exports}
 use Rattle.hub_machine.specs.declared.faults.Fault.{Fault}
 use Rattle.hub_machine.specs.State.{State, opening, is_there}
 use Rattle.hub_machine.specs.Admission.{Admitting}
-use Rattle.hub_machine.specs.Endings.{nameless, closed, failed}
-use Rattle.hub_machine.specs.Machine.{opened, accepted, exports_after, actor_reference}
+use Rattle.hub_machine.specs.Endings.{nameless, closed, failed, dismissed}
+use Rattle.hub_machine.specs.Machine.{is_unwatchable, opened, accepted, exports_after, actor_reference}
 use Rattle.hub_machine.specs.Replays.{replay}
 use Rattle.hub_machine.specs.declared.steps.Step.{Step}
 use Rattle.hub_valid.specs.Validity.{HasCome}
 use Rattle.hub_valid.specs.Lemmas.AnyStep.{Keeps, run_keeps}
-use Rattle.hub_valid.specs.Lemmas.Lasting.{Lasts, lasts_sent, lasts_turn}
+use Rattle.hub_valid.specs.Lemmas.Lasting.{Lasts, lasts_sent, lasts_turn, later_watching}
 use Rattle.hub_valid.specs.Lemmas.Lives.{live_placed, live_ended, next_ended, opened_ended}
 use Rattle.hub_valid.specs.Lemmas.Values.{all_weaker}
 use Rattle.hub_laws.specs.Presence.{HasEnded}
 use Rattle.hub_laws.specs.Laws.{Presence, Handles}
+use Rattle.hub_laws.proofs.Beginning.{may_begin}
 use Rattle.hub_laws.proofs.Opening.{replay_hub}
 
 -- ---- the next handle
@@ -37,8 +39,10 @@ module _ (n : ℕ) where
   keeps_from : Keeps IsFrom
   keeps_from = record {
     binds = λ b s is l. l;
+    watches = λ x s is l. let more = later_watching x s.world in omega (arith, l, more);
     opens = λ space s l. l;
     fails = λ k f s there l. ended_from (actor_of k) s.world l;
+    dismisses = λ a s high low l. ended_from a s.world l;
     closes = λ k s there l. ended_from (actor_of k) s.world l;
     accepts = λ k x s there l.
         let lasts : Lasts s.world (sent (actor_of k) x.acts s.world) = lasts_sent (actor_of k) x.acts s.world in
@@ -113,6 +117,29 @@ place_opened space s p = record {
           live_placed (actor_of k) _ s.world.table.actors (λ same. omega (arith, low, same)) ∙ h.1,
         )
 
+-- no connection has come where a watcher begins
+place_watching : (x : Watched) (s : State) → is_unwatchable x s ≡ false → IsInPlace s
+    → IsInPlace (record s { world = watching x s.world })
+place_watching x s is p = record {
+  named = p.named;
+  faults = all_weaker (λ e. HasEnded e.0 s) (λ e. HasEnded e.0 (record s { world = watching x s.world }))
+      (λ e h. none e.0 h.0) s.faults p.faults;
+}
+  where
+    none : (k : ℕ) → HasCome s.world.opened k → HasEnded k (record s { world = watching x s.world })
+    none k come =
+        let first : s.world.opened ≡ 0 = (may_begin x s is).first in
+        absurd (omega (arith, first, come.0, come.1))
+
+place_dismissed : (a : ℕ) (s : State) → IsInPlace s → IsInPlace (dismissed a s)
+place_dismissed a s p =
+    let dead = λ (b : ℕ) (is : is_live b s.world.table ≡ false). dead_after b a s.world is in
+    let same : (dismissed a s).world.opened ≡ s.world.opened = opened_ended a s.world in
+    record {
+      named = names_still s (dismissed a s) same dead s.connections p.named;
+      faults = faults_still s (dismissed a s) same dead s.faults p.faults;
+    }
+
 place_failed : (k : ℕ) (f : Fault) (s : State) → is_there k s ≡ true → IsInPlace s → IsInPlace (failed k f s)
 place_failed k f s there p =
     let a : ℕ = actor_of k in
@@ -160,8 +187,10 @@ place_turned a s p =
 keeps_place : Keeps IsInPlace
 keeps_place = record {
   binds = λ b s is p. record { named = p.named; faults = p.faults };
+  watches = place_watching;
   opens = place_opened;
   fails = place_failed;
+  dismisses = λ a s high low p. place_dismissed a s p;
   closes = λ k s there p. place_closed k s p;
   accepts = place_accepted;
   exports = λ k b ports s there p. record {
@@ -187,9 +216,9 @@ presence ds steps may =
     let p : IsInPlace s = in_place ds steps in
     record {
       always = h.sound.always;
-      no_watchers = h.sound.no_watchers;
-      names = λ k live.
-          let n = h.named k live in (
+      watchers = h.sound.watchers;
+      names = λ k since live.
+          let n = h.named k since live in (
             each_found (λ e. HasCome s.world.opened e.0) k n.0 s.connections p.named n.1,
             ap (λ b. is_some (cond b (entry_of k s.connections) None)) live ∙ ap is_some n.1,
           );

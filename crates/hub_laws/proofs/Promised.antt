@@ -1,9 +1,9 @@
 -- What the parts of the proof of the laws promise one another.
-use Rattle.std.proofs.Common.{◌≡◌, ◌≢◌, ℕ, ◌<◌, ◌≤◌, List, [], ◌∷◌, ◌++◌, true, false, Some}
+use Rattle.std.proofs.Common.{◌≡◌, ◌≢◌, ℕ, ◌<◌, List, [], ◌∷◌, ◌++◌, true, false, Option, Some}
 use Rattle.std.proofs.Common.{◌⊎◌}
 use Rattle.std.specs.List.{AllByRecursion}
 use Rattle.std.specs.List.Sorted.{IsStrictlySortedBy}
-use Rattle.std.specs.Map.{keys_of, values_of}
+use Rattle.std.specs.Map.{keys_of}
 use Rattle.std.specs.Ordering.{nat_cmp}
 use Rattle.pv_value.specs.Plain.{Plain}
 use Rattle.ds_space.specs.Spaces.{Rows}
@@ -15,11 +15,12 @@ use Rattle.ac_table.specs.Tables.{TableState, Actor, IsTable, find_actor, is_liv
 use Rattle.ac_table.specs.Tables.{rows_of_others}
 use Rattle.ac_world.specs.Outboxes.{Outbox, Plan, plan_over, put, dropped, said, told_to, posted, retractions}
 use Rattle.ac_world.specs.Behaviours.{Behaviour}
+use Rattle.ac_world.specs.declared.watched.Watched.{Watched}
 use Rattle.ac_world.specs.Turns.{Turning, regot, all_turned}
 use Rattle.ac_world.specs.Lemmas.Entries.{KeysAscend}
 use Rattle.hub_laws.specs.Standing.{took_all, value_alone}
 use Rattle.hub_laws.specs.Wanting.{IsMet}
-use Rattle.hub_laws.proofs.Kept.{made_in, IsNear, IsKnown, IsGood, IsLawful, FitsEvent, Moves, AreGood, Runs}
+use Rattle.hub_laws.proofs.Kept.{made_in, IsNear, Reaches, IsGood, IsLawful, FitsEvent, Moves, AreGood, Runs}
 use Rattle.hub_laws.proofs.Kept.{IsServedBy}
 
 -- ---- lists
@@ -59,20 +60,19 @@ SaidMoves =
     (said target e p)
 
 abbrev pub BeginGood : Type 0
-BeginGood = (n a : ℕ) (t : TableState) → AllByRecursion (IsGood n) t.rows → AreGood n a (plan_over t)
+BeginGood = (a : ℕ) (t : TableState) → AllByRecursion IsGood t.rows → AreGood a (plan_over t)
 
 abbrev pub PutGood : Type 1
 PutGood =
-    (n a : ℕ) (t : TableState) (p : Plan) → Moves a t p → AreGood n a p → (facet target entity : ℕ) (v : Plain)
-    → (a < 9 → 9 ≤ target) → target ≤ n → (target < 9 → IsKnown n v) → AreGood n a (put a facet target entity v p)
+    (a : ℕ) (t : TableState) (p : Plan) → Moves a t p → AreGood a p → (facet target entity : ℕ) (v : Plain)
+    → Reaches a target → AreGood a (put a facet target entity v p)
 
 abbrev pub DroppedGood : Type 1
-DroppedGood = (n a : ℕ) (t : TableState) (p : Plan) → Moves a t p → AreGood n a p → (h : ℕ) → AreGood n a
-    (dropped a h p)
+DroppedGood =
+    (a : ℕ) (t : TableState) (p : Plan) → Moves a t p → AreGood a p → (h : ℕ) → AreGood a (dropped a h p)
 
 abbrev pub SaidGood : Type 0
-SaidGood =
-    (n a : ℕ) (p : Plan) → AreGood n a p → (target : ℕ) (e : Event) → IsSaid e → AreGood n a (said target e p)
+SaidGood = (a : ℕ) (p : Plan) → AreGood a p → (target : ℕ) (e : Event) → IsSaid e → AreGood a (said target e p)
 
 -- ---- what is posted
 
@@ -96,17 +96,17 @@ PostedTable =
 -- who was served before a plan is served after it
 abbrev pub ServedAfter : Type 1
 ServedAfter =
-    (X : Type 0) (f : ℕ → Plain → X) (ends : List ℕ) (n a b : ℕ) (t : TableState) (p : Plan) (got : List (ℕ × X))
-    (old new : List Batch) → IsTable t → Moves a t p → AreGood n a p → IsServedBy f ends n t.rows t.next b got old
-    → IsPostedTo a (told_to b p.out) old new → IsServedBy f ends n p.table.rows p.table.next b got new
+    (X : Type 0) (f : ℕ → Plain → X) (ends : List ℕ) (a b : ℕ) (t : TableState) (p : Plan) (got : List (ℕ × X))
+    (old new : List Batch) → IsTable t → Moves a t p → AreGood a p → IsServedBy f ends t.rows t.next b got old
+    → IsPostedTo a (told_to b p.out) old new → IsServedBy f ends p.table.rows p.table.next b got new
 
 -- and after the ending of actor a
 abbrev pub ServedAfterEnd : Type 1
 ServedAfterEnd =
-    (X : Type 0) (f : ℕ → Plain → X) (ends : List ℕ) (n a b : ℕ) (t : TableState) (got : List (ℕ × X))
-    (old new : List Batch) → IsTable t → IsServedBy f ends n t.rows t.next b got old
+    (X : Type 0) (f : ℕ → Plain → X) (ends : List ℕ) (a b : ℕ) (t : TableState) (got : List (ℕ × X))
+    (old new : List Batch) → IsTable t → AllByRecursion IsGood t.rows → IsServedBy f ends t.rows t.next b got old
     → IsPostedTo a (told_to b (retractions (rows_of a t.rows) [])) old new
-    → IsServedBy f ends n (rows_of_others a t.rows) t.next b got new
+    → IsServedBy f ends (rows_of_others a t.rows) t.next b got new
 
 abbrev pub RetractionsAscend : Type 0
 RetractionsAscend = (a : ℕ) (rows : List Row) → KeysAscend (retractions (rows_of a rows) [])
@@ -121,23 +121,21 @@ EndedTable =
 -- a system actor's rows follow its wants
 abbrev pub RegotMet : Behaviour → Type 1
 RegotMet y =
-    IsLawful y → (a n : ℕ) (t : TableState) (u : Turning) (rows : Rows) → a < 9 → 9 ≤ n → is_live a t ≡ true
-    → Moves a t u.plan → AreGood n a u.plan → IsMet y a u.resident u.plan.table.rows
-    → AllByRecursion (IsKnown n) (values_of rows)
-    → Moves a t (regot y a rows u).plan × AreGood n a (regot y a rows u).plan
-    × IsMet y a (regot y a rows u).resident (regot y a rows u).plan.table.rows
+    (o : Option Watched) (a : ℕ) → IsLawful y a → (t : TableState) (u : Turning) (rows : Rows) → is_live a t ≡ true
+    → Moves a t u.plan → AreGood a u.plan → IsMet y o a u.resident u.plan.table.rows
+    → Moves a t (regot y a rows u).plan × AreGood a (regot y a rows u).plan
+    × IsMet y o a (regot y a rows u).resident (regot y a rows u).plan.table.rows
     × ((regot y a rows u).resident.got ≡ rows) × ((regot y a rows u).spreads ≡ u.spreads)
 
 -- ---- a system actor's turn
 
 abbrev pub TurnRuns : Behaviour → Type 1
 TurnRuns y =
-    IsLawful y → (n a from : ℕ) (t : TableState) (full : Rows) (u : Turning) (es : List Event) → a < 9 → 9 ≤ n
-    → IsTable t → is_live a t ≡ true → ((b : ℕ) → 9 ≤ b → b < 17 → is_live b t ≡ false)
-    → AllByRecursion (IsGood n) t.rows
-    → AllByRecursion (FitsEvent n t.rows a from) es
+    (o : Option Watched) (a : ℕ) → IsLawful y a → (from : ℕ) (t : TableState) (full : Rows) (u : Turning)
+    (es : List Event) → IsTable t → is_live a t ≡ true → AllByRecursion IsGood t.rows
+    → AllByRecursion (FitsEvent t.rows a from) es
     → IsStrictlySortedBy nat_cmp (keys_of u.resident.got ++ made_in es)
-    → Runs y n a t full u → Runs y n a t (took_all value_alone es full) (all_turned y a from es u)
+    → Runs y o a t full u → Runs y o a t (took_all value_alone es full) (all_turned y a from es u)
 
 -- the handles got are some of those that were got and came
 abbrev pub TurnLog : Behaviour → Type 0

@@ -12,6 +12,7 @@ use Rattle.ac_table.specs.Lemmas.Lists.{all_filter}
 use Rattle.ac_world.specs.declared.turns.Turned.{Turned}
 use Rattle.ac_world.specs.declared.turns.Turned.TheVariants as turned
 use Rattle.ac_world.specs.Turns.{turn}
+use Rattle.ac_world.specs.declared.watched.Watched.{Watched}
 use Rattle.ac_world.specs.Worlds.{WorldState, actor_of, entry_of, is_system}
 use Rattle.ac_world.specs.Lemmas.Entries.{put_found, put_other}
 use Rattle.rl_packet.specs.declared.packets.TurnEvent.{TurnEvent}
@@ -22,12 +23,12 @@ use Rattle.hub_machine.specs.State.{State, ports_of, is_there}
 use Rattle.hub_machine.specs.Admission.{Admitted, refused, admitted, admission}
 use Rattle.hub_machine.specs.Endings.{nameless, failed, finished}
 use Rattle.hub_machine.specs.Machine.{unchanged, refusal, arrive_unless, judged, packet_at, bad_at, close_at}
-use Rattle.hub_machine.specs.Machine.{bind_unless, is_barred}
+use Rattle.hub_machine.specs.Machine.{bind_unless, is_barred, watch_unless, is_unwatchable}
 use Rattle.hub_machine.specs.Machine.{telling_fault, told_unless, tell, fault_for, tell_fault, after_turn, turn_of, rest}
 use Rattle.hub_machine.specs.Machine.{work_by, is_worn, done, step}
 use Rattle.hub_machine.specs.Replays.{replay}
 use Rattle.hub_machine.specs.declared.steps.Step.{Step}
-use Rattle.hub_machine.specs.declared.steps.Step.TheVariants.{Bind, Arrive, Packet, Bad, Close, Turn, Work, Stop}
+use Rattle.hub_machine.specs.declared.steps.Step.TheVariants.{Bind, Watch, Arrive, Packet, Bad, Close, Turn, Work, Stop}
 use Rattle.hub_machine.specs.declared.steps.Reply.TheVariants.{Worn, Barred, Halted, Full, Idle, Refused}
 use Rattle.hub_valid.specs.Lemmas.Lasting.{live_popped}
 use Rattle.hub_valid.specs.Lemmas.Lists.{filter_same, all_from}
@@ -65,6 +66,7 @@ still_told k f s told =
       ended = dead_after (actor_of k) (actor_of j) t.world was.ended;
       fault = put_other j k g t.faults ne ∙ was.fault;
     })
+    (λ b t high low was. record { ended = dead_after (actor_of k) b t.world was.ended; fault = was.fault })
     [] s told
 
 -- no row is an ended connection's
@@ -221,8 +223,14 @@ module _ (s : State) (are_live : AreLive s.world.table) (f : Fault) where
   bind_left true b is = absurd cc
   bind_left false b is = absurd cc
 
+  watch_left : (c : Bool) (x : Watched) → (watch_unless c x s).reply ≡ Refused f
+      → IsLeft None f s (watch_unless c x s).state
+  watch_left true x is = absurd cc
+  watch_left false x is = absurd cc
+
   done_left : (e : Step) → (done s e).reply ≡ Refused f → IsLeft (whose e) f s (done s e).state
   done_left (Bind b) is = bind_left (is_barred b s) b is
+  done_left (Watch x) is = watch_left (is_unwatchable x s) x is
   done_left (Arrive space) is = arrive_left space is
   done_left (Packet k es) is = packet_left k (ports_of k s) es is
   done_left (Bad k g) is = bad_left k (ports_of k s) g is

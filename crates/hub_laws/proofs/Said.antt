@@ -1,7 +1,7 @@
 -- To whom messages go.
 use Rattle.std.proofs.Common.{◌≡◌, ℕ, ◌≤◌, List, [], ◌∷◌, ◌++◌, Bool, true, false, cond, Option, Some, None, suc, zero}
 use Rattle.std.proofs.Common.{refl, sym, ap, ◌∙◌, subst, arith}
-use Rattle.std.specs.Prelude.{nat_lt, option_and_then}
+use Rattle.std.specs.Prelude.{◌<◌, nat_lt, option_and_then, option_map}
 use Rattle.std.specs.List.{flat_map}
 use Rattle.std.specs.Map.{values_of}
 use Rattle.std.proofs.lemmas.Bool.Decides.{nat_tests}
@@ -28,13 +28,16 @@ use Rattle.ac_world.specs.Turns.{passes_on, system_turn, turn_with}
 use Rattle.ac_world.specs.Turns.{passed_on, answer_to, begin_turn, connection_turn, turn_first, turn}
 use Rattle.ac_world.specs.Worlds.{WorldState, resident_of, is_space, is_system}
 use Rattle.ac_world.specs.Aims.{aim_at, aim_for, observer_in}
-use Rattle.ac_world.specs.Behaviours.{behaviour_of, dataspace, fanned_weight}
+use Rattle.ac_world.specs.Behaviours.{Behaviour, behaviour_of, other, dataspace, fanned_weight}
+use Rattle.ac_world.specs.declared.watched.Watched.{Watched}
+use Rattle.ac_world.specs.Watchers.{Task, task_of, watcher_of}
 use Rattle.hub_valid.specs.Lemmas.Lists.{flat_map_append}
 use Rattle.hub_laws.specs.Posting.{IsOutbox, grown}
 use Rattle.hub_laws.specs.Saying.{message_aimed, message_by, messages_over, OnlySays, SaysMessages, AnswersSyncs}
 use Rattle.hub_laws.specs.Saying.{MessagesArrive}
 use Rattle.hub_laws.proofs.Moving.{told_to-told}
 use Rattle.hub_laws.proofs.Posted.{posted_grown, told_outbox, are_outboxes}
+use Rattle.hub_laws.proofs.Watching.{low_has_no_task}
 
 -- ---- what is said adds to what is told
 
@@ -128,7 +131,11 @@ passed_says ds from m t light = by (nat_lt most_wanted_weight (fan_weight vs m))
     }
 
 pub says_messages : SaysMessages
-says_messages = (λ ds a from entity m t light. passed_says ds from m t light, λ ds bs a from entity m t. refl)
+says_messages = (
+  λ ds a from entity m t light. passed_says ds from m t light,
+  λ ds bs a from entity m t. refl,
+  λ ds task a from entity m t. refl,
+)
 
 answer_says : (ds : List Definition) (peer : Plain) (p : Plan)
     → OnlySays (λ b. message_aimed b (aim_at ds (boolean true) peer)) p (answer_to ds peer p)
@@ -203,9 +210,9 @@ at_space a from entity m w space live first light b = by (is_live a w.table) (fi
     kinds : (d : ℕ) → is_space d ≡ true → is_system d ≡ true
     kinds d is = grind (arith, nat_tests, is)
 
-    behaves : (d : ℕ) → is_space d ≡ true → behaviour_of w.schema w.bindings d ≡ dataspace w.schema
+    behaves : (d : ℕ) → is_space d ≡ true → behaviour_of w.schema w.bindings w.watches d ≡ dataspace w.schema
     behaves zero is = absurd cc
-    behaves (suc d) is = refl
+    behaves (suc d) is = ap (other w.schema) (low_has_no_task (suc d) w.watches (grind (arith, nat_tests, is)))
 
     here : Arrives (turn_with a batch u)
     here =
@@ -238,5 +245,39 @@ at_gatekeeper from entity m w live first b = by (is_live 0 w.table) (first_batch
     by true None live first = absurd cc
     by true (Some d) live first = let same : batch ≡ d = cc in subst (λ e. Arrives (turn_first 0 (Some e) w)) same refl
 
+at_watcher : (a from entity : ℕ) (m : Plain) (w : WorldState) (x : Watched) → a < 17 → watcher_of a w.watches ≡ Some x
+    → is_live a w.table ≡ true → first_batch a w.table ≡ Some (record { from = from; events = Message entity m ∷ [] })
+    → (b : ℕ) → find_actor b (turn a w).world.table.actors ≡ find_actor b (popped a w.table).actors
+at_watcher zero from entity m w x low is live first b = absurd cc
+at_watcher (suc a) from entity m w x low is live first b =
+    by (is_live (suc a) w.table) (first_batch (suc a) w.table) live first
+  where
+    u : WorldState
+    u = record w { table = popped (suc a) w.table }
+
+    batch : Batch
+    batch = record { from = from; events = Message entity m ∷ [] }
+
+    Arrives : After → Type 0
+    Arrives t = find_actor b t.world.table.actors ≡ find_actor b (popped (suc a) w.table).actors
+
+    run : Behaviour → After
+    run y = end_turn (suc a) u (all_turned y (suc a) from (Message entity m ∷ []) (begin_turn (suc a) u))
+
+    system : is_system (suc a) ≡ true
+    system = grind (arith, nat_tests, low)
+
+    here : Arrives (turn_with (suc a) batch u)
+    here =
+        subst (λ c. Arrives (cond c (system_turn (suc a) batch u) (connection_turn (suc a) batch u))) (sym system)
+        (subst (λ (o : Option Task). Arrives (run (other w.schema o))) (sym (ap (option_map task_of) is)) refl)
+
+    by : (c : Bool) (o : Option Batch) → c ≡ true → o ≡ Some batch
+        → Arrives (cond c (turn_first (suc a) o w) (record { world = w; turned = turned.Gone }))
+    by false o live first = absurd cc
+    by true None live first = absurd cc
+    by true (Some d) live first =
+        let same : batch ≡ d = cc in subst (λ e. Arrives (turn_first (suc a) (Some e) w)) same here
+
 pub messages_arrive : MessagesArrive
-messages_arrive = (at_space, at_gatekeeper)
+messages_arrive = (at_space, at_gatekeeper, at_watcher)

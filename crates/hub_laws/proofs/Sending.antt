@@ -1,7 +1,7 @@
 -- What a live connection was sent is what its actor took, and what it holds by it is what it has got.
 use Rattle.std.proofs.Common.{◌≡◌, ◌≢◌, ℕ, ◌+◌, ◌-◌, ◌<◌, ◌≤◌, ◌==◌, List, [], ◌∷◌, ◌++◌, Bool, true, false, cond, map}
 use Rattle.std.proofs.Common.{Option, Some, None, is_some, inl, inr, refl, sym, ap, ◌∙◌, subst, arith, append-nil}
-use Rattle.std.proofs.Common.{append_assoc}
+use Rattle.std.proofs.Common.{append_assoc, suc, zero}
 use Rattle.std.specs.Prelude.{unwrap_or}
 use Rattle.std.specs.List.{flat_map, AllByRecursion}
 use Rattle.std.proofs.lemmas.Bool.Decides.{nat_tests}
@@ -32,24 +32,23 @@ use Rattle.hub_machine.specs.Faults.{error_of}
 use Rattle.hub_machine.specs.declared.faults.Fault.{Fault}
 use Rattle.hub_machine.specs.declared.faults.Fault.TheVariants as fault
 use Rattle.hub_machine.specs.Machine.{After, unchanged, told_value, foreign_told, foreign_to, sent_event, packet_to}
-use Rattle.hub_machine.specs.Machine.{bind_unless, is_barred}
+use Rattle.hub_machine.specs.Machine.{bind_unless, is_barred, is_unwatchable}
 use Rattle.hub_machine.specs.Machine.{exports_after, exporting, telling_fault, told_unless, tell, opened, refusal}
 use Rattle.hub_machine.specs.Machine.{arrive_unless, fault_for, tell_fault, after_turn, turn_of, is_worn, done, step}
 use Rattle.hub_machine.specs.Machine.{actor_reference}
 use Rattle.hub_machine.specs.Replays.{run_from, replay, packet_in, sent_by, sent_from, sent_to}
 use Rattle.hub_machine.specs.State.{State, opening, ports_of}
 use Rattle.hub_machine.specs.declared.steps.Step.{Step}
-use Rattle.hub_machine.specs.declared.steps.Step.TheVariants.{Bind, Arrive, Packet, Bad, Close, Turn, Work, Stop}
+use Rattle.hub_machine.specs.declared.steps.Step.TheVariants.{Bind, Watch, Arrive, Packet, Bad, Close, Turn, Work, Stop}
 use Rattle.hub_machine.specs.declared.steps.Reply.{Reply}
 use Rattle.hub_machine.specs.declared.steps.Reply.TheVariants.{Worn, Gone, Idle, Sent, Refused}
 use Rattle.hub_laws.specs.Laws.{AreAllowed, Holdings}
 use Rattle.hub_laws.specs.Scratch.{exports_in, exports_of}
-use Rattle.hub_laws.specs.Settled.{holding_of, HasNumbers, AreWhatItGot}
+use Rattle.hub_laws.specs.Settled.{holding_of, HasNumbers, AreWhatItGot, HoldsWhatItGot}
 use Rattle.hub_laws.proofs.Numbered.{numbered}
 use Rattle.hub_laws.specs.Standing.{took_all, events_of, at_object}
 use Rattle.hub_laws.proofs.Growing.{arrived_grows, grows_alike}
 use Rattle.hub_laws.proofs.Holding.{kept_is_taken}
-use Rattle.hub_laws.proofs.Hubs.{is_far}
 use Rattle.hub_laws.proofs.Joining.{above_is_new, joined_new}
 use Rattle.hub_laws.proofs.Kept.{made_in, IsLog, IsSound, IsHub}
 use Rattle.hub_laws.proofs.Leaving.{one_or_not}
@@ -59,8 +58,9 @@ use Rattle.hub_laws.proofs.Moving.{made_in-append}
 use Rattle.hub_laws.proofs.Posting.{found-popped, live-popped}
 use Rattle.hub_laws.proofs.Staying.{exports_kept, Stays, stays_not, stays_on, world_stays, other_stays, ended_not_found}
 use Rattle.hub_laws.proofs.Staying.{failing_stays, finished_stays, bad_stays, close_stays, packet_stays, fault_stays}
-use Rattle.hub_laws.proofs.Staying.{other_turn_stays, work_stays}
+use Rattle.hub_laws.proofs.Staying.{other_turn_stays, work_stays, watch_stays}
 use Rattle.hub_laws.proofs.Turns.{without_first, ascend_before}
+use Rattle.hub_laws.proofs.Zeroth.{zeroth_unsent}
 
 -- ---- what a connection is told, by its exports
 
@@ -217,7 +217,7 @@ AreSentBy k e es t = AreSent k (es ++ events_by k e t.reply) t.state
 
 -- ---- a connection takes its batch, and is told of it
 
-module _ (k : ℕ) (es : List TurnEvent) (s : State) (hub : IsHub [] s) (sent : AreSent k es s)
+module _ (k : ℕ) (since : 1 ≤ k) (es : List TurnEvent) (s : State) (hub : IsHub [] s) (sent : AreSent k es s)
     (lives : is_live (actor_of k) s.world.table ≡ true) where
   abbrev own : ℕ
   own = actor_of k
@@ -232,7 +232,7 @@ module _ (k : ℕ) (es : List TurnEvent) (s : State) (hub : IsHub [] s) (sent : 
 
     -- with what it tells of exported
     abbrev ports : PortsState
-    ports = (hub.named k lives).0
+    ports = (hub.named k since lives).0
 
     abbrev now : List Plain
     now = exports_after k b ports
@@ -270,7 +270,7 @@ module _ (k : ℕ) (es : List TurnEvent) (s : State) (hub : IsHub [] s) (sent : 
       live = λ x is.
           let y = found-popped own s.world.table b x first is in
           let was : IsTold k ports.exports es s.world (b ∷ x.inbox) =
-          subst (λ exports. IsTold k exports es s.world (b ∷ x.inbox)) (ap exports_in (hub.named k lives).1)
+          subst (λ exports. IsTold k exports es s.world (b ∷ x.inbox)) (ap exports_in (hub.named k since lives).1)
           (subst (λ bs. IsTold k (exports_kept k s) es s.world bs) y.2 (sent.live y.0 y.1)) in
           subst (λ exports. IsTold k exports (es ++ map (sent_event now k) b.events) taking.world x.inbox)
           (sym (ap exports_in (put_found k _ s.connections))) (told_more x.inbox was);
@@ -299,7 +299,7 @@ module _ (k : ℕ) (es : List TurnEvent) (s : State) (hub : IsHub [] s) (sent : 
     named : ports_of k taking ≡ Some ports
     named =
         ap (λ c. cond c (entry_of k s.connections) None) (live-popped own own s.world.table ∙ lives)
-        ∙ (hub.named k lives).1
+        ∙ (hub.named k since lives).1
 
     taking_sent : AreSentBy k (Turn own) es (tell (own - 16) (ports_of (own - 16) taking) b taking)
     taking_sent =
@@ -313,7 +313,7 @@ module _ (k : ℕ) (es : List TurnEvent) (s : State) (hub : IsHub [] s) (sent : 
   batch_sent : (b : Batch) → first_batch own s.world.table ≡ Some b
       → AreSentAfter (turn_with own b (without_first own s.world))
   batch_sent b first =
-      let far : 17 ≤ own = is_far [] s.world k hub.sound lives in
+      let far : 17 ≤ own = omega (arith, since) in
       let system : is_system own ≡ false = grind (arith, nat_tests, far) in
       rw system (taking_sent b first)
 
@@ -323,9 +323,9 @@ module _ (k : ℕ) (es : List TurnEvent) (s : State) (hub : IsHub [] s) (sent : 
 
 -- ---- a turn
 
-own_turn_sent : (k : ℕ) (es : List TurnEvent) (s : State) → IsHub [] s → AreSent k es s
+own_turn_sent : (k : ℕ) → 1 ≤ k → (es : List TurnEvent) (s : State) → IsHub [] s → AreSent k es s
     → AreSentBy k (Turn (actor_of k)) es (turn_of (actor_of k) s)
-own_turn_sent k es s hub sent = by (is_live (actor_of k) s.world.table) refl
+own_turn_sent k since es s hub sent = by (is_live (actor_of k) s.world.table) refl
   where
     gone : TurnOf
     gone = record { world = s.world; turned = turned.Gone }
@@ -335,15 +335,15 @@ own_turn_sent k es s hub sent = by (is_live (actor_of k) s.world.table) refl
 
     by : (c : Bool) → is_live (actor_of k) s.world.table ≡ c → AreSentBy k (Turn (actor_of k)) es
         (after_this (cond c (turn_first (actor_of k) (first_batch (actor_of k) s.world.table) s.world) gone))
-    by true lives = first_sent k es s hub sent lives (first_batch (actor_of k) s.world.table) refl
+    by true lives = first_sent k since es s hub sent lives (first_batch (actor_of k) s.world.table) refl
     by false dead =
         let o : Option Fault = fault_for (actor_of k) s in
         sent_nothing k es _ s _ (fault_tells k (actor_of k) o s) (fault_stays k (actor_of k) o s) sent
 
-turn_sent : (k a : ℕ) (es : List TurnEvent) (s : State) → IsHub [] s → AreSent k es s
+turn_sent : (k a : ℕ) → 1 ≤ k → (es : List TurnEvent) (s : State) → IsHub [] s → AreSent k es s
     → AreSentBy k (Turn a) es (turn_of a s)
-turn_sent k a es s hub sent = elim (one_or_not (actor_of k) a) [
-  | inl same ↦ subst (λ c. AreSentBy k (Turn c) es (turn_of c s)) same (own_turn_sent k es s hub sent)
+turn_sent k a since es s hub sent = elim (one_or_not (actor_of k) a) [
+  | inl same ↦ subst (λ c. AreSentBy k (Turn c) es (turn_of c s)) same (own_turn_sent k since es s hub sent)
   | inr apart ↦
       sent_nothing k es _ s _ (other_tells k a (turn_of a s).reply apart) (other_turn_stays k a s hub.sound apart) sent
 ]
@@ -370,18 +370,21 @@ bind_sent k false b es s sent =
     (finished_stays k [] t))
     sent
 
-done_sent : (k : ℕ) (e : Step) (es : List TurnEvent) (s : State) → IsHub [] s → AreSent k es s
+done_sent : (k : ℕ) → 1 ≤ k → (e : Step) (es : List TurnEvent) (s : State) → IsHub [] s → AreSent k es s
     → AreSentBy k e es (done s e)
-done_sent k (Bind b) es s hub sent = bind_sent k (is_barred b s) b es s sent
-done_sent k (Arrive space) es s hub sent =
+done_sent k since (Bind b) es s hub sent = bind_sent k (is_barred b s) b es s sent
+done_sent k since (Watch x) es s hub sent =
+    sent_nothing k es [] s _ refl (watch_stays k (is_unwatchable x s) x s since refl hub.sound) sent
+done_sent k since (Arrive space) es s hub sent =
     sent_nothing k es [] _ _ refl (stays_not k _) (arrive_sent k (refusal space s) space es s hub.sound sent)
-done_sent k (Packet j ts) es s hub sent =
+done_sent k since (Packet j ts) es s hub sent =
     sent_nothing k es [] s _ refl (packet_stays k j (ports_of j s) ts s hub.sound.table refl) sent
-done_sent k (Bad j f) es s hub sent = sent_nothing k es [] s _ refl (bad_stays k j (ports_of j s) f s) sent
-done_sent k (Close j) es s hub sent = sent_nothing k es [] s _ refl (close_stays k j (ports_of j s) s) sent
-done_sent k (Turn a) es s hub sent = turn_sent k a es s hub sent
-done_sent k Work es s hub sent = sent_nothing k es [] s _ refl (work_stays k (lowest s.world.table) s hub.sound) sent
-done_sent k Stop es s hub sent =
+done_sent k since (Bad j f) es s hub sent = sent_nothing k es [] s _ refl (bad_stays k j (ports_of j s) f s) sent
+done_sent k since (Close j) es s hub sent = sent_nothing k es [] s _ refl (close_stays k j (ports_of j s) s) sent
+done_sent k since (Turn a) es s hub sent = turn_sent k a since es s hub sent
+done_sent k since Work es s hub sent =
+    sent_nothing k es [] s _ refl (work_stays k (lowest s.world.table) s since hub.sound) sent
+done_sent k since Stop es s hub sent =
     let t : State = record s { stopped = true } in
     sent_nothing k es [] s _ refl
     (stays_on k s t _ (record { grows = (stays_not k s).grows; exports = λ x found. refl }) (finished_stays k [] t))
@@ -390,6 +393,7 @@ done_sent k Stop es s hub sent =
 -- where the numbers are used up nothing is sent
 worn_tells : (k : ℕ) (e : Step) → events_by k e Worn ≡ []
 worn_tells k (Bind b) = refl
+worn_tells k (Watch x) = refl
 worn_tells k (Arrive space) = refl
 worn_tells k (Packet j ts) = refl
 worn_tells k (Bad j f) = refl
@@ -398,13 +402,13 @@ worn_tells k (Turn a) = none_by k a Worn refl
 worn_tells k Work = refl
 worn_tells k Stop = refl
 
-step_sent : (k : ℕ) (e : Step) (es : List TurnEvent) (s : State) → IsHub [] s → AreSent k es s
+step_sent : (k : ℕ) → 1 ≤ k → (e : Step) (es : List TurnEvent) (s : State) → IsHub [] s → AreSent k es s
     → AreSentBy k e es (step s e)
-step_sent k e es s hub sent = by (is_worn s e)
+step_sent k since e es s hub sent = by (is_worn s e)
   where
     by : (c : Bool) → AreSentBy k e es (cond c (unchanged s Worn) (done s e))
     by true = sent_nothing k es (events_by k e Worn) s s (worn_tells k e) (stays_not k s) sent
-    by false = done_sent k e es s hub sent
+    by false = done_sent k since e es s hub sent
 
 -- ---- whole runs
 
@@ -415,10 +419,10 @@ HubsFrom s = (steps : List Step) → AreAllowed s steps → IsHub [] (run_from s
 abbrev pub HubAfter : Type 0
 HubAfter = (ds : List Definition) → HubsFrom (opening ds)
 
-run_sent : (k : ℕ) (steps : List Step) (es : List TurnEvent) (s : State) → HubsFrom s → AreAllowed s steps
+run_sent : (k : ℕ) → 1 ≤ k → (steps : List Step) (es : List TurnEvent) (s : State) → HubsFrom s → AreAllowed s steps
     → AreSent k es s → AreSent k (es ++ flat_map events_in (sent_from s k steps)) (run_from s steps)
-run_sent k [] es s hubs allowed sent = sent_nothing k es [] s s refl (stays_not k s) sent
-run_sent k (e ∷ steps) es s hubs allowed sent =
+run_sent k since [] es s hubs allowed sent = sent_nothing k es [] s s refl (stays_not k s) sent
+run_sent k since (e ∷ steps) es s hubs allowed sent =
     let now : List TurnEvent = events_by k e (step s e).reply in
     let t : State = (step s e).state in
     let hubs_later : HubsFrom t = λ ds later. hubs (e ∷ ds) (allowed.0, later) in
@@ -427,26 +431,27 @@ run_sent k (e ∷ steps) es s hubs allowed sent =
     append_assoc es now (flat_map events_in (sent_from t k steps))
     ∙ ap (λ ds. es ++ ds) (sym (flat_map-append events_in (sent_by k e (step s e).reply) (sent_from t k steps))) in
     subst (λ ds. AreSent k ds (run_from t steps)) all
-    (run_sent k steps (es ++ now) t hubs_later allowed.1 (step_sent k e es s (hubs [] tt) sent))
+    (run_sent k since steps (es ++ now) t hubs_later allowed.1 (step_sent k since e es s (hubs [] tt) sent))
 
 -- no connection is live when all begins
-sent_first : (ds : List Definition) (k : ℕ) → IsSound [] (opening ds).world → AreSent k [] (opening ds)
-sent_first ds k sound = record {
+sent_first : (ds : List Definition) (k : ℕ) → 1 ≤ k → IsSound [] (opening ds).world → AreSent k [] (opening ds)
+sent_first ds k since sound = record {
   none = λ before. refl;
   live = λ x found.
       let lives : is_live (actor_of k) (opening ds).world.table ≡ true = ap is_some found in
       let low : actor_of k ≤ 16 + 0 = sound.numbers (actor_of k) lives in
-      absurd (omega (arith, low, is_far [] (opening ds).world k sound lives));
+      absurd (omega (arith, low, since));
 }
 
-pub holdings_hold : HubAfter → Holdings
-holdings_hold hubs ds k steps allowed lives = by (find_actor (actor_of k) s.world.table.actors) refl lives
+connection_holds : HubAfter → (ds : List Definition) (k : ℕ) → 1 ≤ k → (steps : List Step) → AreAllowed (opening ds) steps
+    → HoldsWhatItGot ds k steps
+connection_holds hubs ds k since steps allowed lives = by (find_actor (actor_of k) s.world.table.actors) refl lives
   where
     s : State
     s = replay ds steps
 
     all : AreSent k (flat_map events_in (sent_to ds k steps)) s
-    all = run_sent k steps [] (opening ds) (hubs ds) allowed (sent_first ds k (hubs ds [] tt).sound)
+    all = run_sent k since steps [] (opening ds) (hubs ds) allowed (sent_first ds k since (hubs ds [] tt).sound)
 
     -- a live connection's exports are those kept for it
     kept_now : exports_kept k s ≡ exports_of k s
@@ -468,3 +473,17 @@ holdings_hold hubs ds k steps allowed lives = by (find_actor (actor_of k) s.worl
           subst (λ exports. AllByRecursion (HasNumbers exports k) got) kept_now
               (subst (AllByRecursion (HasNumbers (exports_kept k s) k)) (sym t.held) known),
         )
+
+-- the actor that connection 0 would have is the system's: nothing was delivered to it, nor was it sent anything
+zeroth_holds : HubAfter → (ds : List Definition) (steps : List Step) → AreAllowed (opening ds) steps
+    → HoldsWhatItGot ds 0 steps
+zeroth_holds hubs ds steps allowed lives =
+    let s : State = replay ds steps in
+    let none : held_by 16 s.world ≡ [] =
+    ap (λ o. unwrap_or o []) ((hubs ds steps allowed).sound.system_unheld 16 (omega arith)) in
+    subst (λ got. AreWhatItGot (exports_of 0 s) 0 got (held (sent_to ds 0 steps))) (sym none)
+    (ap held (zeroth_unsent (opening ds) steps), tt)
+
+pub holdings_hold : HubAfter → Holdings
+holdings_hold hubs ds zero steps allowed = zeroth_holds hubs ds steps allowed
+holdings_hold hubs ds (suc k) steps allowed = connection_holds hubs ds (suc k) (omega arith) steps allowed

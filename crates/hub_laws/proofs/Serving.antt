@@ -97,7 +97,7 @@ near_follows ends next old new should kept follows none k = record {
     at h (inr out) = by_row h out.0 out.1 (find_row h new) refl
 
 -- events that fit still do
-module _ (n b next : ℕ) (old new : List Row) (follows : Follows next old new) where
+module _ (b next : ℕ) (old new : List Row) (follows : Follows next old new) where
   owned_follows : (from h : ℕ) → h < next → IsOwnedBy from b (find_row h old) → (o : Option Row) → find_row h new ≡ o
       → IsOwnedBy from b (find_row h new)
   owned_follows from h below owned None is = rw is tt
@@ -107,16 +107,16 @@ module _ (n b next : ℕ) (old new : List Row) (follows : Follows next old new) 
       split (inl was) = rw is (rw was at owned)
       split (inr l) = absurd (omega arith)
 
-  event_follows : (from : ℕ) (e : Event) → AllByRecursion (λ h. h < next) (made_by e) → FitsEvent n old b from e
-      → FitsEvent n new b from e
+  event_follows : (from : ℕ) (e : Event) → AllByRecursion (λ h. h < next) (made_by e) → FitsEvent old b from e
+      → FitsEvent new b from e
   event_follows from (Assert h entity v) below fits =
       (owned_follows from h below.0 fits.0 (find_row h new) refl, fits.1)
-  event_follows from (Retract h entity) below fits = tt
+  event_follows from (Retract h entity) below fits = fits
   event_follows from (Message entity v) below fits = tt
   event_follows from (Sync entity peer) below fits = tt
 
   events_follow : (from : ℕ) (es : List Event) → AllByRecursion (λ h. h < next) (made_in es)
-      → AllByRecursion (FitsEvent n old b from) es → AllByRecursion (FitsEvent n new b from) es
+      → AllByRecursion (FitsEvent old b from) es → AllByRecursion (FitsEvent new b from) es
   events_follow from [] below fits = tt
   events_follow from (e ∷ es) below fits = (
     event_follows from e (all_before _ (made_by e) (made_in es) below) fits.0,
@@ -124,7 +124,7 @@ module _ (n b next : ℕ) (old new : List Row) (follows : Follows next old new) 
   )
 
   batches_follow : (bs : List Batch) → AllByRecursion (λ h. h < next) (made_in (events_of bs))
-      → AllByRecursion (FitsBatch n old b) bs → AllByRecursion (FitsBatch n new b) bs
+      → AllByRecursion (FitsBatch old b) bs → AllByRecursion (FitsBatch new b) bs
   batches_follow [] below fits = tt
   batches_follow (x ∷ xs) below fits =
       let all : AllByRecursion (λ h. h < next) (made_in x.events ++ made_in (events_of xs)) =
@@ -136,7 +136,7 @@ module _ (n b next : ℕ) (old new : List Row) (follows : Follows next old new) 
 -- ---- events are posted
 
 -- what an actor is told leads from what stood at it to what stands at it
-pub record Leads {X : Type 0} (f : ℕ → Plain → X) (n a b next later : ℕ) (old new : List Row) (es : List Event)
+pub record Leads {X : Type 0} (f : ℕ → Plain → X) (a b next later : ℕ) (old new : List Row) (es : List Event)
     : Type 0 where
   pub ascend : IsStrictlySortedBy nat_cmp (handles old)
   pub below : AllByRecursion (λ r. r.handle < next) old
@@ -145,7 +145,7 @@ pub record Leads {X : Type 0} (f : ℕ → Plain → X) (n a b next later : ℕ)
   pub moved : took_all f es (stands f b old) ≡ stands f b new
   pub made_ascend : IsStrictlySortedBy nat_cmp (made_in es)
   pub made_new : AllByRecursion (λ h. (next ≤ h) × (h < later)) (made_in es)
-  pub fits : AllByRecursion (FitsEvent n new b a) es
+  pub fits : AllByRecursion (FitsEvent new b a) es
 
 pub log_posted : (next later : ℕ) (got : List ℕ) (es : List Event) (old new : List Batch) → next ≤ later
     → events_of new ≡ events_of old ++ es → IsStrictlySortedBy nat_cmp (made_in es)
@@ -159,10 +159,10 @@ log_posted next later got es old new l is s m log =
           (all_weaker _ _ (λ h p. omega (arith, p, l)) _ log.1) (all_weaker _ _ (λ h p. p.1) (made_in es) m)),
     )
 
-pub served_on : {X : Type 0} (f : ℕ → Plain → X) (ends : List ℕ) (n a b next later : ℕ) (rows less : List Row)
-    (es : List Event) (got : List (ℕ × X)) (old new : List Batch) → Leads f n a b next later rows less es
-    → IsPostedTo a es old new → IsServedBy f ends n rows next b got old → IsServedBy f ends n less later b got new
-served_on {X = X} f ends n a b next later rows less es got old new k posted s = record {
+pub served_on : {X : Type 0} (f : ℕ → Plain → X) (ends : List ℕ) (a b next later : ℕ) (rows less : List Row)
+    (es : List Event) (got : List (ℕ × X)) (old new : List Batch) → Leads f a b next later rows less es
+    → IsPostedTo a es old new → IsServedBy f ends rows next b got old → IsServedBy f ends less later b got new
+served_on {X = X} f ends a b next later rows less es got old new k posted s = record {
   near = λ lives. near lives;
   log = log_posted next later (keys_of got) es old new k.rises events k.made_ascend k.made_new s.log;
   fits = fits posted;
@@ -180,18 +180,18 @@ served_on {X = X} f ends n a b next later rows less es got old new k posted s = 
         (s.near lives) in
         rw (taken, sym k.moved) (near_took X f ends less es _ _ before)
 
-    still : AllByRecursion (FitsBatch n less b) old
+    still : AllByRecursion (FitsBatch less b) old
     still =
-        batches_follow n b next rows less k.follows old (all_behind _ (keys_of got) _ s.log.1) s.fits
+        batches_follow b next rows less k.follows old (all_behind _ (keys_of got) _ s.log.1) s.fits
 
-    fits : IsPostedTo a es old new → AllByRecursion (FitsBatch n less b) new
+    fits : IsPostedTo a es old new → AllByRecursion (FitsBatch less b) new
     fits (inl p) = rw p.0 still
     fits (inr p) = rw p (all_append _ old _ still (k.fits, tt))
 
-pub leads_from : {X : Type 0} (f : ℕ → Plain → X) (n a b : ℕ) (t : TableState) (p : Plan) → IsTable t → Moves a t p
-    → AllByRecursion (FitsEvent n p.table.rows b a) (told_to b p.out)
-    → Leads f n a b t.next p.table.next t.rows p.table.rows (told_to b p.out)
-leads_from f n a b t p k m fits = record {
+pub leads_from : {X : Type 0} (f : ℕ → Plain → X) (a b : ℕ) (t : TableState) (p : Plan) → IsTable t → Moves a t p
+    → AllByRecursion (FitsEvent p.table.rows b a) (told_to b p.out)
+    → Leads f a b t.next p.table.next t.rows p.table.rows (told_to b p.out)
+leads_from f a b t p k m fits = record {
   ascend = k.rows_ascend;
   below = k.rows_below_next;
   rises = m.later;
@@ -208,16 +208,16 @@ leads_from f n a b t p k m fits = record {
     follows h r (inr new) = inr new.0
 
 pub served_after : ServedAfter
-served_after X f ends n a b t p got old new k m good s posted =
-    served_on f ends n a b t.next p.table.next t.rows p.table.rows (told_to b p.out) got old new
-    (leads_from f n a b t p k m (good.told b)) posted s
+served_after X f ends a b t p got old new k m good s posted =
+    served_on f ends a b t.next p.table.next t.rows p.table.rows (told_to b p.out) got old new
+    (leads_from f a b t p k m (good.told b)) posted s
 
 -- ---- the first batch is taken
 
-pub popped_served : (X : Type 0) (f : ℕ → Plain → X) (ends : List ℕ) (n : ℕ) (rows : List Row) (next a : ℕ)
-    (got : List (ℕ × X)) (b : Batch) (rest : List Batch) → IsServedBy f ends n rows next a got (b ∷ rest)
-    → IsServedBy f ends n rows next a (took_all f b.events got) rest
-popped_served X f ends n rows next a got b rest s =
+pub popped_served : (X : Type 0) (f : ℕ → Plain → X) (ends : List ℕ) (rows : List Row) (next a : ℕ)
+    (got : List (ℕ × X)) (b : Batch) (rest : List Batch) → IsServedBy f ends rows next a got (b ∷ rest)
+    → IsServedBy f ends rows next a (took_all f b.events got) rest
+popped_served X f ends rows next a got b rest s =
     let made : made_in (events_of (b ∷ rest)) ≡ made_in b.events ++ made_in (events_of rest) =
     made_in-append b.events (events_of rest) in
     record {

@@ -1,5 +1,5 @@
 -- What each step keeps of a connection that stays, but for its own turn: what it has got, and its exports.
-use Rattle.std.proofs.Common.{◌≡◌, ◌≢◌, ℕ, ◌-◌, ◌≤◌, leb, List, [], ◌∷◌, Bool, true, false, cond, ◌&&◌}
+use Rattle.std.proofs.Common.{◌≡◌, ◌≢◌, ℕ, ◌-◌, ◌<◌, ◌≤◌, nat_lt, List, [], ◌∷◌, Bool, true, false, cond}
 use Rattle.std.proofs.Common.{Option, Some, None, is_some, inl, inr, refl, sym, ap, ◌∙◌, arith}
 use Rattle.std.specs.Map.{keys_of}
 use Rattle.std.proofs.lemmas.Bool.Decides.{nat_tests}
@@ -12,7 +12,9 @@ use Rattle.ac_world.specs.declared.turns.Turned.TheVariants as turned
 use Rattle.ac_world.specs.Outboxes.{retractions}
 use Rattle.ac_world.specs.Turns.{After as TurnOf, connection_turn, turn_first, turn, system_turn}
 use Rattle.ac_world.specs.Worlds.{WorldState, entry_of, with_entry, without_entry, is_system, actor_of, gone}
-use Rattle.ac_world.specs.Worlds.{ended_of}
+use Rattle.ac_world.specs.Worlds.{ended_of, watching}
+use Rattle.ac_world.specs.declared.watched.Watched.{Watched}
+use Rattle.ac_world.specs.Watchers.{next_watcher}
 use Rattle.ac_world.specs.Lemmas.Entries.{put_found, put_other, out_other}
 use Rattle.rl_packet.specs.declared.packets.TurnEvent.{TurnEvent}
 use Rattle.rl_ports.specs.Ports.{PortsState}
@@ -20,16 +22,18 @@ use Rattle.hub_machine.specs.declared.faults.Fault.{Fault}
 use Rattle.hub_machine.specs.declared.faults.Fault.TheVariants.{Spread}
 use Rattle.hub_machine.specs.State.{State, is_there, ports_of}
 use Rattle.hub_machine.specs.Admission.{Admitting, Admitted, refused, admitted, admission}
-use Rattle.hub_machine.specs.Endings.{nameless, closed, failed, failed_where, spread_out, all_spread_out}
+use Rattle.hub_machine.specs.Endings.{nameless, closed, failed, failed_where, dismissed, spread_out, all_spread_out}
 use Rattle.hub_machine.specs.Endings.{overrun_of, all_overrun, finished}
 use Rattle.hub_machine.specs.Machine.{unchanged, accepted, judged, packet_at, bad_at, close_at, telling_fault}
 use Rattle.hub_machine.specs.Machine.{exporting, told_unless, tell, fault_for, tell_fault, after_turn, turn_of, rest}
-use Rattle.hub_machine.specs.Machine.{work_by}
+use Rattle.hub_machine.specs.Machine.{work_by, is_unwatchable, watch_unless}
 use Rattle.hub_machine.specs.declared.steps.Reply.TheVariants.{Halted, Idle}
 use Rattle.hub_valid.specs.Lemmas.Admitted.{exports_stay}
 use Rattle.hub_laws.specs.Scratch.{exports_in}
 use Rattle.hub_laws.proofs.EndingActors.{retractions_ascend, ended_none}
-use Rattle.hub_laws.proofs.Growing.{Grows, grows_not, grows_on, ended_grows, sent_grows, other_turn_grows}
+use Rattle.hub_laws.proofs.Beginning.{may_begin, nobody_yet}
+use Rattle.hub_laws.proofs.Growing.{Grows, grows_not, grows_on, ended_grows, sent_grows, watching_grows}
+use Rattle.hub_laws.proofs.Growing.{other_turn_grows}
 use Rattle.hub_laws.proofs.Kept.{IsSound}
 use Rattle.hub_laws.proofs.Leaving.{one_or_not}
 use Rattle.hub_laws.proofs.Posting.{posted_to}
@@ -103,11 +107,14 @@ where_stays k j None s = stays_not k s
 where_stays k j (Some f) s = failed_stays k j f s
 
 spread_stays : (k : ℕ) (x : SpreadOf) (s : State) → Stays k s (spread_out x s)
-spread_stays k x s = by (leb 17 x.actor && is_there (x.actor - 16) s)
+spread_stays k x s = by (nat_lt x.actor 9) (nat_lt x.actor 17) (is_there (x.actor - 16) s)
   where
-    by : (c : Bool) → Stays k s (cond c (failed (x.actor - 16) (Spread x.weight) s) s)
-    by true = failed_stays k (x.actor - 16) (Spread x.weight) s
-    by false = stays_not k s
+    by : (b c d : Bool) → Stays k s
+        (cond b s (cond c (dismissed x.actor s) (cond d (failed (x.actor - 16) (Spread x.weight) s) s)))
+    by true c d = stays_not k s
+    by false true d = world_stays k s (ended_of x.actor s.world) (ended_grows x.actor (actor_of k) s.world)
+    by false false true = failed_stays k (x.actor - 16) (Spread x.weight) s
+    by false false false = stays_not k s
 
 all_spread_stays : (k : ℕ) (xs : List SpreadOf) (s : State) → Stays k s (all_spread_out xs s)
 all_spread_stays k [] s = stays_not k s
@@ -168,6 +175,20 @@ pub packet_stays : (k j : ℕ) (o : Option PortsState) (es : List TurnEvent) (s 
 packet_stays k j None es s table is = stays_not k s
 packet_stays k j (Some p) es s table is =
     judged_stays k j p es (admission j p s.world es) s table (named_of j p s is) refl
+
+-- ---- a watcher begins
+
+pub watch_stays : (k : ℕ) (c : Bool) (x : Watched) (s : State) → 1 ≤ k → is_unwatchable x s ≡ c → IsSound [] s.world
+    → Stays k s (watch_unless c x s).state
+watch_stays k true x s since is sound = stays_not k s
+watch_stays k false x s since is sound =
+    let may = may_begin x s is in
+    let t : State = record s { world = watching x s.world } in
+    let apart : actor_of k ≢ next_watcher s.world.watches =
+    λ same. (let few = may.few in absurd (omega (arith, since, few, same))) in
+    stays_on k s t _
+    (world_stays k s t.world (watching_grows (actor_of k) x s.world sound.table (nobody_yet x s.world sound may) apart))
+    (finished_stays k [] t)
 
 -- ---- another's turn
 
@@ -233,29 +254,16 @@ rest_stays k s = by s.stopped
     by true = stays_not k s
     by false = stays_not k s
 
--- the turn of a system actor, which isn't live where it has the connection's number
-system_stays : (k a : ℕ) (s : State) → IsSound [] s.world → is_system a ≡ true → Stays k s (turn_of a s).state
-system_stays k a s sound low = elim (one_or_not (actor_of k) a) [
-  | inr apart ↦ other_turn_stays k a s sound apart
-  | inl same ↦
-      dead (is_live a s.world.table) (sound.no_watchers a (omega (arith, same)) (grind (arith, nat_tests, low)))
-]
-  where
-    none : TurnOf
-    none = record { world = s.world; turned = turned.Gone }
+-- the turn of a system actor, which hasn't the number of a connection
+system_stays : (k a : ℕ) (s : State) → 1 ≤ k → IsSound [] s.world → is_system a ≡ true → Stays k s (turn_of a s).state
+system_stays k a s since sound low =
+    other_turn_stays k a s sound
+    (λ same. absurd (let l : a < 17 = grind (arith, nat_tests, low) in omega (arith, since, same, l)))
 
-    after_this : TurnOf → State
-    after_this t = (after_turn a t.turned (record s { world = t.world })).state
-
-    dead : (c : Bool) → c ≡ false
-        → Stays k s (after_this (cond c (turn_first a (first_batch a s.world.table) s.world) none))
-    dead true is = absurd cc
-    dead false is = fault_stays k a (fault_for a s) s
-
-pub work_stays : (k : ℕ) (o : Option ℕ) (s : State) → IsSound [] s.world → Stays k s (work_by o s).state
-work_stays k None s sound = rest_stays k s
-work_stays k (Some a) s sound = by (is_system a) refl
+pub work_stays : (k : ℕ) (o : Option ℕ) (s : State) → 1 ≤ k → IsSound [] s.world → Stays k s (work_by o s).state
+work_stays k None s since sound = rest_stays k s
+work_stays k (Some a) s since sound = by (is_system a) refl
   where
     by : (c : Bool) → is_system a ≡ c → Stays k s (cond c (turn_of a s) (rest s)).state
-    by true low = system_stays k a s sound low
+    by true low = system_stays k a s since sound low
     by false high = rest_stays k s

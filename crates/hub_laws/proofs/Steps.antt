@@ -1,52 +1,53 @@
 -- Each step keeps the hub sound, and so does each run of allowed steps.
 use Rattle.std.proofs.Common.{◌≡◌, ℕ, ◌-◌, ◌≤◌, List, [], ◌∷◌, Bool, true, false, cond, Option, Some, None, refl, sym}
 use Rattle.std.proofs.Common.{nat_lt, suc, zero}
-use Rattle.std.proofs.Common.{◌∙◌, ◌||◌, arith, ap, subst, unwrap_or}
+use Rattle.std.proofs.Common.{◌∙◌, ◌||◌, arith, ap}
 use Rattle.std.proofs.lemmas.Bool.Decides.{nat_tests}
 use Rattle.std.specs.List.{AllByRecursion}
+use Rattle.std.specs.Map.{keys_of, values_of}
+use Rattle.pv_value.specs.Plain.{Plain}
+use Rattle.ds_space.specs.Spaces.{Rows}
 use Rattle.gk_sturdy.specs.declared.bound.Binding.{Binding}
 use Rattle.gk_sturdy.specs.Bindings.{with_binding}
 use Rattle.ac_table.specs.declared.batches.Row.{Row}
 use Rattle.ac_table.specs.declared.batches.Batch.{Batch}
-use Rattle.ac_table.specs.Tables.{TableState, Actor, is_live, lowest, find_row}
-use Rattle.ac_world.specs.Turns.{After as TurnOf, turn}
+use Rattle.ac_table.specs.Tables.{Actor, is_live, lowest}
+use Rattle.ac_world.specs.declared.watched.Watched.{Watched}
+use Rattle.ac_world.specs.Turns.{After as TurnOf, turn, handle_for}
 use Rattle.ac_world.specs.Worlds.{WorldState, Resident, entry_of, without_entry, is_system, actor_of, binding}
-use Rattle.ac_world.specs.Worlds.{first_actors, no_resident, resident_of}
+use Rattle.ac_world.specs.Worlds.{watching, resident_of}
 use Rattle.ac_world.specs.declared.turns.Turned.{Turned}
 use Rattle.ac_world.specs.declared.turns.Turned.TheVariants as turned
-use Rattle.ac_world.specs.Lemmas.Entries.{each_found}
-use Rattle.ac_world.specs.Behaviours.{behaviour_of, gatekeeper}
+use Rattle.ac_world.specs.Behaviours.{Behaviour, gatekeeper}
 use Rattle.rl_packet.specs.declared.packets.TurnEvent.{TurnEvent}
 use Rattle.rl_ports.specs.Ports.{PortsState}
 use Rattle.hub_machine.specs.declared.faults.Fault.{Fault}
 use Rattle.hub_machine.specs.declared.steps.Reply.{Reply}
 use Rattle.hub_machine.specs.declared.steps.Reply.TheVariants.{Worn, Halted, Idle}
 use Rattle.hub_machine.specs.declared.steps.Step.{Step}
-use Rattle.hub_machine.specs.declared.steps.Step.TheVariants.{Bind, Arrive, Packet, Bad, Close, Turn, Work, Stop}
-use Rattle.rl_packet.specs.Wired.{IsTurnEvent}
+use Rattle.hub_machine.specs.declared.steps.Step.TheVariants.{Bind, Watch, Arrive, Packet, Bad, Close, Turn, Work, Stop}
 use Rattle.hub_machine.specs.State.{State, ports_of}
 use Rattle.hub_machine.specs.Admission.{Admitted, refused, admitted, admission}
 use Rattle.hub_machine.specs.Endings.{nameless, departed_for, closed, failed, finished}
 use Rattle.hub_machine.specs.Machine.{unchanged, opened, refusal, arrive_unless, judged, packet_at, bad_at, bind_unless}
-use Rattle.hub_machine.specs.Machine.{is_barred}
+use Rattle.hub_machine.specs.Machine.{is_barred, is_unwatchable, watch_unless}
 use Rattle.hub_machine.specs.Machine.{close_at, fault_for, tell_fault, after_turn, turn_of, rest, work_by, is_worn}
 use Rattle.hub_machine.specs.Machine.{done, tell, telling_fault, told_unless, exporting, step, IsAllowed}
 use Rattle.hub_machine.specs.Replays.{run_from}
-use Rattle.hub_valid.specs.Validity.{IsValid, IsValidEntry}
+use Rattle.hub_valid.specs.Validity.{IsValid}
 use Rattle.hub_laws.specs.Laws.{AreAllowed}
 use Rattle.hub_laws.proofs.Arriving.{opened_hub}
+use Rattle.hub_laws.proofs.Beginning.{watching_hub}
 use Rattle.hub_laws.proofs.EndingActors.{retractions_ascend, ended_table, served_after_end, others_found, others_keep}
 use Rattle.hub_laws.proofs.Hubs.{finished_hub, failed_hub, closed_hub, with_names, with_faults, with_stop}
-use Rattle.hub_laws.proofs.Kept.{IsHub, IsServed, IsSound}
+use Rattle.hub_laws.proofs.Kept.{IsHub, IsServed, IsSound, IsMetIn}
 use Rattle.hub_laws.proofs.Leaving.{Endings}
 use Rattle.hub_laws.proofs.OtherTurns.{turn_turned}
-use Rattle.hub_laws.proofs.Owned.{no_wants_met}
 use Rattle.hub_laws.proofs.Packets.{accepted_hub}
 use Rattle.hub_laws.proofs.Posting.{posted_to, posted_table}
 use Rattle.hub_laws.proofs.Turns.{still_met, IsTurned, ends_of}
-use Rattle.hub_valid.specs.Lemmas.Admitted.{acts_are_valid}
 use Rattle.hub_valid.specs.Lemmas.Hubs.{stays_valid}
-use Rattle.hub_laws.specs.Wanting.{IsMet}
+use Rattle.hub_laws.specs.Wanting.{passing, IsMet}
 
 pub endings : Endings
 endings = record {
@@ -66,41 +67,54 @@ ended_well s h = finished_hub endings [] s tt h
 
 -- ---- bindings
 
+-- who has got nothing has the same rows whatever it would do with more
+no_keys : (met : List (Plain × ℕ)) → keys_of met ≡ [] → met ≡ []
+no_keys [] none = refl
+no_keys (e ∷ es) none = absurd cc
+
+met_by_none : (y z : Behaviour) (o : Option Watched) (a : ℕ) (resident : Resident) (rows : List Row)
+    → y.keys [] ≡ [] → z.keys [] ≡ [] → resident.got ≡ [] → IsMet y o a resident rows → IsMet z o a resident rows
+met_by_none y z o a resident rows y_none z_none empty m = record {
+  keys = keys ∙ sym (nothing z z_none);
+  rows_stand = λ k h e. absurd (let clash : None ≡ Some h =
+      sym (ap (λ met. handle_for k met) (no_keys resident.handles keys)) ∙ e in cc);
+  apart = m.apart;
+  no_other = m.no_other;
+}
+  where
+    nothing : (x : Behaviour) → x.keys [] ≡ [] → passing x (x.keys (values_of resident.got)) ≡ []
+    nothing x none = ap (λ (got : Rows). passing x (x.keys (values_of got))) empty ∙ ap (passing x) none
+
+    keys : keys_of resident.handles ≡ []
+    keys = m.keys ∙ nothing y y_none
+
 -- before a connection has come the gatekeeper has got nothing
 bound_sound : (b : Binding) (w : WorldState) → w.opened ≡ 0 → IsSound [] w → IsSound [] (binding b w)
 bound_sound b w none k = record {
   table = k.table;
   always = k.always;
-  no_watchers = k.no_watchers;
+  watchers = k.watchers;
+  watches = k.watches;
   numbers = k.numbers;
   rows = k.rows;
   served = λ a x found. by a x (is_system a) (k.served a x found);
-  met = λ a low. met a (k.met a low);
-  known = k.known;
-  fresh = λ is. record { table = (k.fresh is).table; residents = (k.fresh is).residents };
+  met = λ a low live. met a (k.met a low live);
+  fresh = λ is. record { got = (k.fresh is).got; inboxes = (k.fresh is).inboxes };
+  residents_ascend = k.residents_ascend;
+  unkept = k.unkept;
   held_ascends = k.held_ascends;
   unheld = k.unheld;
+  system_unheld = k.system_unheld;
 }
   where
     by : (a : ℕ) (x : Actor) (c : Bool) → IsServed [] a x.inbox w c → IsServed [] a x.inbox (binding b w) c
     by a x true s = s
     by a x false s = s
 
-    fresh_resident : resident_of 0 w ≡ no_resident
-    fresh_resident = ap (λ (es : List (ℕ × Resident)). unwrap_or (entry_of 0 es) no_resident) (k.fresh none).residents
-
-    no_rows : (h : ℕ) (r : Row) → find_row h w.table.rows ≡ Some r → r.owner ≡ 0 → ⊥
-    no_rows h r found own =
-        let f : find_row h (first_actors 9).rows ≡ Some r =
-        ap (λ (t : TableState). find_row h t.rows) (sym (k.fresh none).table) ∙ found in
-        cc
-
-    met : (a : ℕ) → IsMet (behaviour_of w.schema w.bindings a) a (resident_of a w) w.table.rows
-        → IsMet (behaviour_of w.schema (with_binding b w.bindings) a) a (resident_of a w) w.table.rows
+    met : (a : ℕ) → IsMetIn w w.table.rows a → IsMetIn (binding b w) w.table.rows a
     met zero m =
-        subst (λ (r : Resident). IsMet (gatekeeper w.schema (with_binding b w.bindings)) 0 r w.table.rows)
-        (sym fresh_resident)
-        (no_wants_met (gatekeeper w.schema (with_binding b w.bindings)) refl 0 w.table.rows no_rows)
+        met_by_none (gatekeeper w.schema w.bindings) (gatekeeper w.schema (with_binding b w.bindings)) None 0
+        (resident_of 0 w) w.table.rows refl refl (k.fresh none).got m
     met (suc a) m = m
 
 bind_hub : (c : Bool) (b : Binding) (s : State) → is_barred b s ≡ c → IsHub [] s → IsHub [] (bind_unless c b s).state
@@ -111,6 +125,7 @@ bind_hub false b s is h =
       sound = bound_sound b s.world none h.sound;
       named = h.named;
       nameless = h.nameless;
+      first = h.first;
       names_ascend = h.names_ascend;
     })
   where
@@ -121,11 +136,20 @@ bind_hub false b s is h =
     none : s.world.opened ≡ 0
     none = grind (arith, nat_tests, first_false (nat_lt 0 s.world.opened) _ _ _ _ is)
 
+-- ---- watchers
+
+watch_hub : (c : Bool) (x : Watched) (s : State) → is_unwatchable x s ≡ c → IsValid s → IsHub [] s
+    → IsHub [] (watch_unless c x s).state
+watch_hub true x s is valid h = h
+watch_hub false x s is valid h =
+    ended_well (record s { world = watching x s.world }) (watching_hub still_met x s is valid h)
+
 -- ---- arrivals
 
-arrive_hub : (o : Option Reply) (space : ℕ) (s : State) → IsHub [] s → IsHub [] (arrive_unless o space s).state
-arrive_hub None space s h = ended_well (opened space s) (opened_hub space s h)
-arrive_hub (Some r) space s h = h
+arrive_hub : (o : Option Reply) (space : ℕ) (s : State) → IsValid s → IsHub [] s
+    → IsHub [] (arrive_unless o space s).state
+arrive_hub None space s valid h = ended_well (opened space s) (opened_hub space s valid h)
+arrive_hub (Some r) space s valid h = h
 
 -- ---- packets
 
@@ -142,26 +166,20 @@ named_of k p s is = by (is_live (actor_of k) s.world.table) refl is
     by true live found = record { live = live; kept = found }
     by false dead found = absurd cc
 
-far_actor : (k : ℕ) → 9 ≤ actor_of k
-far_actor k = omega arith
+-- it is a connection
+come_of : (k : ℕ) (p : PortsState) (s : State) → IsHub [] s → IsNamed k p s → 1 ≤ k
+come_of zero p s h n = absurd (let clash : None ≡ Some p = sym h.first ∙ n.kept in cc)
+come_of (suc k) p s h n = omega arith
 
-judged_hub : (k : ℕ) (p : PortsState) (es : List TurnEvent) (d : Admitted) (s : State) → IsValid s → IsHub [] s
-    → IsNamed k p s → AllByRecursion IsTurnEvent es → admission k p s.world es ≡ d
+judged_hub : (k : ℕ) (p : PortsState) (d : Admitted) (s : State) → IsHub [] s → IsNamed k p s
     → IsHub [] (judged k d (nameless k s)).state
-judged_hub k p es (refused f) s valid h n wired is =
-    ended_well (departed_for k f (nameless k s)) (failed_hub endings [] k f s h)
-judged_hub k p es (admitted x) s valid h n wired is =
-    ended_well _
-    (accepted_hub still_met k x s (far_actor k) n.live
-    (acts_are_valid k p es x s valid
-    (each_found (IsValidEntry s.world.opened) k p s.connections valid.named n.kept) wired
-    is) h)
+judged_hub k p (refused f) s h n = ended_well (departed_for k f (nameless k s)) (failed_hub endings [] k f s h)
+judged_hub k p (admitted x) s h n = ended_well _ (accepted_hub still_met k x s (come_of k p s h n) n.live h)
 
-packet_hub : (k : ℕ) (o : Option PortsState) (es : List TurnEvent) (s : State) → IsValid s → IsHub [] s
-    → ports_of k s ≡ o → AllByRecursion IsTurnEvent es → IsHub [] (packet_at k o es s).state
-packet_hub k None es s valid h is wired = h
-packet_hub k (Some p) es s valid h is wired =
-    judged_hub k p es (admission k p s.world es) s valid h (named_of k p s is) wired refl
+packet_hub : (k : ℕ) (o : Option PortsState) (es : List TurnEvent) (s : State) → IsHub [] s → ports_of k s ≡ o
+    → IsHub [] (packet_at k o es s).state
+packet_hub k None es s h is = h
+packet_hub k (Some p) es s h is = judged_hub k p (admission k p s.world es) s h (named_of k p s is)
 
 bad_hub : (k : ℕ) (o : Option PortsState) (f : Fault) (s : State) → IsHub [] s → IsHub [] (bad_at k o f s).state
 bad_hub k None f s h = h
@@ -181,7 +199,7 @@ fault_hub a (Some f) s h =
 -- a connection is told of its batch, or it ends
 unless_hub : (o : Option Fault) (k : ℕ) (p : PortsState) (b : Batch) (s : State) → IsHub [] s → IsNamed k p s
     → IsHub [] (told_unless o k p b s).state
-unless_hub None k p b s h n = ended_well (exporting k b p s) (with_names [] k _ s n.live h)
+unless_hub None k p b s h n = ended_well (exporting k b p s) (with_names [] k _ s (come_of k p s h n) n.live h)
 unless_hub (Some f) k p b s h n = ended_well (failed k f s) (failed_hub endings [] k f s h)
 
 tell_hub : (k : ℕ) (o : Option PortsState) (b : Batch) (s : State) → IsHub [] s → ports_of k s ≡ o
@@ -194,12 +212,13 @@ turned_hub : (w : WorldState) (t : TurnOf) (s : State) → IsHub [] (record s { 
     → IsHub (ends_of t.turned) (record s { world = t.world })
 turned_hub w t s h k = record {
   sound = k.sound;
-  named = λ j live. h.named j (sym (k.lives (actor_of j)) ∙ live);
+  named = λ j since live. h.named j since (sym (k.lives (actor_of j)) ∙ live);
   nameless = λ j dead. h.nameless j (sym (k.lives (actor_of j)) ∙ dead);
+  first = h.first;
   names_ascend = h.names_ascend;
 }
 
-after_hub : (a : ℕ) (t : Turned) (s : State) → AllByRecursion (λ c. 17 ≤ c) (ends_of t) → IsHub (ends_of t) s
+after_hub : (a : ℕ) (t : Turned) (s : State) → AllByRecursion (λ c. 9 ≤ c) (ends_of t) → IsHub (ends_of t) s
     → IsHub [] (after_turn a t s).state
 after_hub a (turned.Ran xs) s far h = finished_hub endings xs s far h
 after_hub a (turned.Taken b) s far h = tell_hub (a - 16) (ports_of (a - 16) s) b s h refl
@@ -228,8 +247,9 @@ work_hub (Some a) s h = by (is_system a)
 
 done_hub : (s : State) (e : Step) → IsAllowed s e → IsValid s → IsHub [] s → IsHub [] (done s e).state
 done_hub s (Bind b) may valid h = bind_hub (is_barred b s) b s refl h
-done_hub s (Arrive space) may valid h = arrive_hub (refusal space s) space s h
-done_hub s (Packet k es) may valid h = packet_hub k (ports_of k s) es s valid h refl may
+done_hub s (Watch x) may valid h = watch_hub (is_unwatchable x s) x s refl valid h
+done_hub s (Arrive space) may valid h = arrive_hub (refusal space s) space s valid h
+done_hub s (Packet k es) may valid h = packet_hub k (ports_of k s) es s h refl
 done_hub s (Bad k f) may valid h = bad_hub k (ports_of k s) f s h
 done_hub s (Close k) may valid h = close_hub k (ports_of k s) s h
 done_hub s (Turn a) may valid h = turn_hub a s h

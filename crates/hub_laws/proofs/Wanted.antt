@@ -1,14 +1,14 @@
--- The keys that are wanted: each that passes aims at an actor numbered 9 or more that was live, and those that leave or
--- come are what the one list has and the other hasn't.
+-- The keys that are wanted: each that passes aims at an actor that its actor may reach, and those that leave or come are
+-- what the one list has and the other hasn't.
 use Rattle.std.proofs.Common.{◌≡◌, ℕ, ◌<◌, ◌≤◌, ◌^◌, nat_lt, nat_le, List, Bool, true, false, cond, ◌&&◌, not, Option}
 use Rattle.std.proofs.Common.{suc, zero}
 use Rattle.std.proofs.Common.{Some, None, option_map, option_and_then}
 use Rattle.std.proofs.Common.{refl, ap, sym, ◌∙◌, subst, arith}
 use Rattle.std.specs.Cmp.{eq_by_cmp_equiv}
-use Rattle.std.specs.Prelude.{IfSome, codes}
+use Rattle.std.specs.Prelude.{codes}
 use Rattle.std.specs.List.{AllByRecursion, filter}
 use Rattle.std.proofs.lemmas.Bool.Decides.{nat_tests}
-use Rattle.std.proofs.lemmas.List.Elements.{All-contains, All-from_recursion, recursion_from_All}
+use Rattle.std.proofs.lemmas.List.Elements.{recursion_from_All}
 use Rattle.std.proofs.lemmas.Map.Views.{All-from_any, Contains-from_any}
 use Rattle.pv_value.specs.Plain.{Plain, symbol, record_of, sequence, embedded, no_more, then_more, plains}
 use Rattle.pv_value.specs.Lemmas.OrderLaws.{order_total}
@@ -30,10 +30,16 @@ use Rattle.gk_sturdy.specs.declared.bound.Binding.{Binding}
 use Rattle.gk_sturdy.specs.Answers.{reply_to}
 use Rattle.ps_schema.specs.declared.Definition.{Definition}
 use Rattle.ac_world.specs.declared.aims.Aim.{Aim}
-use Rattle.ac_world.specs.Behaviours.{Behaviour, asks, behaviour_of, dataspace, gatekeeper}
+use Rattle.ac_watch.specs.Watching.{value_at}
+use Rattle.ac_watch.specs.Lemmas.Keys.{keys_ascend}
+use Rattle.ac_world.specs.Behaviours.{Behaviour, asks, behaviour_of, other, dataspace, gatekeeper, watcher}
+use Rattle.ac_world.specs.declared.watched.Watched.{Watched}
+use Rattle.ac_world.specs.Watchers.{Task, task_of, task_at, next_watcher}
 use Rattle.ac_world.specs.Aims.{aim_at, aim_by, aim_for, aim_of, observer_in}
-use Rattle.ac_world.specs.Lemmas.Asking.{among_asked, among_without}
-use Rattle.hub_laws.proofs.Kept.{IsKnown, IsAimed, IsLawful}
+use Rattle.ac_watch.specs.Lemmas.Alone.{among_without}
+use Rattle.ac_world.specs.Lemmas.Asking.{among_asked}
+use Rattle.hub_laws.proofs.Kept.{Reaches, IsAimed, IsLawful, IsWatch}
+use Rattle.hub_laws.proofs.Watching.{low_has_no_task, made_one}
 
 -- ---- the aim of each key
 
@@ -98,36 +104,33 @@ observes o p e = absurd cc
 pub observer_there : (o : Plain) (p : Pattern) → observer_in o ≡ None → observer_of o ≡ Some p → ⊥
 observer_there o p none is = let by = observes o p is in let clash : None ≡ Some by.observer = sym none ∙ by.names in cc
 
--- what is sent to the observer of a value that is known goes to an actor that was live
-sent_far : (ds : List Definition) (n : ℕ) (v o : Plain) (aim : Aim) → Observes o → IsKnown n o
-    → aim_for ds v o ≡ Some aim
-    → (9 ≤ aim.at.actor) × (aim.at.actor ≤ n)
-sent_far ds n v o aim by known aims =
+-- what is sent to the observer of a value goes to an actor numbered 9 or more
+sent_far : (ds : List Definition) (v o : Plain) (aim : Aim) → Observes o → aim_for ds v o ≡ Some aim → 9 ≤ aim.at.actor
+sent_far ds v o aim by aims =
     let here : aim_at ds v by.observer ≡ Some aim = ap (option_and_then (aim_at ds v)) (sym by.names) ∙ aims in
     let c = aim_from ds v by.observer aim here in
-    let low : IfSome (cap_of by.observer) (λ (d : Cap). d.actor ≤ n) =
-    subst (λ q. IfSome q (λ r. IfSome (cap_of r) (λ (d : Cap). d.actor ≤ n))) by.names known in
-    let under : c.0.actor ≤ n = subst (λ q. IfSome q (λ (d : Cap). d.actor ≤ n)) c.1 low in
-    (subst (λ m. 9 ≤ m) (sym c.2) (by.far c.0 c.1), subst (λ m. m ≤ n) (sym c.2) under)
+    subst (λ m. 9 ≤ m) (sym c.2) (by.far c.0 c.1)
+
+-- so the gatekeeper or a dataspace may send it
+reached : (a b : ℕ) → a < 9 → 9 ≤ b → Reaches a b
+reached a b low far = record { far = λ l. far; near = λ high l. absurd (omega (arith, low, high)) }
 
 -- ---- a dataspace
 
-aimed_key : (ds : List Definition) (n : ℕ) (k o : Plain) (cs : List Plain) → Observes o → IsKnown n o → k ≡ key_of o cs
-    → IsAimed (dataspace ds) n k
-aimed_key ds n k o cs by known is aim aims =
-    sent_far ds n (sequence (plains cs)) o aim by known (sym (ap (aim_of ds) is) ∙ aims)
+aimed_key : (ds : List Definition) (a : ℕ) (k o : Plain) (cs : List Plain) → a < 9 → Observes o → k ≡ key_of o cs
+    → IsAimed (dataspace ds) a k
+aimed_key ds a k o cs low by is aim aims =
+    reached a aim.at.actor low (sent_far ds (sequence (plains cs)) o aim by (sym (ap (aim_of ds) is) ∙ aims))
 
--- over values whose observers were live
-wanted_aimed : (ds : List Definition) (n : ℕ) (vs : List Plain) (k : Plain) → AllByRecursion (IsKnown n) vs
-    → among k (wants vs) ≡ true
-    → IsAimed (dataspace ds) n k
-wanted_aimed ds n vs k known is =
+wanted_aimed : (ds : List Definition) (a : ℕ) → a < 9 → (vs : List Plain) (k : Plain) → among k (wants vs) ≡ true
+    → IsAimed (dataspace ds) a k
+wanted_aimed ds a low vs k is =
     let rule = of_the_rule vs k (Contains-from_any same_is k (wants vs) is) in
-    aimed_key ds n k rule.observation rule.captures (observes rule.observation rule.pattern rule.is_pattern)
-    (All-contains (IsKnown n) vs rule.observation (All-from_recursion (IsKnown n) vs known) rule.observes) rule.key
+    aimed_key ds a k rule.observation rule.captures low (observes rule.observation rule.pattern rule.is_pattern)
+    rule.key
 
-dataspace_lawful : (ds : List Definition) → IsLawful (dataspace ds)
-dataspace_lawful ds = record { ascend = wants_ascend; nothing = refl; aimed = wanted_aimed ds }
+dataspace_lawful : (ds : List Definition) (a : ℕ) → a < 9 → IsLawful (dataspace ds) a
+dataspace_lawful ds a low = record { ascend = wants_ascend; nothing = refl; aimed = wanted_aimed ds a low }
 
 -- ---- the gatekeeper
 
@@ -141,41 +144,72 @@ asks_observer (record_of (symbol l) (then_more s (then_more r no_more))) e =
     named (symbol l) s r (both_true (is_word l (codes "resolve")) (is_observer r) e)
 asks_observer v e = absurd cc
 
-asked_aimed : (ds : List Definition) (bs : List Binding) (n : ℕ) (vs : List Plain) (k : Plain)
-    → AllByRecursion (IsKnown n) vs
-    → among k (ascending_by order (filter asks vs)) ≡ true → IsAimed (gatekeeper ds bs) n k
-asked_aimed ds bs n vs k known is = aimed (asks k) refl (among k vs) refl (sym (among_asked k vs) ∙ is)
+asked_aimed : (ds : List Definition) (bs : List Binding) (vs : List Plain) (k : Plain)
+    → among k (ascending_by order (filter asks vs)) ≡ true → IsAimed (gatekeeper ds bs) 0 k
+asked_aimed ds bs vs k is = aimed (asks k) refl (among k vs) (sym (among_asked k vs) ∙ is)
   where
-    known_one : among k vs ≡ true → IsKnown n k
-    known_one there =
-        All-contains (IsKnown n) vs k (All-from_recursion (IsKnown n) vs known) (Contains-from_any same_is k vs there)
+    at : (v : Plain) → asks v ≡ true → IsAimed (gatekeeper ds bs) 0 v
+    at (record_of l (then_more s rest)) e aim aims =
+        reached 0 aim.at.actor (omega arith)
+        (sent_far ds (reply_to bs s) (record_of l (then_more s rest)) aim (asks_observer _ e) aims)
+    at v e aim aims = absurd cc
 
-    at : (v : Plain) → asks v ≡ true → IsKnown n v → IsAimed (gatekeeper ds bs) n v
-    at (record_of l (then_more s rest)) e here aim aims =
-        sent_far ds n (reply_to bs s) (record_of l (then_more s rest)) aim (asks_observer _ e) here aims
-    at v e here aim aims = absurd cc
+    aimed : (a : Bool) → asks k ≡ a → (b : Bool) → (a && b) ≡ true → IsAimed (gatekeeper ds bs) 0 k
+    aimed true e b is = at k e
+    aimed false e b is = absurd cc
 
-    aimed : (a : Bool) → asks k ≡ a → (b : Bool) → among k vs ≡ b → (a && b) ≡ true
-        → IsAimed (gatekeeper ds bs) n k
-    aimed true e true there is = at k e (known_one there)
-    aimed true e false there is = absurd cc
-    aimed false e b there is = absurd cc
-
-gatekeeper_lawful : (ds : List Definition) (bs : List Binding) → IsLawful (gatekeeper ds bs)
+gatekeeper_lawful : (ds : List Definition) (bs : List Binding) → IsLawful (gatekeeper ds bs) 0
 gatekeeper_lawful ds bs =
     record { ascend = λ vs. in_order (filter asks vs); nothing = refl; aimed = asked_aimed ds bs }
 
-pub lawful : (ds : List Definition) (bs : List Binding) (a : ℕ) → IsLawful (behaviour_of ds bs a)
-lawful ds bs zero = gatekeeper_lawful ds bs
-lawful ds bs (suc a) = dataspace_lawful ds
+-- ---- a watcher
+
+aim_there : (task : Task) (o : Option Plain) (aim : Aim)
+    → option_map (λ v. record { at = record { actor = task.to; entity = 0 }; value = v }) o ≡ Some aim
+    → aim.at.actor ≡ task.to
+aim_there task None aim is = absurd cc
+aim_there task (Some v) aim is =
+    let one : record { at = record { actor = task.to; entity = 0 }; value = v } ≡ aim = cc in
+    ap (λ (a : Aim). a.at.actor) (sym one)
+
+watcher_lawful : (ds : List Definition) (task : Task) (a : ℕ) → 9 ≤ a → (1 ≤ task.to) × (task.to < 9)
+    → IsLawful (watcher ds task) a
+watcher_lawful ds task a high to = record {
+  ascend = keys_ascend task.name;
+  nothing = refl;
+  aimed = λ vs k is aim aims.
+      let there : aim.at.actor ≡ task.to = aim_there task (value_at task.name k) aim aims in
+      record {
+        far = λ low. absurd (omega (arith, low, high));
+        near = λ h l. (omega (arith, to.0, there), omega (arith, to.1, there));
+      };
+}
+
+-- ---- whoever it is, where these watchers were made
+
+pub lawful : (ds : List Definition) (bs : List Binding) (ws : List Watched) (a : ℕ) → AllByRecursion IsWatch ws
+    → a < next_watcher ws → IsLawful (behaviour_of ds bs ws a) a
+lawful ds bs ws zero all l = gatekeeper_lawful ds bs
+lawful ds bs ws (suc a) all l = by (nat_lt (suc a) 9) refl
+  where
+    by : (b : Bool) → nat_lt (suc a) 9 ≡ b → IsLawful (other ds (task_at (suc a) ws)) (suc a)
+    by true is =
+        let low : suc a < 9 = grind (arith, nat_tests, is) in
+        subst (λ (o : Option Task). IsLawful (other ds o) (suc a)) (sym (low_has_no_task (suc a) ws low))
+        (dataspace_lawful ds (suc a) low)
+    by false is =
+        let high : 9 ≤ suc a = grind (arith, nat_tests, is) in
+        let one = made_one IsWatch (suc a) ws all high l in
+        subst (λ (o : Option Task). IsLawful (other ds o) (suc a)) (sym (ap (option_map task_of) one.is))
+        (watcher_lawful ds (task_of one.watched) (suc a) high one.passes.to)
 
 -- ---- the keys of one list that aren't in another
 
 -- of the keys that come each has an aim
-pub came_aimed : (y : Behaviour) → IsLawful y → (n : ℕ) (vs ls : List Plain) → AllByRecursion (IsKnown n) vs
-    → AllByRecursion (IsAimed y n) (without (y.keys vs) ls)
-came_aimed y law n vs ls known =
-    recursion_from_All (IsAimed y n) (without (y.keys vs) ls)
-    (All-from_any (eq_by_cmp_equiv order_total) (IsAimed y n) (without (y.keys vs) ls)
-    (λ q e. law.aimed n vs q known
+pub came_aimed : (y : Behaviour) (a : ℕ) → IsLawful y a → (vs ls : List Plain)
+    → AllByRecursion (IsAimed y a) (without (y.keys vs) ls)
+came_aimed y a law vs ls =
+    recursion_from_All (IsAimed y a) (without (y.keys vs) ls)
+    (All-from_any (eq_by_cmp_equiv order_total) (IsAimed y a) (without (y.keys vs) ls)
+    (λ q e. law.aimed vs q
     (both_true (not (among q ls)) (among q (y.keys vs)) (sym (among_without q (y.keys vs) ls) ∙ e))))

@@ -1,6 +1,6 @@
 -- Who ends in a step.
-use Rattle.std.proofs.Common.{◌≡◌, ◌≢◌, ℕ, ◌-◌, ◌==◌, ◌&&◌, ◌||◌, List, [], ◌∷◌, Bool, true, false, cond, Option}
-use Rattle.std.proofs.Common.{Some, None, ◌⊎◌, inl, inr, refl, ap, sym, ◌∙◌, subst, arith, ◌+◌, is_some}
+use Rattle.std.proofs.Common.{◌≡◌, ◌≢◌, ℕ, ◌-◌, ◌<◌, ◌≤◌, ◌==◌, ◌&&◌, ◌||◌, List, [], ◌∷◌, Bool, true, false, cond}
+use Rattle.std.proofs.Common.{Option, Some, None, ◌⊎◌, inl, inr, refl, ap, sym, ◌∙◌, subst, arith, ◌+◌, is_some}
 use Rattle.std.specs.Prelude.{nat_lt}
 use Rattle.std.specs.Option.{option_or}
 use Rattle.std.proofs.lemmas.Bool.Decides.{nat_tests}
@@ -15,7 +15,8 @@ use Rattle.ac_world.specs.declared.turns.Turned.TheVariants as turned
 use Rattle.ac_table.specs.Sums.{top_load}
 use Rattle.ac_world.specs.Sums.{deliveries}
 use Rattle.ac_world.specs.Turns.{turn}
-use Rattle.ac_world.specs.Worlds.{actor_of, entry_of, without_entry, is_system, binding}
+use Rattle.ac_world.specs.declared.watched.Watched.{Watched}
+use Rattle.ac_world.specs.Worlds.{actor_of, entry_of, without_entry, is_system, binding, watching}
 use Rattle.ac_world.specs.Lemmas.Entries.{put_found, put_other}
 use Rattle.rl_packet.specs.declared.packets.TurnEvent.{TurnEvent}
 use Rattle.rl_ports.specs.Ports.{PortsState}
@@ -24,16 +25,16 @@ use Rattle.hub_machine.specs.declared.faults.Fault.{Fault}
 use Rattle.hub_machine.specs.declared.faults.Fault.TheVariants.{Overrun, Spread}
 use Rattle.hub_machine.specs.State.{State, ports_of, is_there}
 use Rattle.hub_machine.specs.Admission.{Admitted, refused, admitted, admission}
-use Rattle.hub_machine.specs.Endings.{nameless, closed, failed, overrun_by, finished}
+use Rattle.hub_machine.specs.Endings.{nameless, closed, failed, dismissed, overrun_by, finished}
 use Rattle.hub_machine.specs.Machine.{After, unchanged, opened, refusal, arrive_unless, accepted, judged, packet_at}
-use Rattle.hub_machine.specs.Machine.{bind_unless, is_barred}
+use Rattle.hub_machine.specs.Machine.{bind_unless, is_barred, watch_unless, is_unwatchable}
 use Rattle.hub_machine.specs.Machine.{bad_at, close_at, telling_fault, exporting, told_unless, tell, fault_for}
 use Rattle.hub_machine.specs.Machine.{tell_fault, after_turn, turn_of, rest, work_by, is_worn, done, step}
 use Rattle.hub_machine.specs.declared.steps.Step.{Step}
-use Rattle.hub_machine.specs.declared.steps.Step.TheVariants.{Bind, Arrive, Packet, Bad, Close, Turn, Work, Stop}
+use Rattle.hub_machine.specs.declared.steps.Step.TheVariants.{Bind, Watch, Arrive, Packet, Bad, Close, Turn, Work, Stop}
 use Rattle.hub_machine.specs.declared.steps.Reply.{Reply}
 use Rattle.hub_machine.specs.declared.steps.Reply.TheVariants as reply
-use Rattle.hub_valid.specs.Lemmas.Lasting.{lasts_sent, lasts_turn}
+use Rattle.hub_valid.specs.Lemmas.Lasting.{lasts_sent, lasts_turn, stays_watching}
 use Rattle.hub_valid.specs.Lemmas.Lives.{live_ended, stays_placed}
 use Rattle.hub_valid.specs.Lemmas.StepEnds.{finished_keeps_for}
 use Rattle.hub_laws.specs.Laws.{WhoEnds, EndsAtOnce}
@@ -67,12 +68,12 @@ or_first true c is = refl
 or_first false c is = absurd cc
 
 -- each of them is named
-named_first : (y : SpreadOf) (ys : List SpreadOf) → is_named (y ∷ ys) y ≡ true
+pub named_first : (y : SpreadOf) (ys : List SpreadOf) → is_named (y ∷ ys) y ≡ true
 named_first y ys =
     let same : ((y.actor == y.actor) && (y.weight == y.weight)) ≡ true = grind (arith, nat_tests) in
     or_first ((y.actor == y.actor) && (y.weight == y.weight)) (is_named ys y) same
 
-all_named : (xs ys : List SpreadOf) → ((x : SpreadOf) → is_named ys x ≡ true → is_named xs x ≡ true)
+pub all_named : (xs ys : List SpreadOf) → ((x : SpreadOf) → is_named ys x ≡ true → is_named xs x ≡ true)
     → AllByRecursion (λ x. is_named xs x ≡ true) ys
 all_named xs [] into = tt
 all_named xs (y ∷ ys) into = (
@@ -94,7 +95,17 @@ live_others k j s ne =
     by true is =
         let same : actor_of k ≡ actor_of j = grind (arith, nat_tests, is) in absurd (ne (omega (arith, same)))
 
-module _ (k : ℕ) where
+-- and where a watcher does
+live_dismissed : (k a : ℕ) (s : State) → 1 ≤ k → a < 17
+    → is_live (actor_of k) (dismissed a s).world.table ≡ is_live (actor_of k) s.world.table
+live_dismissed k a s since low =
+    let apart : (actor_of k == a) ≡ false = apart_from (actor_of k) a low (omega (arith, since)) in
+    live_ended (actor_of k) a s.world ∙ ap (λ b. cond b false (is_live (actor_of k) s.world.table)) apart
+  where
+    apart_from : (b c : ℕ) → c < 17 → 17 ≤ b → (b == c) ≡ false
+    apart_from b c l h = grind (arith, nat_tests, l, h)
+
+module _ (k : ℕ) (since : 1 ≤ k) where
   -- where it isn't live, it has failed
   abbrev HasReason : List SpreadOf → State → Type 0
   HasReason xs t = is_live (actor_of k) t.world.table ≡ false → HasFailed xs k t
@@ -116,6 +127,7 @@ module _ (k : ℕ) where
       finished_keeps_for (HasReason xs) (λ x. is_named xs x ≡ true)
       (λ x j t named at there had.
       with_reason xs j (Spread x.weight) t (inl (x.weight, spread_at x j named at, refl)) had)
+      (λ x t named high low had dead. had (sym (live_dismissed k x.actor t since low) ∙ dead))
       (λ j f t over there had.
       with_reason xs j f t (inr (overrun_is (top_load (deliveries (actor_of j) t.world)) f over)) had)
       xs s (all_named xs xs (λ x is. is)) (λ dead. absurd cc)
@@ -240,8 +252,16 @@ module _ (k : ℕ) where
   bind_left true b s live = stays (Bind b) [] s reply.Barred live
   bind_left false b s live = ends_left (Bind b) [] (record s { world = binding b s.world }) reply.Taken live
 
+  watch_left : (c : Bool) (x : Watched) (s : State) → is_live (actor_of k) s.world.table ≡ true
+      → HasLeft (Watch x) [] (watch_unless c x s)
+  watch_left true x s live = stays (Watch x) [] s reply.Barred live
+  watch_left false x s live =
+      ends_left (Watch x) [] (record s { world = watching x s.world }) reply.Taken
+      (stays_watching (actor_of k) x s.world live)
+
   done_left : (s : State) (e : Step) → is_live (actor_of k) s.world.table ≡ true → HasLeft e (spreads_of e s) (done s e)
   done_left s (Bind b) live = bind_left (is_barred b s) b s live
+  done_left s (Watch x) live = watch_left (is_unwatchable x s) x s live
   done_left s (Arrive space) live = arrive_left (Arrive space) (refusal space s) space s live
   done_left s (Packet j es) live = packet_left (Packet j es) j (ports_of j s) es s live refl
   done_left s (Bad j f) live = bad_left (Bad j f) j (ports_of j s) f s live refl
@@ -259,7 +279,7 @@ module _ (k : ℕ) where
       by false = done_left s e live
 
 pub who_ends : WhoEnds
-who_ends s e k live dead = step_left k s e live dead
+who_ends s e k since live dead = step_left k since s e live dead
 
 -- ---- what is counted at a step's end
 
@@ -271,7 +291,7 @@ live_there k s there = by (is_live (actor_of k) s.world.table) refl there
     by true live there = live
     by false dead there = absurd cc
 
-module _ (k : ℕ) (xs : List SpreadOf) (s : State) where
+module _ (k : ℕ) (since : 1 ≤ k) (xs : List SpreadOf) (s : State) where
   -- while connection k is live, as much counts of it as in s; and it ends where that is too much, or it spread
   record IsWeighed (t : State) : Type 0 where
     same : is_live (actor_of k) t.world.table ≡ true
@@ -298,11 +318,20 @@ module _ (k : ℕ) (xs : List SpreadOf) (s : State) where
     ];
   }
 
+  weighed_dismissed : (a : ℕ) (t : State) → a < 17 → IsWeighed t → IsWeighed (dismissed a t)
+  weighed_dismissed a t low was = record {
+    same = λ live.
+        endings_spare_others a (actor_of k) t.world (λ one. absurd (omega (arith, one, low, since)))
+        ∙ was.same (sym (live_dismissed k a t since low) ∙ live);
+    due = λ dead. was.due (sym (live_dismissed k a t since low) ∙ dead);
+  }
+
   weighed : is_live (actor_of k) s.world.table ≡ true → IsWeighed (finished xs s)
   weighed live =
       finished_keeps_for IsWeighed (λ x. is_named xs x ≡ true)
       (λ x j t named at there was.
       weighed_failed j (Spread x.weight) t (λ one. inl (x.weight, spread_at x j one named at, refl)) was)
+      (λ x t named high low was. weighed_dismissed x.actor t low was)
       (λ j f t over there was. weighed_failed j f t (λ one. inr (over_at j f t one over there was)) was)
       xs s (all_named xs xs (λ x is. is)) (record { same = λ here. refl; due = λ dead. absurd cc })
     where
@@ -319,4 +348,4 @@ module _ (k : ℕ) (xs : List SpreadOf) (s : State) where
           ∙ ap (λ i. overrun_by (top_load (deliveries (actor_of i) t.world))) one ∙ over
 
 pub ends_at_once : EndsAtOnce
-ends_at_once xs s k live dead = (weighed k xs s live).due dead
+ends_at_once xs s k since live dead = (weighed k since xs s live).due dead

@@ -1,5 +1,5 @@
 -- What holds after every list of steps whose callers saw to their conditions.
-use Rattle.std.specs.Prelude.{Some, ◌≡◌, ◌≢◌, ℕ, ◌≤◌, ◌⊎◌, List, [], ◌∷◌, true, false}
+use Rattle.std.specs.Prelude.{Some, ◌≡◌, ◌≢◌, ℕ, ◌<◌, ◌≤◌, ◌⊎◌, List, [], ◌∷◌, true, false}
 use Rattle.ps_schema.specs.declared.Definition.{Definition}
 use Rattle.ac_table.specs.Tables.{is_live}
 use Rattle.ac_world.specs.declared.spreads.Spread.{Spread}
@@ -17,7 +17,7 @@ use Rattle.hub_laws.specs.Wanting.{AreMet}
 use Rattle.hub_laws.specs.Endings.{HaveEnded}
 use Rattle.hub_laws.specs.Presence.{ArePresent}
 use Rattle.hub_laws.specs.Refusals.{whose, IsLeft, IsDismissed, spreads_of, HasFailed}
-use Rattle.hub_laws.specs.Refusals.{IsSpread, IsOver}
+use Rattle.hub_laws.specs.Refusals.{IsSpread, IsOver, is_named}
 use Rattle.hub_laws.specs.Settled.{HoldsWhatItGot, HoldsFromScratch}
 
 -- each step meets its condition in the state that the steps before it leave
@@ -67,14 +67,20 @@ Refusals = AfterAll (λ s. (e : Step) (f : Fault) → (step s e).reply ≡ Refus
 -- nobody ends in a step but the connection that it closes or refuses, those that its turn names, and those for which too
 -- much is held and waits
 abbrev pub WhoEnds : Type 0
-WhoEnds = (s : State) (e : Step) (k : ℕ) → is_live (actor_of k) s.world.table ≡ true
+WhoEnds = (s : State) (e : Step) (k : ℕ) → 1 ≤ k → is_live (actor_of k) s.world.table ≡ true
     → is_live (actor_of k) (step s e).state.world.table ≡ false
     → IsDismissed k e (step s e).reply ⊎ HasFailed (spreads_of e s) k (step s e).state
+
+-- a watcher ends only in a step whose turn names it
+abbrev pub WhichWatchersEnd : Type 0
+WhichWatchersEnd = AfterAll (λ s. (e : Step) (a : ℕ) → a < 17 → is_live a s.world.table ≡ true
+    → is_live a (step s e).state.world.table ≡ false
+    → (w : ℕ) × (is_named (spreads_of e s) (record { actor = a; weight = w }) ≡ true))
 
 -- s is what a step has done before its end: there those end that spread, and those for which in s too much is held and
 -- waits, whoever else ends
 abbrev pub EndsAtOnce : Type 0
-EndsAtOnce = (xs : List Spread) (s : State) (k : ℕ) → is_live (actor_of k) s.world.table ≡ true
+EndsAtOnce = (xs : List Spread) (s : State) (k : ℕ) → 1 ≤ k → is_live (actor_of k) s.world.table ≡ true
     → is_live (actor_of k) (finished xs s).world.table ≡ false
     → (f : Fault) × (entry_of k (finished xs s).faults ≡ Some f) × (IsSpread xs (actor_of k) f ⊎ IsOver k s f)
 

@@ -17,7 +17,7 @@ use Rattle.hub_machine.specs.declared.faults.Fault.TheVariants.{Overrun, Spread}
 use Rattle.hub_machine.specs.Endings.{overrun_by}
 use Rattle.hub_machine.specs.State.{State}
 use Rattle.hub_machine.specs.declared.steps.Step.{Step}
-use Rattle.hub_machine.specs.declared.steps.Step.TheVariants.{Bind, Arrive, Packet, Bad, Close, Turn, Work, Stop}
+use Rattle.hub_machine.specs.declared.steps.Step.TheVariants.{Bind, Watch, Arrive, Packet, Bad, Close, Turn, Work, Stop}
 use Rattle.hub_machine.specs.declared.steps.Reply.{Reply}
 use Rattle.hub_machine.specs.declared.steps.Reply.TheVariants.{Refused}
 
@@ -28,6 +28,7 @@ whose (Bad k f) = Some k
 whose (Close k) = Some k
 whose (Turn a) = if is_system a then None else Some (a - 16)
 whose (Bind b) = None
+whose (Watch x) = None
 whose (Arrive space) = None
 whose Work = None
 whose Stop = None
@@ -74,6 +75,7 @@ abbrev pub spreads_of : Step → State → List SpreadOf
 spreads_of (Turn a) s = spreads_by (Some a) s
 spreads_of Work s = spreads_by (lowest s.world.table) s
 spreads_of (Bind b) s = []
+spreads_of (Watch x) s = []
 spreads_of (Arrive space) s = []
 spreads_of (Packet k es) s = []
 spreads_of (Bad k f) s = []

@@ -1,5 +1,5 @@
 -- What is said: to whom messages go that come to a dataspace, and the answers to syncs.
-use Rattle.std.specs.Prelude.{◌≡◌, ℕ, ◌==◌, ◌≤◌, true, List, [], ◌∷◌, ◌++◌, Option, Some, None, if◌then◌else◌}
+use Rattle.std.specs.Prelude.{◌≡◌, ℕ, ◌==◌, ◌<◌, ◌≤◌, true, List, [], ◌∷◌, ◌++◌, Option, Some, None, if◌then◌else◌}
 use Rattle.std.specs.List.{flat_map}
 use Rattle.std.specs.Map.{values_of}
 use Rattle.pv_value.specs.Plain.{Plain, boolean}
@@ -18,8 +18,10 @@ use Rattle.ac_world.specs.declared.aims.Aim.{Aim}
 use Rattle.ac_world.specs.Outboxes.{Plan, told_to}
 use Rattle.gk_sturdy.specs.declared.bound.Binding.{Binding}
 use Rattle.ac_world.specs.Aims.{aim_at, observer_in}
-use Rattle.ac_world.specs.Behaviours.{Behaviour, dataspace, gatekeeper}
+use Rattle.ac_world.specs.Behaviours.{Behaviour, dataspace, gatekeeper, watcher}
 use Rattle.ac_world.specs.Turns.{Turning, turned_by, turn}
+use Rattle.ac_world.specs.declared.watched.Watched.{Watched}
+use Rattle.ac_world.specs.Watchers.{Task, watcher_of}
 use Rattle.ac_world.specs.Worlds.{WorldState, resident_of, is_space}
 use Rattle.hub_laws.specs.Posting.{grown}
 use Rattle.hub_laws.specs.Scratch.{as_sequence}
@@ -44,7 +46,8 @@ pub record OnlySays (said : ℕ → List Event) (t u : Plan) : Type 0 where
   pub table : u.table ≡ t.table
   pub told : (b : ℕ) → told_to b u.out ≡ told_to b t.out ++ said b
 
--- a message that comes to a dataspace in its turn, where the captures don't weigh too much; the gatekeeper drops it
+-- a message that comes to a dataspace in its turn, where the captures don't weigh too much; the gatekeeper and
+-- watchers drop it
 abbrev pub SaysMessages : Type 0
 SaysMessages =
     ((ds : List Definition) (a from entity : ℕ) (m : Plain) (t : Turning)
@@ -53,6 +56,8 @@ SaysMessages =
     (turned_by (dataspace ds) a from (Message entity m) t).plan)
     × ((ds : List Definition) (bs : List Binding) (a from entity : ℕ) (m : Plain) (t : Turning)
     → turned_by (gatekeeper ds bs) a from (Message entity m) t ≡ t)
+    × ((ds : List Definition) (task : Task) (a from entity : ℕ) (m : Plain) (t : Turning)
+    → turned_by (watcher ds task) a from (Message entity m) t ≡ t)
 
 -- a sync that comes to a system actor is answered by the message `#t` through its peer
 abbrev pub AnswersSyncs : Type 0
@@ -61,8 +66,8 @@ AnswersSyncs =
     → OnlySays (λ b. message_aimed b (aim_at y.schema (boolean true) peer)) t.plan
     (turned_by y a from (Sync entity peer) t).plan
 
--- so after a dataspace's turn over a message each inbox has grown by one batch of just these; after the gatekeeper's
--- none has grown
+-- so after a dataspace's turn over a message each inbox has grown by one batch of just these; after the gatekeeper's or
+-- a watcher's none has grown
 abbrev pub MessagesArrive : Type 0
 MessagesArrive =
     ((a from entity : ℕ) (m : Plain) (w : WorldState) → is_space a ≡ true → is_live a w.table ≡ true
@@ -74,3 +79,6 @@ MessagesArrive =
     × ((from entity : ℕ) (m : Plain) (w : WorldState) → is_live 0 w.table ≡ true
     → first_batch 0 w.table ≡ Some (record { from = from; events = Message entity m ∷ [] }) → (b : ℕ)
     → find_actor b (turn 0 w).world.table.actors ≡ find_actor b (popped 0 w.table).actors)
+    × ((a from entity : ℕ) (m : Plain) (w : WorldState) (x : Watched) → a < 17 → watcher_of a w.watches ≡ Some x
+    → is_live a w.table ≡ true → first_batch a w.table ≡ Some (record { from = from; events = Message entity m ∷ [] })
+    → (b : ℕ) → find_actor b (turn a w).world.table.actors ≡ find_actor b (popped a w.table).actors)

@@ -1,5 +1,5 @@
 -- What connections hold by the packets that they were sent.
-use Rattle.std.specs.Prelude.{◌≡◌, ℕ, List, map, true, is_some}
+use Rattle.std.specs.Prelude.{◌≡◌, ℕ, ◌≤◌, List, map, true, is_some}
 use Rattle.std.specs.List.{AllByRecursion}
 use Rattle.std.specs.List.Sorted.{IsPermutation}
 use Rattle.rl_packet.specs.Holding.{held, holdings_in_order}
@@ -41,5 +41,5 @@ pair_of h = record { oid = h.oid; value = h.value }
 -- where nothing is pending, what it holds is what it holds from scratch, each pair as often
 abbrev pub HoldsFromScratch : List Definition → ℕ → List Step → Type 0
 HoldsFromScratch ds k steps =
-    IsSettled (replay ds steps) → is_live (actor_of k) (replay ds steps).world.table ≡ true
+    1 ≤ k → IsSettled (replay ds steps) → is_live (actor_of k) (replay ds steps).world.table ≡ true
     → IsPermutation (map pair_of (held (sent_to ds k steps))) (scratch k (replay ds steps))

@@ -6,7 +6,7 @@
 
 ghost use Rattle.hub_laws.specs.Laws.{Delivery, SettledDelivery, Wants, Endings};
 ghost use Rattle.hub_laws.specs.Laws.{Holdings, SettledHoldings, Presence, Handles, Refusals};
-ghost use Rattle.hub_laws.specs.Laws.{WhoEnds, EndsAtOnce, EndingsSpareOthers};
+ghost use Rattle.hub_laws.specs.Laws.{WhoEnds, WhichWatchersEnd, EndsAtOnce, EndingsSpareOthers};
 ghost use Rattle.hub_laws.specs.Posting.{PostedOnce, AreOutboxes};
 ghost use Rattle.hub_laws.specs.Saying.{SaysMessages, AnswersSyncs, MessagesArrive};
 
@@ -20,13 +20,15 @@ pub fn what_stands_is_got()
     ensures { SettledDelivery }
 {}
 
-/// Wants: the rows that the gatekeeper or a dataspace owns are those of what it wants by what it
-/// has got, one for each key that gets through, and no others.
+/// Wants: the rows that a live system actor owns are those of what it wants by what it has got, one
+/// for each key that gets through, and no others, but for the observation that a watcher makes
+/// first.
 pub fn rows_are_wants()
     ensures { Wants }
 {}
 
-/// Endings: no row has an owner that isn't live, and nothing is kept of an ended connection.
+/// Endings: no row has an owner that isn't live, and nothing is kept of an ended connection, nor
+/// what an ended watcher has got.
 pub fn endings_leave_nothing()
     ensures { Endings }
 {}
@@ -42,8 +44,8 @@ pub fn settled_holdings_are_from_scratch()
     ensures { SettledHoldings }
 {}
 
-/// Presence: the gatekeeper and the dataspaces are always live, a live connection has names, and
-/// faults are kept of ended connections alone.
+/// Presence: the gatekeeper and the dataspaces are always live, a live watcher was made, a live
+/// connection has names, and faults are kept of ended connections alone.
 pub fn the_live_have_names()
     ensures { Presence }
 {}
@@ -61,8 +63,10 @@ pub fn refusals_leave_their_fault()
 
 /// Who ends: the connection that a step closes or refuses, those that its turn names, and those for
 /// which too much is held and waits; these are weighed as the step leaves them, whoever else ends.
+/// A watcher ends only where a turn names it.
 pub fn nobody_else_ends()
     ensures ends { WhoEnds }
+    ensures watchers { WhichWatchersEnd }
     ensures weighed { EndsAtOnce }
 {}
 
@@ -80,7 +84,7 @@ pub fn posted_as_one_batch()
 
 /// Messages: of one that comes to a dataspace each distinct observation is told what it captures,
 /// as the caveats of its reference let it pass, and nobody else is told anything; the gatekeeper
-/// drops it; a sync is answered.
+/// and watchers drop it; a sync is answered.
 pub fn messages_go_to_observers()
     ensures messages { SaysMessages }
     ensures syncs { AnswersSyncs }

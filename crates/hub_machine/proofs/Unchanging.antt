@@ -3,6 +3,7 @@ use Rattle.std.proofs.Common.{◌≡◌, ℕ, ◌-◌, Bool, true, false, cond, 
 use Rattle.ac_table.specs.declared.batches.Batch.{Batch}
 use Rattle.ac_table.specs.Tables.{is_live, first_batch, lowest}
 use Rattle.gk_sturdy.specs.declared.bound.Binding.{Binding}
+use Rattle.ac_world.specs.declared.watched.Watched.{Watched}
 use Rattle.ac_world.specs.Worlds.{WorldState, is_system}
 use Rattle.ac_world.specs.Turns.{After as TurnOf, turn_first, turn_with}
 use Rattle.rl_packet.specs.declared.packets.TurnEvent.{TurnEvent}
@@ -12,12 +13,12 @@ use Rattle.hub_machine.specs.State.{State, ports_of}
 use Rattle.hub_machine.specs.Admission.{Admitted, refused, admitted, admission}
 use Rattle.hub_machine.specs.Endings.{nameless}
 use Rattle.hub_machine.specs.Laws.{IsRefusal, RefusalChangesNothing}
-use Rattle.hub_machine.specs.Machine.{After, done, is_worn, unchanged, is_barred, bind_unless, refusal, arrive_unless}
-use Rattle.hub_machine.specs.Machine.{judged, packet_at}
+use Rattle.hub_machine.specs.Machine.{After, done, is_worn, unchanged, is_barred, bind_unless, is_unwatchable}
+use Rattle.hub_machine.specs.Machine.{watch_unless, refusal, arrive_unless, judged, packet_at}
 use Rattle.hub_machine.specs.Machine.{bad_at, close_at, tell, told_unless, telling_fault, tell_fault, fault_for}
 use Rattle.hub_machine.specs.Machine.{after_turn, turn_of, rest, work_by}
 use Rattle.hub_machine.specs.declared.steps.Step.{Step}
-use Rattle.hub_machine.specs.declared.steps.Step.TheVariants.{Bind, Arrive, Packet, Bad, Close, Turn, Work, Stop}
+use Rattle.hub_machine.specs.declared.steps.Step.TheVariants.{Bind, Watch, Arrive, Packet, Bad, Close, Turn, Work, Stop}
 use Rattle.hub_machine.specs.declared.steps.Reply.{Reply}
 use Rattle.hub_machine.specs.declared.steps.Reply.TheVariants.{Worn, Halted, Idle}
 use Rattle.ac_world.specs.declared.turns.Turned.TheVariants as turning
@@ -28,6 +29,10 @@ Keeps s x = IsRefusal x.reply → x.state ≡ s
 bind : (c : Bool) (b : Binding) (s : State) → Keeps s (bind_unless c b s)
 bind true b s is = refl
 bind false b s is = absurd is
+
+watch : (c : Bool) (x : Watched) (s : State) → Keeps s (watch_unless c x s)
+watch true x s is = refl
+watch false x s is = absurd is
 
 arrival : (o : Option Reply) (space : ℕ) (s : State) → Keeps s (arrive_unless o space s)
 arrival (Some r) space s is = refl
@@ -106,6 +111,7 @@ worked (Some a) s = by (is_system a)
 
 all_done : (s : State) (e : Step) → Keeps s (done s e)
 all_done s (Bind b) = bind (is_barred b s) b s
+all_done s (Watch x) = watch (is_unwatchable x s) x s
 all_done s (Arrive space) = arrival (refusal space s) space s
 all_done s (Packet k es) = packet k (ports_of k s) es s
 all_done s (Bad k f) = bad k (ports_of k s) f s

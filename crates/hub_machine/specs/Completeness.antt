@@ -20,7 +20,7 @@ use Rattle.hub_machine.specs.Admission.{Admitting, before_all, after, kept, weig
 use Rattle.hub_machine.specs.Admission.{let_through, cap_at}
 use Rattle.hub_machine.specs.Machine.{is_worn, packet_to, telling_fault, exports_after}
 use Rattle.hub_machine.specs.declared.steps.Step.{Step}
-use Rattle.hub_machine.specs.declared.steps.Step.TheVariants.{Bind, Arrive, Packet, Bad, Close, Turn, Work, Stop}
+use Rattle.hub_machine.specs.declared.steps.Step.TheVariants.{Bind, Watch, Arrive, Packet, Bad, Close, Turn, Work, Stop}
 use Rattle.hub_machine.specs.declared.steps.Reply.{Reply}
 use Rattle.hub_machine.specs.declared.steps.Reply.TheVariants.{Refused, Ran, Taken}
 
@@ -100,6 +100,7 @@ IsComplete s (Packet k es) r = is_worn s (Packet k es) ≡ false → IsFinePacke
 IsComplete s (Turn a) r =
     is_worn s (Turn a) ≡ false → (b : Batch) → first_batch a s.world.table ≡ Some b → IsTurnReply (is_system a) a b s r
 IsComplete s (Bind b) r = Unit {0}
+IsComplete s (Watch x) r = Unit {0}
 IsComplete s (Arrive space) r = Unit {0}
 IsComplete s (Bad k f) r = Unit {0}
 IsComplete s (Close k) r = Unit {0}

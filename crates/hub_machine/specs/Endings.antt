@@ -1,5 +1,5 @@
 -- How connections end, and who ends at the end of a step.
-use Rattle.std.specs.Prelude.{ℕ, ◌-◌, List, [], ◌∷◌, ◌&&◌, nat_le, Option, Some, None, if◌then◌else◌}
+use Rattle.std.specs.Prelude.{ℕ, ◌-◌, List, [], ◌∷◌, nat_lt, Option, Some, None, if◌then◌else◌}
 use Rattle.std.specs.Map.{keys_of}
 use Rattle.ac_world.specs.declared.spreads.Spread.{Spread as SpreadOf}
 use Rattle.ac_table.specs.declared.loads.Load.{Load}
@@ -34,10 +34,15 @@ failed_where k (Some f) s = failed k f s
 
 -- ---- the end of a step: first those of whom more would be wanted or sent than may be, in the order of their events
 
--- who isn't live any more doesn't end again
+-- a watcher goes, and nobody is to be told so
+abbrev pub dismissed : ℕ → State → State
+dismissed a s = record s { world = ended_of a s.world }
+
+-- who isn't live any more doesn't end again, and who is always live doesn't end
 abbrev pub spread_out : SpreadOf → State → State
 spread_out x s =
-    if nat_le 17 x.actor && is_there (x.actor - 16) s then failed (x.actor - 16) (Spread x.weight) s else s
+    if nat_lt x.actor 9 then s else if nat_lt x.actor 17 then dismissed x.actor s
+    else if is_there (x.actor - 16) s then failed (x.actor - 16) (Spread x.weight) s else s
 
 abbrev pub all_spread_out : List SpreadOf → State → State
 all_spread_out [] s = s

@@ -1,7 +1,7 @@
 -- The machine: what a step makes of the state, and its reply. What actors do is the world's (`ac_world`).
-use Rattle.std.specs.Prelude.{ℕ, ◌+◌, ◌-◌, ◌^◌, List, [], Bool, true, false, ◌||◌, ◌&&◌, not, ◌==◌, nat_lt, nat_le, map}
-use Rattle.std.specs.Prelude.{Option, Some, None, option_and_then, length, if◌then◌else◌}
-use Rattle.std.specs.List.{flat_map}
+use Rattle.std.specs.Prelude.{ℕ, ◌+◌, ◌-◌, List, [], Bool, true, false, ◌||◌, ◌&&◌, not, ◌==◌, nat_lt, nat_le, map}
+use Rattle.std.specs.Prelude.{◌∷◌, Option, Some, None, is_none, option_and_then, length, if◌then◌else◌}
+use Rattle.std.specs.List.{flat_map, list_any}
 use Rattle.pv_value.specs.Plain.{Plain, embedded}
 use Rattle.ac_table.specs.declared.batches.Event.{Event as Told}
 use Rattle.ac_table.specs.declared.batches.Event.TheVariants as told
@@ -14,7 +14,11 @@ use Rattle.sr_caveat.specs.Embedded.{has_embedded}
 use Rattle.sr_caveat.specs.Caps.{Cap, cap_value, IsSound}
 use Rattle.gk_sturdy.specs.declared.bound.Binding.{Binding}
 use Rattle.gk_sturdy.specs.Bindings.{bound}
-use Rattle.ac_world.specs.Worlds.{binding, arrived, sent, actor_of, is_system, is_space, entry_of, with_entry}
+use Rattle.dp_pattern.specs.Written.{pattern_of}
+use Rattle.lc_watch.specs.Behaviours.{is_behaviour}
+use Rattle.ac_world.specs.Limits.{most_watchers}
+use Rattle.ac_world.specs.declared.watched.Watched.{Watched}
+use Rattle.ac_world.specs.Worlds.{binding, watching, arrived, sent, actor_of, is_system, is_space, entry_of, with_entry}
 use Rattle.ac_world.specs.Worlds.{without_entry}
 use Rattle.ac_world.specs.Turns.{turn}
 use Rattle.rl_packet.specs.declared.packets.Event.TheVariants.{Assert, Retract, Message, Sync}
@@ -33,7 +37,7 @@ use Rattle.hub_machine.specs.State.{State, ports_of}
 use Rattle.hub_machine.specs.Admission.{Admitted, refused, admitted, Admitting, admission}
 use Rattle.hub_machine.specs.Endings.{nameless, departed_for, closed, failed, finished}
 use Rattle.hub_machine.specs.declared.steps.Step.{Step}
-use Rattle.hub_machine.specs.declared.steps.Step.TheVariants.{Bind, Arrive, Packet, Bad, Close, Turn, Work, Stop}
+use Rattle.hub_machine.specs.declared.steps.Step.TheVariants.{Bind, Watch, Arrive, Packet, Bad, Close, Turn, Work, Stop}
 use Rattle.hub_machine.specs.declared.steps.Reply.{Reply}
 use Rattle.hub_machine.specs.declared.steps.Reply.TheVariants.{Worn, Barred, Halted, Full, Opened, Gone, Refused, Idle}
 use Rattle.hub_machine.specs.declared.steps.Reply.TheVariants.{Sent, Ran, Taken}
@@ -66,6 +70,28 @@ is_barred b s =
 abbrev pub bind_unless : Bool → Binding → State → After
 bind_unless true b s = unchanged s Barred
 bind_unless false b s = ends [] (record s { world = binding b s.world }) Taken
+
+-- ---- a watcher
+
+-- one dataspace would be both watched and asserted at
+abbrev pub meets : Watched → Watched → Bool
+meets x y = y.to == x.from || y.from == x.to
+
+-- something is embedded in it, or it is no pattern
+abbrev pub is_no_pattern : Plain → Bool
+is_no_pattern v = has_embedded v || is_none (pattern_of v)
+
+-- why no watcher begins: a connection has come, there are as many as may be, what it watches or asserts at is no
+-- dataspace, its behaviour isn't known, its pattern is none, or a dataspace would be both watched and asserted at
+abbrev pub is_unwatchable : Watched → State → Bool
+is_unwatchable x s =
+    nat_lt 0 s.world.opened || nat_le most_watchers (length s.world.watches) || not (is_space x.from)
+    || not (is_space x.to) || not (is_behaviour x.name) || is_no_pattern x.pattern
+    || list_any (meets x) (x ∷ s.world.watches)
+
+abbrev pub watch_unless : Bool → Watched → State → After
+watch_unless true x s = unchanged s Barred
+watch_unless false x s = ends [] (record s { world = watching x s.world }) Taken
 
 -- ---- an arrival
 
@@ -209,6 +235,7 @@ is_worn s e = nat_le worn_handle s.world.table.next
 
 abbrev pub done : State → Step → After
 done s (Bind b) = bind_unless (is_barred b s) b s
+done s (Watch x) = watch_unless (is_unwatchable x s) x s
 done s (Arrive space) = arrive_unless (refusal space s) space s
 done s (Packet k es) = packet_at k (ports_of k s) es s
 done s (Bad k f) = bad_at k (ports_of k s) f s
@@ -224,6 +251,7 @@ step s e = if is_worn s e then unchanged s Worn else done s e
 -- stand on the wire
 abbrev pub IsAllowed : State → Step → Type 0
 IsAllowed s (Bind b) = IsSound b.cap
+IsAllowed s (Watch x) = Unit {0}
 IsAllowed s (Arrive space) = Unit {0}
 IsAllowed s (Packet k es) = AllByRecursion IsTurnEvent es
 IsAllowed s (Bad k f) = Unit {0}

@@ -1,5 +1,6 @@
 //! The limits. Each is the most that is taken; one more is refused, or ends the connection.
 ghost use Rattle.std.specs.Prelude.{◌≡◌};
+ghost use Rattle.ac_world.specs.Limits.{most_watchers};
 ghost use Rattle.hub_machine.specs.Limits.{most_events, most_handles, most_rows_weight};
 ghost use Rattle.hub_machine.specs.Limits.{most_backlog, most_backlog_weight};
 ghost use Rattle.hub_machine.specs.Limits.{most_deliveries, most_deliveries_weight};
@@ -35,6 +36,9 @@ pub const CONNECTIONS: usize = 32;
 /// The last dataspace; the first is 1.
 pub const DATASPACES: u8 = 8;
 
+/// The most watchers.
+pub const WATCHERS: usize = 8;
+
 /// No step is done where a handle of this number or more would be drawn.
 pub const WORN_HANDLE: u64 = 1 << 62;
 
@@ -52,6 +56,7 @@ pub fn limits_are_as_defined()
     ensures deliveries_weight { DELIVERIES_WEIGHT ≡ most_deliveries_weight }
     ensures connections { CONNECTIONS ≡ most_connections }
     ensures dataspaces { DATASPACES ≡ last_dataspace }
+    ensures watchers { WATCHERS ≡ most_watchers }
     ensures handle { WORN_HANDLE ≡ worn_handle }
     ensures opened { WORN_CONNECTIONS ≡ worn_connections }
 {}

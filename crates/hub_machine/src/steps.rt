@@ -1,6 +1,7 @@
 //! What can happen to the server, and what it answers.
 
 use crate::faults::Fault;
+use ac_world::Watched;
 use gk_sturdy::Binding;
 use rl_packet::{Packet, Turn};
 
@@ -9,6 +10,8 @@ use rl_packet::{Packet, Turn};
 pub enum Step {
     /// An oid is bound to a key and to the reference that it gives. No connection has come yet.
     Bind(Binding),
+    /// A watcher begins. No connection has come yet.
+    Watch(Watched),
     /// A connection comes, whose object 0 is the gatekeeper, for 0, or the dataspace of this
     /// number.
     Arrive(u8),
@@ -31,7 +34,8 @@ pub enum Step {
 pub enum Reply {
     /// The numbers of handles or of connections are used up. Nothing changes.
     Worn,
-    /// There is no such dataspace, or the reference can't be bound. Nothing changes.
+    /// There is no such dataspace, the reference can't be bound, or the watcher can't begin.
+    /// Nothing changes.
     Barred,
     /// The server is to stop: no connection comes, and the system's actors have nothing to do.
     /// Nothing changes.

@@ -18,6 +18,7 @@ use crate::refusals::{Refusal, refuse_for};
 use ac_world::{Act, BEFORE_CONNECTIONS, FIRST_CONNECTION, Load, World};
 use ds_space::Space;
 use hub_machine::{BACKLOG, BACKLOG_WEIGHT, Fault, HANDLES, ROWS_WEIGHT, TURN_EVENTS, over};
+use lc_watch::Behaves;
 use pv_value::{NoMemory, Node, Value, weight};
 use rl_packet::{Event, Turn, TurnEvent};
 use rl_ports::{Inbound, Ports};
@@ -82,18 +83,21 @@ fn inside(value: &Value) -> &Value
 }
 
 /// Whether events at an object wait for one of the system's actors.
-fn waits_at<S: Space + Drop, J: Judge + Drop>(to: &Cap, world: &World<S, J>) -> bool
+fn waits_at<S: Space + Drop, J: Judge + Drop, B: Behaves + Drop>(
+    to: &Cap,
+    world: &World<S, J, B>,
+) -> bool
     ensures { result ≡ waits_at to.now world.now }
 {
     to.actor < FIRST_CONNECTION && world.live(to.actor)
 }
 
 /// What the caveats of a reference let pass of a value that is sent through it.
-fn let_through<S: Space + Drop, J: Judge + Drop>(
+fn let_through<S: Space + Drop, J: Judge + Drop, B: Behaves + Drop>(
     alloc: Global,
     to: &Cap,
     value: &Value,
-    world: &World<S, J>,
+    world: &World<S, J, B>,
 ) -> Result<Option<Value>, NoMemory>
     ensures { IfOk result (λ w. w ≡ let_through world.now to.now value.now) }
 {
@@ -102,11 +106,11 @@ fn let_through<S: Space + Drop, J: Judge + Drop>(
 
 impl Admitting {
     /// Before the first event of a connection.
-    fn new<S: Space + Drop, J: Judge + Drop>(
+    fn new<S: Space + Drop, J: Judge + Drop, B: Behaves + Drop>(
         alloc: Global,
         connection: u32,
         ports: Ports,
-        world: &World<S, J>,
+        world: &World<S, J, B>,
     ) -> Admitting
         requires { connection ≤ 2 ^ 31 }
         ensures { result ≡ before_all connection ports world.now }
@@ -139,11 +143,11 @@ impl Admitting {
     }
 
     /// What waits, with one event more at an object.
-    fn load_with<S: Space + Drop, J: Judge + Drop>(
+    fn load_with<S: Space + Drop, J: Judge + Drop, B: Behaves + Drop>(
         &self,
         to: &Cap,
         weight: u64,
-        world: &World<S, J>,
+        world: &World<S, J, B>,
     ) -> Load
         ensures { result ≡ load_with world.now to.now weight self.now }
     {
@@ -205,12 +209,12 @@ impl Admitting {
     }
 
     /// An assertion is done: its row gets the next handle.
-    fn assert_value<S: Space + Drop, J: Judge + Drop>(
+    fn assert_value<S: Space + Drop, J: Judge + Drop, B: Behaves + Drop>(
         &mut self,
         to: &Cap,
         value: Value,
         handle: u64,
-        world: &World<S, J>,
+        world: &World<S, J, B>,
     ) -> Result<(), NoMemory>
         requires next { self.old.next < 2 ^ 63 }
         requires unused { inbound_of handle self.old.ports ≡ None }
@@ -228,12 +232,12 @@ impl Admitting {
     }
 
     /// A value that got through is asserted, where nothing refuses it.
-    fn admit_row<S: Space + Drop, J: Judge + Drop>(
+    fn admit_row<S: Space + Drop, J: Judge + Drop, B: Behaves + Drop>(
         &mut self,
         to: &Cap,
         value: Value,
         handle: u64,
-        world: &World<S, J>,
+        world: &World<S, J, B>,
     ) -> Result<(), Refusal>
         requires next { self.old.next < 2 ^ 63 }
         requires unused { inbound_of handle self.old.ports ≡ None }
@@ -250,12 +254,12 @@ impl Admitting {
     }
 
     /// What got through is asserted; of a value that was refused the handle is noted.
-    fn admit_passed<S: Space + Drop, J: Judge + Drop>(
+    fn admit_passed<S: Space + Drop, J: Judge + Drop, B: Behaves + Drop>(
         &mut self,
         to: &Cap,
         passed: Option<Value>,
         handle: u64,
-        world: &World<S, J>,
+        world: &World<S, J, B>,
     ) -> Result<(), Refusal>
         requires next { self.old.next < 2 ^ 63 }
         requires unused { inbound_of handle self.old.ports ≡ None }
@@ -272,13 +276,13 @@ impl Admitting {
     }
 
     /// A value is asserted, where nothing refuses it.
-    fn admit_assertion<S: Space + Drop, J: Judge + Drop>(
+    fn admit_assertion<S: Space + Drop, J: Judge + Drop, B: Behaves + Drop>(
         &mut self,
         alloc: Global,
         to: &Cap,
         value: &Value,
         handle: u64,
-        world: &World<S, J>,
+        world: &World<S, J, B>,
     ) -> Result<(), Refusal>
         requires { self.old.next < 2 ^ 63 }
         ensures free { OnOk result ((taking_cause handle self.old
@@ -295,7 +299,11 @@ impl Admitting {
     }
 
     /// How much the row of a handle weighs.
-    fn row_weighs<S: Space + Drop, J: Judge + Drop>(&self, handle: u64, world: &World<S, J>) -> u64
+    fn row_weighs<S: Space + Drop, J: Judge + Drop, B: Behaves + Drop>(
+        &self,
+        handle: u64,
+        world: &World<S, J, B>,
+    ) -> u64
         ensures { result ≡ row_weighs handle world.now self.now }
     {
         match self.made.get(&handle) {
@@ -308,11 +316,11 @@ impl Admitting {
     }
 
     /// A handle is given back, and its row goes, where it has one.
-    fn retract<S: Space + Drop, J: Judge + Drop>(
+    fn retract<S: Space + Drop, J: Judge + Drop, B: Behaves + Drop>(
         &mut self,
         handle: u64,
         what: Inbound,
-        world: &World<S, J>,
+        world: &World<S, J, B>,
     ) -> Result<(), NoMemory>
         ensures { OnOk result
             (self.new ≡ after_retraction handle (Some what) world.now self.old) }
@@ -326,10 +334,10 @@ impl Admitting {
     }
 
     /// What a handle stands for is taken back, where it is in use.
-    fn admit_retraction<S: Space + Drop, J: Judge + Drop>(
+    fn admit_retraction<S: Space + Drop, J: Judge + Drop, B: Behaves + Drop>(
         &mut self,
         handle: u64,
-        world: &World<S, J>,
+        world: &World<S, J, B>,
     ) -> Result<(), Refusal>
         ensures free { OnOk result (retraction_cause handle self.old ≡ None) }
         ensures cause { IfErr result (IsWhyRefused (retraction_cause handle self.old)) }
@@ -343,11 +351,11 @@ impl Admitting {
     }
 
     /// A value that got through is said, where nothing refuses it.
-    fn say<S: Space + Drop, J: Judge + Drop>(
+    fn say<S: Space + Drop, J: Judge + Drop, B: Behaves + Drop>(
         &mut self,
         to: &Cap,
         value: Value,
-        world: &World<S, J>,
+        world: &World<S, J, B>,
     ) -> Result<(), Refusal>
         ensures free { OnOk result (said_cause world.now to.now (Some value) self.old ≡ None) }
         ensures cause { IfErr result
@@ -363,12 +371,12 @@ impl Admitting {
     }
 
     /// A value is said, where nothing refuses it; one that doesn't get through is dropped.
-    fn admit_message<S: Space + Drop, J: Judge + Drop>(
+    fn admit_message<S: Space + Drop, J: Judge + Drop, B: Behaves + Drop>(
         &mut self,
         alloc: Global,
         to: &Cap,
         value: &Value,
-        world: &World<S, J>,
+        world: &World<S, J, B>,
     ) -> Result<(), Refusal>
         ensures free { OnOk result
             (said_cause world.now to.now (let_through world.now to.now value.now) self.old ≡ None) }
@@ -385,11 +393,11 @@ impl Admitting {
     }
 
     /// A peer asks for an answer, where nothing refuses it.
-    fn admit_sync<S: Space + Drop, J: Judge + Drop>(
+    fn admit_sync<S: Space + Drop, J: Judge + Drop, B: Behaves + Drop>(
         &mut self,
         to: &Cap,
         peer: &Value,
-        world: &World<S, J>,
+        world: &World<S, J, B>,
     ) -> Result<(), Refusal>
         ensures free { OnOk result
             (load_cause (load_with world.now to.now (weighed peer.now) self.old) ≡ None) }
@@ -406,13 +414,13 @@ impl Admitting {
     }
 
     /// What an object is told, where nothing refuses it.
-    fn admit_event<S: Space + Drop, J: Judge + Drop>(
+    fn admit_event<S: Space + Drop, J: Judge + Drop, B: Behaves + Drop>(
         &mut self,
         alloc: Global,
         connection: u32,
         to: &Cap,
         event: &Event,
-        world: &World<S, J>,
+        world: &World<S, J, B>,
     ) -> Result<(), Refusal>
         requires small { connection ≤ 2 ^ 31 }
         requires next { self.old.next < 2 ^ 63 }
@@ -441,12 +449,12 @@ impl Admitting {
     }
 
     /// One event more, or the cause against it.
-    fn admit<S: Space + Drop, J: Judge + Drop>(
+    fn admit<S: Space + Drop, J: Judge + Drop, B: Behaves + Drop>(
         &mut self,
         alloc: Global,
         connection: u32,
         event: &TurnEvent,
-        world: &World<S, J>,
+        world: &World<S, J, B>,
     ) -> Result<(), Refusal>
         requires small { connection ≤ 2 ^ 31 }
         requires next { self.old.next < 2 ^ 63 }
@@ -462,12 +470,12 @@ impl Admitting {
     }
 
     /// All events in order, or the cause against the first that is refused.
-    fn admit_all<S: Space + Drop, J: Judge + Drop>(
+    fn admit_all<S: Space + Drop, J: Judge + Drop, B: Behaves + Drop>(
         &mut self,
         alloc: Global,
         connection: u32,
         events: &[TurnEvent],
-        world: &World<S, J>,
+        world: &World<S, J, B>,
     ) -> Result<(), Refusal>
         requires small { connection ≤ 2 ^ 31 }
         requires next { self.old.next < worn_handle }
@@ -485,12 +493,12 @@ impl Admitting {
 }
 
 /// What the events of a packet do, or why one of them is refused.
-pub fn admission<S: Space + Drop, J: Judge + Drop>(
+pub fn admission<S: Space + Drop, J: Judge + Drop, B: Behaves + Drop>(
     alloc: Global,
     connection: u32,
     ports: Ports,
     turn: &Turn,
-    world: &World<S, J>,
+    world: &World<S, J, B>,
 ) -> Result<Admitting, Refusal>
     requires small { connection ≤ 2 ^ 31 }
     requires next { world.now.table.next < worn_handle }

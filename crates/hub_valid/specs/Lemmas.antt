@@ -15,6 +15,7 @@ pub mod Sparing
 pub mod StepEnds
 pub mod Turns
 pub mod Values
+pub mod Watchers
 pub mod WorldPlans
 pub mod WorldTables
 pub mod Worlds

@@ -1,11 +1,12 @@
 -- What the parts of the proof promise one another, and what the hub's code rests on.
-use Rattle.std.specs.Prelude.{◌≡◌, ℕ, ◌+◌, ◌^◌, ◌<◌, ◌≤◌, List, false, Some, length, map}
+use Rattle.std.specs.Prelude.{◌≡◌, ℕ, ◌^◌, ◌<◌, ◌≤◌, List, false, Some, length, map}
 use Rattle.std.specs.List.{AllByRecursion}
 use Rattle.pv_value.specs.Plain.{Plain}
 use Rattle.ps_schema.specs.declared.Definition.{Definition}
 use Rattle.ac_table.specs.declared.batches.Batch.{Batch}
 use Rattle.gk_sturdy.specs.declared.bound.Binding.{Binding}
-use Rattle.ac_world.specs.Worlds.{binding}
+use Rattle.ac_world.specs.declared.watched.Watched.{Watched}
+use Rattle.ac_world.specs.Worlds.{binding, watching}
 use Rattle.ac_world.specs.Turns.{turn}
 use Rattle.ac_world.specs.declared.turns.Turned.TheVariants as turned
 use Rattle.rl_packet.specs.declared.packets.TurnEvent.{TurnEvent}
@@ -17,14 +18,14 @@ use Rattle.sr_caveat.specs.Caps.{cap_of, IsSound}
 use Rattle.sr_pass.specs.Passing.{passed}
 use Rattle.hub_machine.specs.State.{State}
 use Rattle.hub_machine.specs.Admission.{Admitting, admission, admitted}
-use Rattle.hub_machine.specs.Endings.{nameless, departed}
-use Rattle.hub_machine.specs.Machine.{is_barred, opened, accepted, exporting, sent_event}
-use Rattle.hub_valid.specs.Validity.{IsValid, IsValidEntry, IsValidAct, IsValidBatch, HoldsObjects}
+use Rattle.hub_machine.specs.Endings.{nameless, departed, dismissed}
+use Rattle.hub_machine.specs.Machine.{is_barred, is_unwatchable, opened, accepted, exporting, sent_event}
+use Rattle.hub_valid.specs.Validity.{Lived, lived, IsValid, IsValidEntry, IsValidAct, IsValidBatch, HoldsObjects}
 
 -- what a reference's caveats let pass holds references to no other actors' objects than those that were live
 abbrev pub PassedIsValid : Type 0
 PassedIsValid =
-    (ds : List Definition) (n : ℕ) (x v w : Plain) (c : Cap) → cap_of x ≡ Some c → HoldsObjects n v
+    (ds : List Definition) (n : Lived) (x v w : Plain) (c : Cap) → cap_of x ≡ Some c → HoldsObjects n v
     → passed ds c.caveats v ≡ Some w → HoldsObjects n w
 
 -- a reference is bound, which the machine takes
@@ -32,6 +33,12 @@ abbrev pub BindingIsValid : Type 0
 BindingIsValid =
     (b : Binding) (s : State) → IsSound b.cap → is_barred b s ≡ false → IsValid s
     → IsValid (record s { world = binding b s.world })
+
+-- a watcher begins, which the machine takes
+abbrev pub WatchingIsValid : Type 0
+WatchingIsValid =
+    (x : Watched) (s : State) → is_unwatchable x s ≡ false → IsValid s
+    → IsValid (record s { world = watching x s.world })
 
 -- a connection comes, whose first object is a system actor's
 abbrev pub OpenedIsValid : Type 0
@@ -42,13 +49,13 @@ OpenedIsValid =
 abbrev pub ActsAreValid : Type 0
 ActsAreValid =
     (k : ℕ) (ports : PortsState) (es : List TurnEvent) (x : Admitting) (s : State) → IsValid s
-    → IsValidEntry s.world.opened (k, ports) → AllByRecursion IsTurnEvent es → admission k ports s.world es ≡ admitted x
-    → AllByRecursion (IsValidAct (16 + s.world.opened)) x.acts
+    → IsValidEntry (lived s.world) (k, ports) → AllByRecursion IsTurnEvent es → admission k ports s.world es ≡ admitted x
+    → AllByRecursion (IsValidAct (lived s.world)) x.acts
 
 abbrev pub AcceptedIsValid : Type 0
 AcceptedIsValid =
     (k : ℕ) (ports : PortsState) (es : List TurnEvent) (x : Admitting) (s : State) → IsValid s
-    → IsValidEntry s.world.opened (k, ports) → AllByRecursion IsTurnEvent es → admission k ports s.world es ≡ admitted x
+    → IsValidEntry (lived s.world) (k, ports) → AllByRecursion IsTurnEvent es → admission k ports s.world es ≡ admitted x
     → IsValid (accepted k x s)
 
 abbrev pub NamelessIsValid : Type 0
@@ -57,6 +64,9 @@ NamelessIsValid = (k : ℕ) (s : State) → IsValid s → IsValid (nameless k s)
 abbrev pub DepartedIsValid : Type 0
 DepartedIsValid = (k : ℕ) (s : State) → IsValid s → IsValid (departed k s)
 
+abbrev pub DismissedIsValid : Type 0
+DismissedIsValid = (a : ℕ) (s : State) → IsValid s → IsValid (dismissed a s)
+
 abbrev pub TurnedIsValid : Type 0
 TurnedIsValid = (a : ℕ) (s : State) → IsValid s → IsValid (record s { world = (turn a s.world).world })
 
@@ -64,15 +74,15 @@ TurnedIsValid = (a : ℕ) (s : State) → IsValid s → IsValid (record s { worl
 abbrev pub TakenIsValid : Type 0
 TakenIsValid =
     (a : ℕ) (s : State) (b : Batch) → IsValid s → (turn a s.world).turned ≡ turned.Taken b
-    → IsValidBatch (16 + s.world.opened) s.world.table.next b
+    → IsValidBatch (lived s.world) s.world.table.next b
 
 abbrev pub ExportingIsValid : Type 0
 ExportingIsValid =
-    (k : ℕ) (b : Batch) (ports : PortsState) (s : State) → IsValid s → IsValidEntry s.world.opened (k, ports)
-    → IsValidBatch (16 + s.world.opened) s.world.table.next b → IsValid (exporting k b ports s)
+    (k : ℕ) (b : Batch) (ports : PortsState) (s : State) → IsValid s → IsValidEntry (lived s.world) (k, ports)
+    → IsValidBatch (lived s.world) s.world.table.next b → IsValid (exporting k b ports s)
 
 -- what a connection is told of such a batch may stand in a packet
 abbrev pub SentIsSound : Type 0
 SentIsSound =
-    (n next k : ℕ) (exports : List Plain) (b : Batch) → IsValidBatch n next b → next ≤ 2 ^ 63
+    (n : Lived) (next k : ℕ) (exports : List Plain) (b : Batch) → IsValidBatch n next b → next ≤ 2 ^ 63
     → length exports ≤ most_exports → AllByRecursion IsTurnEvent (map (sent_event exports k) b.events)

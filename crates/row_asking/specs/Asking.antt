@@ -4,13 +4,14 @@ use Rattle.std.specs.List.{range_with_len}
 use Rattle.pv_value.specs.Plain.{Plain, Plains, byte_string, sequence, symbol}
 use Rattle.pv_words.specs.Words.{labelled, number}
 use Rattle.gk_sturdy.specs.declared.bound.Binding.{Binding}
+use Rattle.ac_world.specs.declared.watched.Watched.{Watched}
 use Rattle.rl_packet.specs.Grammar.{IsPacketOf}
 use Rattle.rl_packet.specs.declared.packets.Event.TheVariants.{Assert}
 use Rattle.rl_packet.specs.declared.packets.Packet.TheVariants.{Turn as TurnPacket}
 use Rattle.rl_packet.specs.declared.packets.TurnEvent.{TurnEvent}
 use Rattle.hub_machine.specs.declared.faults.Fault.{Fault}
 use Rattle.hub_machine.specs.declared.faults.Fault.TheVariants.{BadBytes, BadPacket}
-use Rattle.hub_machine.specs.declared.steps.Step.TheVariants.{Bind, Arrive, Packet, Bad, Close, Turn, Work, Stop}
+use Rattle.hub_machine.specs.declared.steps.Step.TheVariants.{Bind, Watch, Arrive, Packet, Bad, Close, Turn, Work, Stop}
 use Rattle.sc_events.specs.Events.{reference_to}
 use Rattle.row_asking.specs.declared.asking.Asked.{Asked}
 use Rattle.row_asking.specs.declared.asking.Asked.TheVariants.{Step, Pending, Lowest, Live, Holds}
@@ -48,10 +49,15 @@ AsksBinding v b =
     × (v ≡ labelled (codes "bind") (b.oid ∷ byte_string b.key ∷ number actor ∷ sequence cs ∷ []))
     × (b.cap ≡ reference_to actor cs)
 
+-- <watch from pattern to name>
+abbrev pub AsksWatcher : Plain → Watched → Type 0
+AsksWatcher v x = v ≡ labelled (codes "watch") (number x.from ∷ x.pattern ∷ number x.to ∷ symbol x.name ∷ [])
+
 abbrev pub Asks : Plain → Asked → Type 0
 Asks v (Step Work) = v ≡ symbol (codes "work")
 Asks v (Step Stop) = v ≡ symbol (codes "stop")
 Asks v (Step (Bind b)) = AsksBinding v b
+Asks v (Step (Watch x)) = AsksWatcher v x
 Asks v (Step (Arrive space)) = v ≡ labelled (codes "arrive") (number space ∷ [])
 Asks v (Step (Packet k turn)) = AsksPacket v k turn
 Asks v (Step (Bad k f)) = (x : Plain) × (v ≡ labelled (codes "bad") (number k ∷ x ∷ [])) × IsCause x f

@@ -2,10 +2,11 @@
 ghost use Rattle.std.specs.Prelude.{◌≡◌, [], ◌∷◌, codes, IfOk};
 ghost use Rattle.pv_value.specs.Plain.{symbol};
 ghost use Rattle.pv_words.specs.Words.{labelled, number as number_value};
-ghost use Rattle.row_asking.specs.Asking.{Asks, AsksBinding, IsTurnAt, IsCause};
+ghost use Rattle.row_asking.specs.Asking.{Asks, AsksBinding, AsksWatcher, IsTurnAt, IsCause};
 ghost use Rattle.row_asking.specs.Asking.{assertions as assertions_of};
 ghost use Rattle.hub_machine.specs.declared.faults.Fault.TheVariants.{BadBytes};
 
+use ac_world::Watched;
 use gk_sturdy::Binding;
 use hub_machine::{Fault as Cause, Step};
 use pv_value::{Node, Value};
@@ -69,6 +70,9 @@ fn asked_by_record(alloc: Global, word: &str, fields: &[Value]) -> Result<Asked,
             let binding = binding(alloc, oid, key, actor, caveats)?;
             Ok(Asked::Step(Step::Bind(binding)))
         }
+        [from, pattern, to, name] if word == "watch" => {
+            Ok(Asked::Step(Step::Watch(watched(from, pattern, to, name)?)))
+        }
         _ => Err(Fault::Form("no step or question of so many fields")),
     }
 }
@@ -125,6 +129,32 @@ fn binding(
         key: key.copy()?,
         cap: reference_to(alloc, actor, caveats.as_slice())?,
     })
+}
+
+/// The watcher that a record of these fields is of.
+fn watched(from: &Value, pattern: &Value, to: &Value, name: &Value) -> Result<Watched, Fault>
+    ensures { IfOk result (λ x. AsksWatcher
+        (labelled (codes "watch") (from.now ∷ pattern.now ∷ to.now ∷ name.now ∷ [])) x) }
+{
+    let Node::Sym(name) = &name.node else {
+        return Err(Fault::Form("no name of a behaviour"));
+    };
+    Ok(Watched {
+        from: space_number(from)?,
+        pattern: pattern.copy()?,
+        to: space_number(to)?,
+        name: name.copy()?,
+    })
+}
+
+/// A number of 8 bits.
+fn space_number(value: &Value) -> Result<u8, Fault>
+    ensures { IfOk result (λ n. value.now ≡ number_value n) }
+{
+    match u8::try_from(small_number(value)?) {
+        Ok(n) => Ok(n),
+        Err(_) => Err(Fault::Form("no number of 8 bits")),
+    }
 }
 
 /// A turn as it stands on the wire.

@@ -3,7 +3,7 @@ use Rattle.std.specs.Prelude.{◌≡◌, ◌≢◌, ◌≤◌, ◌⊎◌, ℕ, L
 use Rattle.std.specs.Prelude.{All, IfSome}
 use Rattle.dsd_top.specs.Commands.{request_of, command_of, notice_of, AreOfTable, IsTextOf, is_serve}
 use Rattle.dsd_top.specs.Schemas.{Files}
-use Rattle.dsd_top.specs.Statuses.{statuses_of, file_of, IsAnswerOf, IsBadInput, IsOver, IsBadConfig, IsNotBuilt}
+use Rattle.dsd_top.specs.Statuses.{statuses_of, file_of, IsAnswerOf, IsBadInput, IsOver, IsBadConfig}
 use Rattle.dsd_top.specs.Statuses.{IsUntold, Stands}
 use Rattle.dsd_top.specs.Lines.{Says, SaysFront}
 use Rattle.dsd_top.specs.declared.words.Command.{Command}
@@ -55,8 +55,6 @@ pub record IsRun (words : List (List ℕ)) (before now : Streams) (status : ℕ)
   pub bad_input : status ≡ 1 → IfSome (command_of words) (λ c. IsBadInput (Some before.host.files) c before.input.left)
   pub limit : status ≡ 6 → IfSome (command_of words) (λ c. IsOver (Some before.host.files) c before.input.left)
   pub bad_config : status ≡ 7 → IfSome (command_of words) (λ c. IsBadConfig (Some before.host.files) c
-      before.input.left)
-  pub not_built : status ≡ 10 → IfSome (command_of words) (λ c. IsNotBuilt (Some before.host.files) c
       before.input.left)
   pub cut : status ≡ 4 → IfSome (command_of words) (λ c. IsFrontOfAnswer (Some before.host.files) c before.input.left
       now.out.held)

@@ -9,6 +9,7 @@ ghost use Rattle.row_steps.specs.Stepping.{IsStepped, IsAnswered};
 use ds_space::PlainSpace;
 use hub_core::{Hub, Reply, Step};
 use hub_outs::{Outs, turning};
+use lc_watch::{Table, Watcher};
 use pv_value::{NoMemory, Value};
 use pv_words::number;
 use rl_packet::held;
@@ -19,7 +20,7 @@ use std::alloc::Global;
 /// A hub, and what it sent to each connection.
 #[derive(Drop)]
 pub struct Machine {
-    hub: Hub<PlainSpace, NoNames>,
+    hub: Hub<PlainSpace, NoNames, Watcher<Table>>,
     outs: Outs,
 }
 
@@ -29,7 +30,7 @@ impl Machine {
         ensures { IfOk result (λ machine. hand_of machine ≡ first_hand) }
     {
         Ok(Machine {
-            hub: Hub::begin(alloc, NoNames)?,
+            hub: Hub::begin(alloc, NoNames, Watcher::new(Table))?,
             outs: Outs::new(alloc),
         })
     }

@@ -1,3 +1,3 @@
-pub mod Binding
+pub mod Setting
 pub mod Parts
 pub mod TextCourses

@@ -4,12 +4,22 @@ use Rattle.std.proofs.lemmas.Result.{IfOk-weaker, IfErr-weaker}
 use Rattle.hub_machine.specs.State.{State}
 use Rattle.sc_config.specs.declared.faults.ConfigFault.{ConfigFault}
 use Rattle.sc_config.specs.Courses.{Setting, Course}
-use Rattle.sc_config.specs.Keeping.{HasSet, IsStopped, SetsAs, StopsAs}
+use Rattle.sc_config.specs.Keeping.{IsAt, HasSet, IsStopped, SetsAs, StopsAs}
 
+-- where it runs as that does from each configuration that is there
+module _ (s : State) (part whole : Setting → Course) (same : (c : Setting) → IsAt c s → part c ≡ whole c)
+    (x : Result State ConfigFault) where
+  pub sets_where : IfOk x (SetsAs s part) → IfOk x (SetsAs s whole)
+  sets_where = IfOk-weaker x _ _ (λ t p c at. subst (λ d. HasSet d t) (same c at) (p c at))
+
+  pub stops_where : IfErr x (StopsAs s part) → IfErr x (StopsAs s whole)
+  stops_where = IfErr-weaker x _ _ (λ f p c at. subst (λ d. IsStopped d f) (same c at) (p c at))
+
+-- or from everywhere
 module _ (s : State) (part whole : Setting → Course) (same : (c : Setting) → part c ≡ whole c)
     (x : Result State ConfigFault) where
   pub sets_so : IfOk x (SetsAs s part) → IfOk x (SetsAs s whole)
-  sets_so = IfOk-weaker x _ _ (λ t p c at. subst (λ d. HasSet d t) (same c) (p c at))
+  sets_so = sets_where s part whole (λ c at. same c) x
 
   pub stops_so : IfErr x (StopsAs s part) → IfErr x (StopsAs s whole)
-  stops_so = IfErr-weaker x _ _ (λ f p c at. subst (λ d. IsStopped d f) (same c) (p c at))
+  stops_so = stops_where s part whole (λ c at. same c) x

@@ -23,7 +23,7 @@ abbrev alone : Unit {0} → Doing Setting Cause
 alone i = doing
 
 pub begun : (ds : List Definition) (s : State) → s ≡ opening ds → IsAt (beginning ds) s
-begun ds s is = record { allowed = tt; bindings = tt; state = is; schema = ap (λ (t : State). t.world.schema) is }
+begun ds s is = record { allowed = tt; set_up = tt; state = is; schema = ap (λ (t : State). t.world.schema) is }
 
 -- so many values of the text are read and done, one at least, under the schema that the first one gives
 abbrev pub IsDone : List ℕ → ℕ → Values → State → Type 0
@@ -39,7 +39,7 @@ module _ (text : List ℕ) where
       → IsConfigured text s
   none_there ds s none is read =
       let at = begun [] s (is ∙ ap opening none) in
-      (beginning [], input.none_there alone Text text read tt, at.allowed, at.bindings, at.state)
+      (beginning [], input.none_there alone Text text read tt, at.allowed, at.set_up, at.state)
 
   pub none_read : AreReadAs Text text [] false → IsRefusedAs text (fault.Bad 0)
   none_read read = input.none_read alone Text text read tt
@@ -58,9 +58,6 @@ module _ (text : List ℕ) where
           → ((f ≡ fault.NoMemory → ⊥) → (f ≡ fault.Bad 0) × IsVerdict (text_in (event_of v)) None)
           → IsRefusedAs text f
       first_at_fault (fault.Bad k) told =
-          let t = told (λ e. cc) in
-          subst (IsRefusedAs text) (sym t.0) (input.first_refused alone Text text values v read on t.1 tt)
-      first_at_fault (fault.NotBuilt k) told =
           let t = told (λ e. cc) in
           subst (IsRefusedAs text) (sym t.0) (input.first_refused alone Text text values v read on t.1 tt)
       first_at_fault fault.NoMemory told = tt
@@ -96,7 +93,7 @@ module _ (text : List ℕ) where
         → IsConfigured text s
     all_done read =
         let r = input.all_done alone Text text n values (λ c. IsAt c s) done read tt in
-        (r.0, r.1, r.2.allowed, r.2.bindings, r.2.state)
+        (r.0, r.1, r.2.allowed, r.2.set_up, r.2.state)
 
     pub cut_off : ((vs : List Plain) → AreSoFar Text text vs values → AreReadAs Text text vs false)
         → IsRefusedAs text (fault.Bad n)

@@ -13,7 +13,7 @@ use Rattle.hub_machine.specs.declared.steps.Step.TheVariants as step
 use Rattle.hub_machine.specs.declared.steps.Reply.{Reply}
 use Rattle.hub_machine.specs.declared.steps.Reply.TheVariants.{Taken}
 use Rattle.sc_events.specs.declared.events.ScriptEvent.{ScriptEvent}
-use Rattle.sc_events.specs.declared.events.ScriptEvent.TheVariants.{Bind, Schema, Unbuilt}
+use Rattle.sc_events.specs.declared.events.ScriptEvent.TheVariants.{Bind, Schema, Watch}
 use Rattle.sc_schema.specs.Courses.{CourseOf, Doing}
 pub use Rattle.sc_schema.specs.Courses.{goes, stops}
 use Rattle.sc_config.specs.declared.faults.ConfigFault.{ConfigFault}
@@ -26,10 +26,9 @@ pub record Setting : Type 0 where
   pub schema : List Definition
   pub steps : List Step
 
--- value n is none, or none that a configuration has there; or in event n what isn't built yet would be done
+-- value n is none, or none that a configuration has there
 pub data Cause : Type 0 where
   bad : (n : ℕ) → Cause
-  not_built : (n : ℕ) → Cause
 
 abbrev pub Course : Type 0
 Course = CourseOf Setting Cause
@@ -45,21 +44,22 @@ state_of c = replay c.schema c.steps
 abbrev pub with_step : Step → Setting → Setting
 with_step e c = record c { steps = c.steps ++ e ∷ [] }
 
--- a binding has to be taken
-abbrev pub bound_by : ℕ → Reply → Setting → Course
-bound_by n Taken c = goes c
-bound_by n answer c = stops (bad n)
+abbrev pub if_taken : ℕ → Reply → Setting → Course
+if_taken n Taken c = goes c
+if_taken n answer c = stops (bad n)
 
--- the names of its guards have to be defined
+-- a reference is bound, or a watcher begins; that has to be taken
+abbrev pub set_up : ℕ → Step → Setting → Course
+set_up n e c = if_taken n (step_of (state_of c) e).reply (with_step e c)
+
+-- the names of a binding's guards have to be defined
 abbrev pub binds : ℕ → Binding → Setting → Course
-binds n b c =
-    if all_known c.schema (caveats b.cap.caveats)
-    then bound_by n (step_of (state_of c) (step.Bind b)).reply (with_step (step.Bind b) c) else stops (bad n)
+binds n b c = if all_known c.schema (caveats b.cap.caveats) then set_up n (step.Bind b) c else stops (bad n)
 
 abbrev pub after_event : ℕ → ScriptEvent → Setting → Course
 after_event n (Bind b) c = binds n b c
 after_event n (Schema text) c = if n == 0 then goes c else stops (bad n)
-after_event n Unbuilt c = stops (not_built n)
+after_event n (Watch x) c = set_up n (step.Watch x) c
 after_event n other c = stops (bad n)
 
 -- a text that is no schema is a bad first value
@@ -70,5 +70,4 @@ doing = record { beginning = beginning; after_event = after_event; bad = bad; no
 
 abbrev pub cause_in : ConfigFault → Option Cause
 cause_in (config.Bad n) = Some (bad n)
-cause_in (config.NotBuilt n) = Some (not_built n)
 cause_in config.NoMemory = None

@@ -6,12 +6,12 @@ use Rattle.hub_laws.specs.Laws.{AreAllowed}
 use Rattle.sc_schema.specs.Courses.{GoesTo, StopsFor}
 use Rattle.sc_config.specs.declared.faults.ConfigFault.{ConfigFault}
 use Rattle.sc_config.specs.Courses.{Setting, Course, state_of, cause_in}
-use Rattle.sc_config.specs.Configs.{IsBinding}
+use Rattle.sc_config.specs.Configs.{SetsUp}
 
--- the steps bind, and each met its condition; the state is theirs, and guards judge by the schema in it
+-- the steps set up, and each met its condition; the state is theirs, and guards judge by the schema in it
 pub record IsAt (c : Setting) (s : State) : Type 0 where
   pub allowed : AreAllowed (opening c.schema) c.steps
-  pub bindings : AllByRecursion IsBinding c.steps
+  pub set_up : AllByRecursion SetsUp c.steps
   pub state : s ≡ state_of c
   pub schema : s.world.schema ≡ c.schema
 

@@ -10,6 +10,7 @@ use crate::faults::ConfigFault;
 use ds_space::Space;
 use hub_core::Hub;
 use lc_guard::{Guards, Predicate};
+use lc_watch::{Behaviour, Watcher};
 use ps_read::SchemaFault;
 use ps_schema::Schema;
 use pv_value::Value;
@@ -30,15 +31,16 @@ fn schema_of(alloc: Global, first: &Value) -> Result<Schema, ConfigFault>
     }
 }
 
-/// A hub over any body of a dataspace, once the text's bindings are done; or the first cause for
+/// A hub over any body of a dataspace, once the text's events are done; or the first cause for
 /// which the text is refused. A text that isn't UTF-8 is bad from its first value on. The values
 /// are judged in order, each one done before the next is read. Guards judge by the schema that the
-/// first value gives, through the function.
-pub fn configured<S: Space + Drop, F: Predicate + Drop>(
+/// first value gives, through the one function, and watchers act through the other.
+pub fn configured<S: Space + Drop, F: Predicate + Drop, G: Behaviour + Drop>(
     alloc: Global,
     text: &[u8],
     predicate: F,
-) -> Result<Hub<S, Guards<F>>, ConfigFault>
+    behaviour: G,
+) -> Result<Hub<S, Guards<F>, Watcher<G>>, ConfigFault>
     ensures hub { IfOk result (IsConfigured text.now) }
     ensures stop { IfErr result (IsRefusedAs text.now) }
 {
@@ -47,12 +49,16 @@ pub fn configured<S: Space + Drop, F: Predicate + Drop>(
     let mut values = Values::of(text, Form::Text);
     let first = match values.next(alloc) {
         Ok(Some(value)) => value,
-        Ok(None) => return Ok(Hub::begin(alloc, Guards::new(no_schema(alloc)?, predicate))?),
+        Ok(None) => {
+            let guards = Guards::new(no_schema(alloc)?, predicate);
+            return Ok(Hub::begin(alloc, guards, Watcher::new(behaviour))?);
+        }
         Err(NextFault::Bad) => return Err(ConfigFault::Bad(0)),
         Err(NextFault::NoMemory) => return Err(ConfigFault::NoMemory),
     };
     let guards = Guards::new(schema_of(alloc, &first)?, predicate);
-    let mut hub = with_value(alloc, Hub::begin(alloc, guards)?, 0, &first)?;
+    let watcher = Watcher::new(behaviour);
+    let mut hub = with_value(alloc, Hub::begin(alloc, guards, watcher)?, 0, &first)?;
     let mut place = 1;
     loop {
         match values.next(alloc) {

@@ -3,7 +3,9 @@ ghost use Rattle.std.specs.Prelude.{◌≡◌, IfOk, IfErr};
 ghost use Rattle.sr_caveat.specs.Caps.{IsSound};
 ghost use Rattle.sc_events.specs.Events.{event_of, IsSoundEvent};
 ghost use Rattle.sc_schema.specs.Courses.{after_value};
-ghost use Rattle.sc_config.specs.Courses.{binds, after_event, doing};
+ghost use Rattle.hub_machine.specs.Machine.{IsAllowed};
+ghost use Rattle.sc_config.specs.Configs.{SetsUp};
+ghost use Rattle.sc_config.specs.Courses.{set_up, binds, after_event, doing};
 ghost use Rattle.sc_config.specs.Keeping.{SetsAs, StopsAs};
 
 use crate::faults::ConfigFault;
@@ -11,18 +13,38 @@ use ds_space::Space;
 use gk_sturdy::Binding;
 use hub_core::{Hub, Reply, Step};
 use lc_guard::all_known;
+use lc_watch::Behaves;
 use pv_value::Value;
 use sc_events::{ScriptEvent, event_of};
 use sr_pass::Judge;
 use std::alloc::Global;
 
-/// Event `place` binds a reference. The names of its guards are looked at first.
-fn with_binding<S: Space + Drop, J: Judge + Drop>(
+/// Event `place` binds a reference or makes a watcher, which has to be taken.
+fn set_up<S: Space + Drop, J: Judge + Drop, B: Behaves + Drop>(
     alloc: Global,
-    hub: Hub<S, J>,
+    hub: Hub<S, J, B>,
+    place: u64,
+    event: Step,
+) -> Result<Hub<S, J, B>, ConfigFault>
+    requires allowed { IsAllowed hub event }
+    requires sets_up { SetsUp event }
+    ensures set { IfOk result (SetsAs hub (set_up place event)) }
+    ensures stop { IfErr result (StopsAs hub (set_up place event)) }
+{
+    let (hub, reply) = hub.step(alloc, event)?;
+    match reply {
+        Reply::Taken => Ok(hub),
+        _ => Err(ConfigFault::Bad(place)),
+    }
+}
+
+/// Event `place` binds a reference. The names of its guards are looked at first.
+fn with_binding<S: Space + Drop, J: Judge + Drop, B: Behaves + Drop>(
+    alloc: Global,
+    hub: Hub<S, J, B>,
     place: u64,
     binding: Binding,
-) -> Result<Hub<S, J>, ConfigFault>
+) -> Result<Hub<S, J, B>, ConfigFault>
     requires { IsSound binding.cap }
     ensures set { IfOk result (SetsAs hub (binds place binding)) }
     ensures stop { IfErr result (StopsAs hub (binds place binding)) }
@@ -30,20 +52,16 @@ fn with_binding<S: Space + Drop, J: Judge + Drop>(
     if !all_known(hub.judge(), binding.cap.caveats.as_slice()) {
         return Err(ConfigFault::Bad(place));
     }
-    let (hub, reply) = hub.step(alloc, Step::Bind(binding))?;
-    match reply {
-        Reply::Taken => Ok(hub),
-        _ => Err(ConfigFault::Bad(place)),
-    }
+    set_up(alloc, hub, place, Step::Bind(binding))
 }
 
 /// Event `place` of a configuration.
-fn with_event<S: Space + Drop, J: Judge + Drop>(
+fn with_event<S: Space + Drop, J: Judge + Drop, B: Behaves + Drop>(
     alloc: Global,
-    hub: Hub<S, J>,
+    hub: Hub<S, J, B>,
     place: u64,
     event: ScriptEvent,
-) -> Result<Hub<S, J>, ConfigFault>
+) -> Result<Hub<S, J, B>, ConfigFault>
     requires { IsSoundEvent event }
     ensures set { IfOk result (SetsAs hub (after_event place event)) }
     ensures stop { IfErr result (StopsAs hub (after_event place event)) }
@@ -51,18 +69,18 @@ fn with_event<S: Space + Drop, J: Judge + Drop>(
     match event {
         ScriptEvent::Bind(binding) => with_binding(alloc, hub, place, binding),
         ScriptEvent::Schema(_) if place == 0 => Ok(hub),
-        ScriptEvent::Unbuilt => Err(ConfigFault::NotBuilt(place)),
+        ScriptEvent::Watch(watched) => set_up(alloc, hub, place, Step::Watch(watched)),
         _ => Err(ConfigFault::Bad(place)),
     }
 }
 
 /// Value `place` of a configuration.
-pub(crate) fn with_value<S: Space + Drop, J: Judge + Drop>(
+pub(crate) fn with_value<S: Space + Drop, J: Judge + Drop, B: Behaves + Drop>(
     alloc: Global,
-    hub: Hub<S, J>,
+    hub: Hub<S, J, B>,
     place: u64,
     value: &Value,
-) -> Result<Hub<S, J>, ConfigFault>
+) -> Result<Hub<S, J, B>, ConfigFault>
     ensures set { IfOk result (SetsAs hub (after_value doing place (event_of value.now))) }
     ensures stop { IfErr result (StopsAs hub (after_value doing place (event_of value.now))) }
 {

@@ -8,12 +8,10 @@ use thiserror::Error;
 #[derive(Clone, Copy, Debug, PartialEq, Eq, Error)]
 pub enum ConfigFault {
     /// Value n, counted from 0, is malformed, or is nothing that a configuration has there, or it
-    /// binds what can't be bound; for 0 also: the schema's text is none.
+    /// binds what can't be bound or makes a watcher that can't be; for 0 also: the schema's text is
+    /// none.
     #[error("bad value {0}")]
     Bad(u64),
-    /// Value n asks for what isn't built yet.
-    #[error("value {0} isn't built")]
-    NotBuilt(u64),
     #[error("out of memory")]
     NoMemory,
 }

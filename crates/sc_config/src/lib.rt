@@ -1,7 +1,7 @@
-//! Configurations of a server: texts of a schema and of bindings alone.
+//! Configurations of a server: texts of a schema, of bindings and of watchers alone.
 //!
 //! What stands of a text is its course in `specs/Configs.antt`: it gives a schema and the steps
-//! that bind, or is refused for the first cause.
+//! that bind and watch, or is refused for the first cause.
 #![tactic(auto)]
 
 mod configs;

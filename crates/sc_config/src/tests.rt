@@ -3,6 +3,7 @@
 use crate::{ConfigFault, configured};
 use ds_space::PlainSpace;
 use lc_guard::Predicate;
+use lc_watch::Table;
 use ps_check::conforms;
 use ps_schema::Schema;
 use pv_value::Value;
@@ -23,7 +24,9 @@ const UNKNOWN_GUARD: &str = r#"
 
 const BOUND_TWICE: &str = r#"<bind "hall" #x"00010203" 1 []> <bind "hall" #x"04050607" 2 []>"#;
 
-const WATCHER: &str = "<watch 1 <_> 2 name>";
+const WATCHER: &str = "<watch 1 <_> 2 size>";
+
+const NO_BEHAVIOUR: &str = "<watch 1 <_> 2 name>";
 
 /// Answers what conforms.
 #[derive(Drop)]
@@ -37,7 +40,7 @@ impl Predicate for Checked {
 
 /// Why a text is no configuration; none where it is one, to which no connection has come.
 fn fault_of(alloc: Global, text: &str) -> Option<ConfigFault> {
-    match configured::<PlainSpace, Checked>(alloc, text.as_bytes(), Checked) {
+    match configured::<PlainSpace, Checked, Table>(alloc, text.as_bytes(), Checked, Table) {
         Ok(hub) if hub.opened() == 0 => None,
         Ok(_) => Some(ConfigFault::NoMemory),
         Err(fault) => Some(fault),
@@ -50,5 +53,6 @@ fn texts_are_configurations_or_not(rt: HostRuntime) {
     assert!(rt; fault_of(rt.alloc(), OPEN_BEHIND) == Some(ConfigFault::Bad(1)));
     assert!(rt; fault_of(rt.alloc(), UNKNOWN_GUARD) == Some(ConfigFault::Bad(1)));
     assert!(rt; fault_of(rt.alloc(), BOUND_TWICE) == Some(ConfigFault::Bad(1)));
-    assert!(rt; fault_of(rt.alloc(), WATCHER) == Some(ConfigFault::NotBuilt(0)));
+    assert!(rt; fault_of(rt.alloc(), WATCHER).is_none());
+    assert!(rt; fault_of(rt.alloc(), NO_BEHAVIOUR) == Some(ConfigFault::Bad(0)));
 }

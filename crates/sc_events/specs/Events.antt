@@ -1,19 +1,18 @@
 -- The events of scripts, and the values that write them: records whose label is a symbol.
-use Rattle.std.specs.Prelude.{◌≡◌, ℕ, ◌^◌, zero, suc, pos, Bool, true, false, ◌&&◌, not, nat_lt, nat_le, List}
+use Rattle.std.specs.Prelude.{◌≡◌, ℕ, ◌^◌, zero, suc, pos, nat_lt, nat_le, List}
 use Rattle.std.specs.Prelude.{codes, ◌||◌}
-use Rattle.std.specs.Prelude.{Option, Some, None, is_some, option_map, if◌then◌else◌}
+use Rattle.std.specs.Prelude.{Option, Some, None, option_map, if◌then◌else◌}
 use Rattle.pv_value.specs.Plain.{Plain, integer, string, byte_string, symbol, record_of, sequence, Plains, no_more}
 use Rattle.pv_value.specs.Plain.{then_more}
 use Rattle.pv_words.specs.Words.{is_word}
-use Rattle.dp_pattern.specs.Written.{pattern_of}
 use Rattle.sr_caveat.specs.Caps.{Cap, IsSound, caveats_from}
 use Rattle.sr_caveat.specs.Embedded.{has_embedded, any_embedded}
 use Rattle.gk_sturdy.specs.declared.bound.Binding.{Binding}
 use Rattle.hub_machine.specs.Limits.{last_dataspace}
 use Rattle.sc_events.specs.Limits.{most_drain}
 pub use Rattle.sc_events.specs.declared.events.ScriptEvent.{ScriptEvent}
-pub use Rattle.sc_events.specs.declared.events.ScriptEvent.TheVariants.{Bind, Open, Bytes, Close, Turn, Drain, LongDrain}
-pub use Rattle.sc_events.specs.declared.events.ScriptEvent.TheVariants.{Schema, Unbuilt}
+pub use Rattle.sc_events.specs.declared.events.ScriptEvent.TheVariants.{Bind, Watch, Open, Bytes, Close, Turn}
+pub use Rattle.sc_events.specs.declared.events.ScriptEvent.TheVariants.{Drain, LongDrain, Schema}
 
 -- ---- numbers
 
@@ -89,23 +88,22 @@ binding_event oid (byte_string key) space (sequence cs) =
     if has_embedded oid || any_embedded cs then None else option_map (bound_to oid key cs) (space_in space)
 binding_event oid key space caveats = None
 
-abbrev pub is_symbol : Plain → Bool
-is_symbol (symbol s) = true
-is_symbol v = false
+abbrev pub watch_between : Plain → List ℕ → Option ℕ → Option ℕ → Option ScriptEvent
+watch_between pattern name (Some from) (Some to) =
+    Some (Watch (record { from = from; pattern = pattern; to = to; name = name }))
+watch_between pattern name (Some from) None = None
+watch_between pattern name None to = None
 
--- `<watch from pattern to name>`, which isn't built
-abbrev pub is_watch : Plain → Plain → Plain → Plain → Bool
-is_watch from pattern to name =
-    is_some (space_in from) && not (has_embedded pattern) && is_some (pattern_of pattern) && is_some (space_in to)
-    && is_symbol name
-
-abbrev pub unbuilt_where : Bool → Option ScriptEvent
-unbuilt_where b = if b then Some Unbuilt else None
+-- `<watch from pattern to name>`
+abbrev pub watch_event : Plain → Plain → Plain → Plain → Option ScriptEvent
+watch_event from pattern to (symbol name) =
+    if has_embedded pattern then None else watch_between pattern name (space_in from) (space_in to)
+watch_event from pattern to name = None
 
 abbrev pub event_of_four : List ℕ → Plain → Plain → Plain → Plain → Option ScriptEvent
 event_of_four word f g h i =
     if is_word word (codes "bind") then binding_event f g h i
-    else if is_word word (codes "watch") then unbuilt_where (is_watch f g h i) else None
+    else if is_word word (codes "watch") then watch_event f g h i else None
 
 -- ---- the event that a value writes, where it writes one
 

@@ -5,10 +5,10 @@ ghost use Rattle.sc_events.specs.Events.{number_below, name_in, arrival_in, spac
 ghost use Rattle.sc_events.specs.Events.{close_event, turn_event, drain_event, schema_event};
 ghost use Rattle.sc_events.specs.Events.{event_of_one, bytes_event, event_of_two};
 ghost use Rattle.sc_events.specs.Events.{reference_to, bound_to, binding_event};
-ghost use Rattle.sc_events.specs.Events.{is_symbol, is_watch, unbuilt_where, event_of_four};
+ghost use Rattle.sc_events.specs.Events.{watch_event, event_of_four};
 ghost use Rattle.sc_events.specs.Events.{event_of_record, event_of};
 
-use dp_pattern::parse;
+use ac_world::Watched;
 use gk_sturdy::Binding;
 use hub_machine::DATASPACES;
 use pv_value::{Blob, NoMemory, Node, Text, Value};
@@ -24,6 +24,8 @@ const DRAIN_TURNS: i128 = 1_000_000;
 pub enum ScriptEvent {
     /// An oid is bound.
     Bind(Binding),
+    /// A watcher begins.
+    Watch(Watched),
     /// A connection comes, to the gatekeeper, for 0, or to this dataspace.
     Open(u8),
     /// Bytes of a connection come.
@@ -38,8 +40,6 @@ pub enum ScriptEvent {
     LongDrain,
     /// The text of the schema by which guards judge; it may stand first alone.
     Schema(Text),
-    /// A watcher, which isn't built.
-    Unbuilt,
 }
 
 /// The number of a connection or of an actor.
@@ -199,36 +199,28 @@ fn binding_event(
     }
 }
 
-fn is_symbol(value: &Value) -> bool
-    ensures { result ≡ is_symbol value.now }
-{
-    matches!(&value.node, Node::Sym(_))
-}
-
-/// Whether `<watch from pattern to name>` with these fields is well formed.
-fn is_watch(
-    alloc: Global,
+fn watch_event(
     from: &Value,
     pattern: &Value,
     to: &Value,
     name: &Value,
-) -> Result<bool, NoMemory>
-    ensures { IfOk result (λ b. b ≡ is_watch from.now pattern.now to.now name.now) }
+) -> Result<Option<ScriptEvent>, NoMemory>
+    ensures { IfOk result (λ e. e ≡ watch_event from.now pattern.now to.now name.now) }
 {
-    if space_in(from).is_none() || has_embedded(pattern) {
-        return Ok(false);
+    let Node::Sym(name) = &name.node else {
+        return Ok(None);
+    };
+    if has_embedded(pattern) {
+        return Ok(None);
     }
-    let is_pattern = parse(alloc, pattern)?.is_some();
-    Ok(is_pattern && space_in(to).is_some() && is_symbol(name))
-}
-
-fn unbuilt_where(holds: bool) -> Option<ScriptEvent>
-    ensures { result ≡ unbuilt_where holds }
-{
-    if holds {
-        Some(ScriptEvent::Unbuilt)
-    } else {
-        None
+    match (space_in(from), space_in(to)) {
+        (Some(from), Some(to)) => Ok(Some(ScriptEvent::Watch(Watched {
+            from,
+            pattern: pattern.copy()?,
+            to,
+            name: name.copy()?,
+        }))),
+        _ => Ok(None),
     }
 }
 
@@ -246,7 +238,7 @@ fn event_of_four(
 {
     match word.as_str() {
         "bind" => binding_event(alloc, first, second, third, fourth),
-        "watch" => Ok(unbuilt_where(is_watch(alloc, first, second, third, fourth)?)),
+        "watch" => watch_event(first, second, third, fourth),
         _ => Ok(None),
     }
 }

@@ -20,7 +20,6 @@ stops_from : (whole : Course) (later : Running → Course) (c : Course) (f : Scr
 stops_from whole later c (fault.Bad n) is h = is ∙ ap (goes_on later) h
 stops_from whole later c (fault.Limit w) is h = is ∙ ap (goes_on later) h
 stops_from whole later c (fault.Schema n) is h = is ∙ ap (goes_on later) h
-stops_from whole later c (fault.NotBuilt n) is h = is ∙ ap (goes_on later) h
 stops_from whole later c fault.NoMemory is h = tt
 
 module _ (whole : Course) (rest : Running → Course) (s : RunState) (g : GoesOn whole rest s) where

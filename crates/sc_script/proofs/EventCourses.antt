@@ -2,11 +2,12 @@
 use Rattle.std.proofs.Common.{◌≡◌, ℕ, Bool, true, List, sym, ap, ◌∙◌, if◌then◌else◌}
 use Rattle.rl_stream.specs.Nexts.{Decider}
 use Rattle.gk_sturdy.specs.declared.bound.Binding.{Binding}
+use Rattle.ac_world.specs.declared.watched.Watched.{Watched}
 use Rattle.hub_machine.specs.declared.steps.Step.TheVariants as step
 use Rattle.sc_events.specs.declared.events.ScriptEvent.{ScriptEvent}
-use Rattle.sc_events.specs.declared.events.ScriptEvent.TheVariants.{Bind, Open, Bytes, Close, Turn, Drain}
+use Rattle.sc_events.specs.declared.events.ScriptEvent.TheVariants.{Bind, Watch, Open, Bytes, Close, Turn, Drain}
 use Rattle.sc_script.specs.Runs.{Running, Course, stops, bad, stepped, turned, drained, bytes_come, was_opened}
-use Rattle.sc_script.specs.Runs.{may_turn, binds, after_event}
+use Rattle.sc_script.specs.Runs.{may_turn, set_up, binds, after_event}
 use Rattle.sc_script.specs.Keeping.{RunState, IsAt}
 
 -- the event runs as this part does, from where the run is
@@ -26,6 +27,9 @@ module _ (s : RunState) (n : ℕ) (e : ScriptEvent) where
 
   pub bind_part : (b : Binding) → e ≡ Bind b → IsPart s n e (λ N. binds n b)
   bind_part b is N r at = same_event (Bind b) N r is
+
+  pub watch_part : (x : Watched) → e ≡ Watch x → IsPart s n e (λ N. set_up n (step.Watch x))
+  watch_part x is N r at = same_event (Watch x) N r is
 
   pub open_part : (space : ℕ) → e ≡ Open space → IsPart s n e (λ N. stepped (step.Arrive space))
   open_part space is N r at = same_event (Open space) N r is

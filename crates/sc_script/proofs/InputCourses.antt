@@ -72,9 +72,6 @@ module _ (form : Form) (bytes : List ℕ) where
       first_at_fault (fault.Schema k) told =
           let t = told (λ e. cc) in
           subst (StopsAt form bytes) (sym t.0) (first_refused t.1)
-      first_at_fault (fault.NotBuilt k) told =
-          let t = told (λ e. cc) in
-          subst (StopsAt form bytes) (sym t.0) (first_refused t.1)
       first_at_fault fault.NoMemory told = tt
 
       pub first_stops : (ds : List Definition) (s : RunState) → IsVerdict (text_in (event_of v)) (Some ds)

@@ -9,21 +9,25 @@ use Rattle.gk_sturdy.specs.declared.bound.Binding.{Binding}
 use Rattle.sr_caveat.specs.Patterns.{caveats}
 use Rattle.lc_guard.specs.Knowing.{all_known}
 use Rattle.hub_machine.specs.State.{State}
-use Rattle.hub_machine.specs.Machine.{step, is_worn, is_barred, bind_unless, unchanged, IsAllowed}
+use Rattle.ac_world.specs.declared.watched.Watched.{Watched}
+use Rattle.hub_machine.specs.Machine.{step, is_worn, is_barred, bind_unless, is_unwatchable, watch_unless, unchanged}
+use Rattle.hub_machine.specs.Machine.{IsAllowed}
 use Rattle.hub_machine.specs.Replays.{packet_in, sent_by}
 use Rattle.hub_machine.specs.declared.steps.Step.{Step}
-use Rattle.hub_machine.specs.declared.steps.Step.TheVariants.{Bind}
+use Rattle.hub_machine.specs.declared.steps.Step.TheVariants as steps
+use Rattle.hub_machine.specs.declared.steps.Step.TheVariants.{Bind, Watch}
 use Rattle.hub_machine.specs.declared.steps.Reply.{Reply}
 use Rattle.hub_machine.specs.declared.steps.Reply.TheVariants.{Worn, Barred, Halted, Full, Opened, Gone, Refused, Idle}
 use Rattle.hub_machine.specs.declared.steps.Reply.TheVariants.{Sent, Ran, Taken}
 use Rattle.sc_script.specs.Limits.{most_sent}
 use Rattle.sc_script.specs.declared.faults.ScriptFault.{ScriptFault}
 use Rattle.sc_script.specs.declared.faults.ScriptFault.TheVariants as fault
-use Rattle.sc_script.specs.Runs.{Running, Course, goes, stops, limit, by_reply, stepped, with_step, bound_by, binds}
+use Rattle.sc_script.specs.Runs.{Running, Course, goes, stops, limit, by_reply, stepped, with_step, unless_barred}
+use Rattle.sc_script.specs.Runs.{set_up, binds}
 use Rattle.sc_script.specs.Keeping.{RunState}
 use Rattle.hub_outs.specs.Outs.{sent_of, kept, turning}
 use Rattle.sc_script.specs.Runs.{unless_too_much, sent_size, bound_where, config}
-use Rattle.sc_script.specs.Keeping.{size_of, noted, IsAt, HasRun, IsStopped}
+use Rattle.sc_script.specs.Keeping.{size_of, noted, SetsUp, IsAt, HasRun, IsStopped}
 use Rattle.sc_script.proofs.Replays.{at_more, bytes_of, sent_size-more}
 use Rattle.hub_outs.specs.Lemmas.Sending.{kept_sent, none_sent}
 
@@ -124,33 +128,66 @@ goes_noted e r s before now p a at may is who is_state is_outs is_size is_stream
     let streams : now.streams ≡ s.streams = ap (λ (x : RunState). x.streams) is ∙ is_streams in
     goes_sending e r s now at may state p sent outs size streams few
 
--- ---- a binding
+-- ---- what sets the server up
 
--- a binding may be answered so
+-- such a step may be answered so
 abbrev IsSaid : Reply → Type 0
 IsSaid Worn = Unit {0}
 IsSaid Barred = Unit {0}
 IsSaid Taken = Unit {0}
 IsSaid reply = ⊥
 
-said_by : (worn barred : Bool) (b : Binding) (s : State)
+bind_said : (worn barred : Bool) (b : Binding) (s : State)
     → IsSaid (if worn then unchanged s Worn else bind_unless barred b s).reply
-said_by true barred b s = tt
-said_by false true b s = tt
-said_by false false b s = tt
+bind_said true barred b s = tt
+bind_said false true b s = tt
+bind_said false false b s = tt
 
-said : (b : Binding) (s : State) → IsSaid (step s (Bind b)).reply
-said b s = said_by (is_worn s (Bind b)) (is_barred b s) b s
+watch_said : (worn barred : Bool) (x : Watched) (s : State)
+    → IsSaid (if worn then unchanged s Worn else watch_unless barred x s).reply
+watch_said true barred x s = tt
+watch_said false true x s = tt
+watch_said false false x s = tt
 
-abbrev IsQuietlyBound : ℕ → Reply → Type 0
-IsQuietlyBound n reply = ((r : Running) → bound_by n reply r ≡ goes r) × (packet_in reply ≡ [])
+said : (e : Step) (s : State) → SetsUp e → IsSaid (step s e).reply
+said (Bind b) s so = bind_said (is_worn s (Bind b)) (is_barred b s) b s
+said (Watch x) s so = watch_said (is_worn s (Watch x)) (is_unwatchable x s) x s
+said (steps.Arrive space) s so = absurd so
+said (steps.Packet k es) s so = absurd so
+said (steps.Bad k f) s so = absurd so
+said (steps.Close k) s so = absurd so
+said (steps.Turn a) s so = absurd so
+said steps.Work s so = absurd so
+said steps.Stop s so = absurd so
 
-bound_quietly : (n : ℕ) (reply : Reply) → IsSaid reply → (reply ≡ Worn → ⊥) → (reply ≡ Barred → ⊥)
-    → IsQuietlyBound n reply
-bound_quietly n Worn so worn barred = absurd (worn refl)
-bound_quietly n Barred so worn barred = absurd (barred refl)
-bound_quietly n Taken so worn barred = (λ r. refl, refl)
-bound_quietly n reply so worn barred = absurd so
+abbrev IsQuietlySetUp : ℕ → Reply → Type 0
+IsQuietlySetUp n reply = ((r : Running) → unless_barred n reply r ≡ goes r) × (packet_in reply ≡ [])
+
+set_up_quietly : (n : ℕ) (reply : Reply) → IsSaid reply → (reply ≡ Worn → ⊥) → (reply ≡ Barred → ⊥)
+    → IsQuietlySetUp n reply
+set_up_quietly n Worn so worn barred = absurd (worn refl)
+set_up_quietly n Barred so worn barred = absurd (barred refl)
+set_up_quietly n Taken so worn barred = (λ r. refl, refl)
+set_up_quietly n reply so worn barred = absurd so
+
+-- the reply is that of the run
+pub set_up_by_the_reply : (n : ℕ) (e : Step) (r : Running) (s : RunState) (reply : Reply) → IsAt r s
+    → reply ≡ (step s.state e).reply
+    → set_up n e r ≡ unless_barred n reply (with_step e r)
+set_up_by_the_reply n e r s reply at is =
+    ap (λ x. unless_barred n x (with_step e r)) (sym (is ∙ ap (λ t. (step t e).reply) at.state))
+
+pub goes_set_up : (n : ℕ) (e : Step) (r : Running) (s now : RunState) (reply : Reply) → IsAt r s → SetsUp e
+    → IsAllowed s.state e → now.state ≡ (step s.state e).state → reply ≡ (step s.state e).reply
+    → (reply ≡ Worn → ⊥) → (reply ≡ Barred → ⊥) → now.outs ≡ s.outs → now.size ≡ s.size → now.streams ≡ s.streams
+    → HasRun (set_up n e r) now
+goes_set_up n e r s now reply at sets may is_state is worn barred is_outs is_size is_streams =
+    let none = set_up_quietly n reply (subst IsSaid (sym is) (said e s.state sets)) worn barred in
+    goes_silently e r s now at may is_state (set_up n e r)
+    (set_up_by_the_reply n e r s reply at is ∙ none.0 (with_step e r)) (ap packet_in (sym is) ∙ none.1) is_outs
+    is_size is_streams
+
+-- ---- a binding
 
 -- whether the names of all its guards are known there
 abbrev pub knows_all : Binding → State → Bool
@@ -165,23 +202,10 @@ pub stops_unknown : (n : ℕ) (b : Binding) (r : Running) (s : RunState) → IsA
     → binds n b r ≡ stops (config n)
 stops_unknown n b r s at is = bound_so n b r s false at is
 
--- the reply is that of the run
-pub bound_by_the_reply : (n : ℕ) (b : Binding) (r : Running) (s : RunState) (reply : Reply) → IsAt r s
-    → knows_all b s.state ≡ true → reply ≡ (step s.state (Bind b)).reply
-    → binds n b r ≡ bound_by n reply (with_step (Bind b) r)
-bound_by_the_reply n b r s reply at known is =
-    bound_so n b r s true at known
-    ∙ ap (λ x. bound_by n x (with_step (Bind b) r)) (sym (is ∙ ap (λ t. (step t (Bind b)).reply) at.state))
-
-pub goes_bound : (n : ℕ) (b : Binding) (r : Running) (s now : RunState) (reply : Reply) → IsAt r s
-    → knows_all b s.state ≡ true → IsAllowed s.state (Bind b) → now.state ≡ (step s.state (Bind b)).state
-    → reply ≡ (step s.state (Bind b)).reply → (reply ≡ Worn → ⊥) → (reply ≡ Barred → ⊥) → now.outs ≡ s.outs
-    → now.size ≡ s.size → now.streams ≡ s.streams → HasRun (binds n b r) now
-goes_bound n b r s now reply at known may is_state is worn barred is_outs is_size is_streams =
-    let none = bound_quietly n reply (subst IsSaid (sym is) (said b s.state)) worn barred in
-    goes_silently (Bind b) r s now at may is_state (binds n b r)
-    (bound_by_the_reply n b r s reply at known is ∙ none.0 (with_step (Bind b) r)) (ap packet_in (sym is) ∙ none.1)
-    is_outs is_size is_streams
+-- where all are known it is set up
+pub binds_known : (n : ℕ) (b : Binding) (r : Running) (s : RunState) → IsAt r s → knows_all b s.state ≡ true
+    → binds n b r ≡ set_up n (Bind b) r
+binds_known n b r s at is = bound_so n b r s true at is
 
 -- ---- what a fault tells
 
@@ -195,9 +219,6 @@ stops_for (fault.Limit w) n course told stop =
     let t = told (λ e. cc) in
     subst (IsStopped course) (sym t.0) (stop t.1)
 stops_for (fault.Schema k) n course told stop =
-    let t = told (λ e. cc) in
-    subst (IsStopped course) (sym t.0) (stop t.1)
-stops_for (fault.NotBuilt k) n course told stop =
     let t = told (λ e. cc) in
     subst (IsStopped course) (sym t.0) (stop t.1)
 stops_for fault.NoMemory n course told stop = tt

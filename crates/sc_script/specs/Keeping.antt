@@ -8,6 +8,8 @@ use Rattle.rl_stream.specs.Nexts.{Decider, Decides}
 use Rattle.rl_stream.specs.Streams.{StreamState}
 use Rattle.hub_machine.specs.State.{State, opening}
 use Rattle.hub_machine.specs.Replays.{sent_to}
+use Rattle.hub_machine.specs.declared.steps.Step.{Step}
+use Rattle.hub_machine.specs.declared.steps.Step.TheVariants as step
 use Rattle.hub_laws.specs.Laws.{AreAllowed}
 use Rattle.hub_outs.specs.Outs.{OutsState, sent_of, kept}
 use Rattle.sc_events.specs.declared.inputs.Form.{Form}
@@ -21,6 +23,18 @@ pub record RunState : Type 0 where
   pub outs : OutsState
   pub size : ℕ
   pub streams : List (ℕ × StreamState)
+
+-- the step binds a reference, or makes a watcher
+abbrev pub SetsUp : Step → Type 0
+SetsUp (step.Bind b) = Unit {0}
+SetsUp (step.Watch x) = Unit {0}
+SetsUp (step.Arrive space) = ⊥
+SetsUp (step.Packet k es) = ⊥
+SetsUp (step.Bad k f) = ⊥
+SetsUp (step.Close k) = ⊥
+SetsUp (step.Turn a) = ⊥
+SetsUp step.Work = ⊥
+SetsUp step.Stop = ⊥
 
 -- how many bytes a packet has on the wire
 abbrev pub size_of : Packet → ℕ

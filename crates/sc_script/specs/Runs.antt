@@ -24,8 +24,8 @@ use Rattle.hub_machine.specs.declared.steps.Step.TheVariants as step
 use Rattle.hub_machine.specs.declared.steps.Reply.{Reply}
 use Rattle.hub_machine.specs.declared.steps.Reply.TheVariants as reply
 use Rattle.sc_events.specs.declared.events.ScriptEvent.{ScriptEvent}
-use Rattle.sc_events.specs.declared.events.ScriptEvent.TheVariants.{Bind, Open, Bytes, Close, Turn, Drain, LongDrain}
-use Rattle.sc_events.specs.declared.events.ScriptEvent.TheVariants.{Schema, Unbuilt}
+use Rattle.sc_events.specs.declared.events.ScriptEvent.TheVariants.{Bind, Watch, Open, Bytes, Close, Turn, Drain}
+use Rattle.sc_events.specs.declared.events.ScriptEvent.TheVariants.{LongDrain, Schema}
 use Rattle.sc_schema.specs.Courses.{CourseOf, Doing}
 pub use Rattle.sc_schema.specs.Courses.{goes, stops, goes_on}
 use Rattle.sc_script.specs.Limits.{most_sent}
@@ -40,14 +40,13 @@ pub record Running : Type 0 where
   pub steps : List Step
   pub streams : List (ℕ × StreamState)
 
--- value n is malformed, is no event, names a connection that was never opened, or binds what can't be bound; limit w is
--- passed; event n gives what is no schema, or binds by a guard whose name the schema doesn't define; or in event n what
--- isn't built yet would be done
+-- value n is malformed, is no event, names a connection that was never opened, binds what can't be bound, or makes a
+-- watcher that can't be; limit w is passed; or event n gives what is no schema, or binds by a guard whose name the
+-- schema doesn't define
 pub data Cause : Type 0 where
   bad : (n : ℕ) → Cause
   limit : (w : ℕ) → Cause
   config : (n : ℕ) → Cause
-  not_built : (n : ℕ) → Cause
 
 abbrev pub Course : Type 0
 Course = CourseOf Running Cause
@@ -154,16 +153,20 @@ bytes_come N k b r =
 
 -- ---- events
 
--- a reference is bound; the event is bad where that is barred
-abbrev pub bound_by : ℕ → Reply → Running → Course
-bound_by n reply.Barred r = stops (bad n)
-bound_by n answer r = by_reply answer r
+-- the event is bad where its step is barred
+abbrev pub unless_barred : ℕ → Reply → Running → Course
+unless_barred n reply.Barred r = stops (bad n)
+unless_barred n answer r = by_reply answer r
+
+-- a reference is bound, or a watcher begins
+abbrev pub set_up : ℕ → Step → Running → Course
+set_up n e r = unless_barred n (step_of (state_of r) e).reply (with_step e r)
 
 abbrev pub bound_where : Bool → ℕ → Binding → Running → Course
-bound_where true n b r = bound_by n (step_of (state_of r) (step.Bind b)).reply (with_step (step.Bind b) r)
+bound_where true n b r = set_up n (step.Bind b) r
 bound_where false n b r = stops (config n)
 
--- the names of its guards are looked at first
+-- the names of a binding's guards are looked at first
 abbrev pub binds : ℕ → Binding → Running → Course
 binds n b r = bound_where (all_known (state_of r).world.schema (caveats b.cap.caveats)) n b r
 
@@ -177,6 +180,7 @@ may_turn a r = nat_le a 16 || was_opened (a - 16) r
 
 abbrev pub after_event : Decider → ℕ → ScriptEvent → Running → Course
 after_event N n (Bind b) r = binds n b r
+after_event N n (Watch x) r = set_up n (step.Watch x) r
 after_event N n (Open s) r = stepped (step.Arrive s) r
 after_event N n (Bytes k b) r = if was_opened k r then bytes_come N k b r else stops (bad n)
 after_event N n (Close k) r = if was_opened k r then stepped (step.Close k) r else stops (bad n)
@@ -184,7 +188,6 @@ after_event N n (Turn a) r = if may_turn a r then turned a r else stops (bad n)
 after_event N n (Drain m) r = drained m r
 after_event N n LongDrain r = stops (limit 3)
 after_event N n (Schema text) r = if n == 0 then goes r else stops (bad n)
-after_event N n Unbuilt r = stops (not_built n)
 
 abbrev pub doing : Decider → Doing Running Cause
 doing N = record { beginning = beginning; after_event = after_event N; bad = bad; no_schema = config 0 }
@@ -195,5 +198,4 @@ abbrev pub cause_in : ScriptFault → Option Cause
 cause_in (script.Bad n) = Some (bad n)
 cause_in (script.Limit w) = Some (limit w)
 cause_in (script.Schema n) = Some (config n)
-cause_in (script.NotBuilt n) = Some (not_built n)
 cause_in script.NoMemory = None

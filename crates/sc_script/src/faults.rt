@@ -9,7 +9,7 @@ use thiserror::Error;
 #[derive(Clone, Copy, Debug, PartialEq, Eq, Error)]
 pub enum ScriptFault {
     /// Value n, counted from 0, is malformed, is no event, names a connection that was never
-    /// opened, or binds what can't be bound.
+    /// opened, binds what can't be bound, or makes a watcher that can't be.
     #[error("bad value {0}")]
     Bad(u64),
     /// A limit is passed: 1, the bytes of the input; 2, live connections; 3, turns of a drain;
@@ -19,9 +19,6 @@ pub enum ScriptFault {
     /// Event n gives what is no schema, or binds by a guard whose name the schema doesn't define.
     #[error("bad config at {0}")]
     Schema(u64),
-    /// In event n comes what isn't built yet.
-    #[error("value {0} isn't built")]
-    NotBuilt(u64),
     #[error("out of memory")]
     NoMemory,
 }

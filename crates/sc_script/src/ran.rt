@@ -10,6 +10,7 @@ use crate::runs::Run;
 use crate::scripts::run_of;
 use ds_space::Space;
 use lc_guard::Predicate;
+use lc_watch::{Behaves, Behaviour};
 use pv_binary::write_into;
 use pv_value::{Blob, NoMemory};
 use rl_packet::{Packet, held, packet_value};
@@ -31,9 +32,9 @@ fn spelled(alloc: Global, packets: &[Packet]) -> Result<Blob, NoMemory>
 }
 
 /// What a run leaves of the connection of this number.
-fn left_of<S: Space + Drop, J: Judge + Drop>(
+fn left_of<S: Space + Drop, J: Judge + Drop, B: Behaves + Drop>(
     alloc: Global,
-    run: &Run<S, J>,
+    run: &Run<S, J, B>,
     number: u32,
 ) -> Result<Connection, NoMemory>
     ensures { IfOk result (λ c. (r : Running) → IsAt r run.now
@@ -48,9 +49,9 @@ fn left_of<S: Space + Drop, J: Judge + Drop>(
 }
 
 /// The connections that have come, ascending.
-fn connections<S: Space + Drop, J: Judge + Drop>(
+fn connections<S: Space + Drop, J: Judge + Drop, B: Behaves + Drop>(
     alloc: Global,
-    run: &Run<S, J>,
+    run: &Run<S, J, B>,
 ) -> Result<Vec<Connection>, NoMemory>
     ensures { IfOk result (λ cs. (r : Running) → IsAt r run.now
         → cs.items ≡ connections_after r.schema r.steps run.now.state.world.opened) }
@@ -63,9 +64,9 @@ fn connections<S: Space + Drop, J: Judge + Drop>(
 }
 
 /// What a run leaves.
-fn left_by<S: Space + Drop, J: Judge + Drop>(
+fn left_by<S: Space + Drop, J: Judge + Drop, B: Behaves + Drop>(
     alloc: Global,
-    run: &Run<S, J>,
+    run: &Run<S, J, B>,
 ) -> Result<Ran, NoMemory>
     ensures { IfOk result (λ ran. (r : Running) → IsAt r run.now → ran ≡ ran_of r.schema r.steps) }
 {
@@ -78,16 +79,17 @@ fn left_by<S: Space + Drop, J: Judge + Drop>(
 /// What the run of the script leaves that an input is, over any body of a dataspace, or the first
 /// cause that stops it. The input's length is looked at first, and whether a text is UTF-8; then
 /// its values in order, each done before the next is judged. Guards judge by the schema that the
-/// first value gives, through the function.
-pub fn run_script<S: Space + Drop, F: Predicate + Drop>(
+/// first value gives, through the one function, and watchers act through the other.
+pub fn run_script<S: Space + Drop, F: Predicate + Drop, G: Behaviour + Drop>(
     alloc: Global,
     bytes: &[u8],
     form: Form,
     predicate: F,
+    behaviour: G,
 ) -> Result<Ran, ScriptFault>
     ensures run { IfOk result (LeavesAs form bytes.now) }
     ensures stop { IfErr result (StopsAt form bytes.now) }
 {
-    let run = run_of::<S, F>(alloc, bytes, form, predicate)?;
+    let run = run_of::<S, F, G>(alloc, bytes, form, predicate, behaviour)?;
     Ok(left_by(alloc, &run)?)
 }

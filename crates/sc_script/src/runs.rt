@@ -11,10 +11,10 @@ ghost use Rattle.sc_script.specs.Limits.{most_sent};
 ghost use Rattle.sc_script.specs.declared.faults.ScriptFault.TheVariants as fault;
 ghost use Rattle.sc_script.specs.Runs.{Running, Course, goes, beginning, stepped, turned, drained};
 ghost use Rattle.sc_script.specs.Runs.{with_stream, with_no_packet, packets_read, bytes_come};
-ghost use Rattle.sc_script.specs.Runs.{binds, was_opened, may_turn, with_packet};
+ghost use Rattle.sc_script.specs.Runs.{set_up, binds, was_opened, may_turn, with_packet};
 ghost use Rattle.sc_schema.specs.Courses.{after_value};
 ghost use Rattle.sc_script.specs.Runs.{after_event, doing};
-ghost use Rattle.sc_script.specs.Keeping.{size_of, noted, IsAt, RunsAs, StopsAs, ReadsOn};
+ghost use Rattle.sc_script.specs.Keeping.{size_of, noted, SetsUp, IsAt, RunsAs, StopsAs, ReadsOn};
 
 use crate::faults::ScriptFault;
 use ac_world::BEFORE_CONNECTIONS;
@@ -23,6 +23,7 @@ use gk_sturdy::Binding;
 use hub_core::{Fault, Hub, Reply, Step};
 use hub_outs::{Outs, turning};
 use lc_guard::all_known;
+use lc_watch::Behaves;
 use pv_canon::{canon_len, canonical_is_exact};
 use pv_value::{NoMemory, Value};
 use rl_packet::{Packet, Turn, packet_value};
@@ -38,14 +39,14 @@ const SENT_BYTES: u64 = 268_435_456;
 
 /// A run so far: the server, what connections were sent and how many bytes, and what they sent.
 #[derive(Drop)]
-pub(crate) struct Run<S: Space + Drop, J: Judge + Drop> {
-    pub(crate) hub: Hub<S, J>,
+pub(crate) struct Run<S: Space + Drop, J: Judge + Drop, B: Behaves + Drop> {
+    pub(crate) hub: Hub<S, J, B>,
     pub(crate) outs: Outs,
     size: u64,
     streams: Streams,
 }
 
-impl<S: Space + Drop, J: Judge + Drop> Model for Run<S, J> {
+impl<S: Space + Drop, J: Judge + Drop, B: Behaves + Drop> Model for Run<S, J, B> {
     ghost use Rattle.std.specs.Coded.{codes};
     ghost use Rattle.pv_value.specs.Lemmas.Coded.{plain_code};
     ghost use Rattle.sr_caveat.specs.Lemmas.Coded.{caveat_code};
@@ -79,13 +80,13 @@ fn size_of(alloc: Global, packet: &Packet) -> Result<u64, NoMemory>
     Ok(canon_len(&value))
 }
 
-impl<S: Space + Drop, J: Judge + Drop> Run<S, J> {
-    /// Nothing is done yet. Guards judge by what is handed in.
-    pub(crate) fn begin(alloc: Global, judge: J) -> Result<Run<S, J>, NoMemory>
+impl<S: Space + Drop, J: Judge + Drop, B: Behaves + Drop> Run<S, J, B> {
+    /// Nothing is done yet. Guards judge by what is handed in, and watchers act by it.
+    pub(crate) fn begin(alloc: Global, judge: J, behaves: B) -> Result<Run<S, J, B>, NoMemory>
         ensures { IfOk result (IsAt (beginning (J.schema judge))) }
     {
         Ok(Run {
-            hub: Hub::begin(alloc, judge)?,
+            hub: Hub::begin(alloc, judge, behaves)?,
             outs: Outs::new(alloc),
             size: 0,
             streams: Streams::new(alloc),
@@ -99,7 +100,7 @@ impl<S: Space + Drop, J: Judge + Drop> Run<S, J> {
         alloc: Global,
         actor: Option<u32>,
         packet: Packet,
-    ) -> Result<Run<S, J>, ScriptFault>
+    ) -> Result<Run<S, J, B>, ScriptFault>
         ensures run { IfOk result (λ run. run ≡ noted actor packet self) }
         ensures stop { IfErr result (λ f. f ≢ fault.NoMemory
             → (f ≡ fault.Limit 4) × (most_sent < self.size + size_of packet)) }
@@ -123,23 +124,20 @@ impl<S: Space + Drop, J: Judge + Drop> Run<S, J> {
         })
     }
 
-    /// Event `place` binds a reference. The names of its guards are looked at first; then it is bad
-    /// where that is barred.
-    fn bind(self, alloc: Global, place: u64, binding: Binding) -> Result<Run<S, J>, ScriptFault>
-        requires { IsSound binding.cap }
-        ensures run { IfOk result (RunsAs self (λ N. binds place binding)) }
-        ensures stop { IfErr result (StopsAs self (λ N. binds place binding)) }
+    /// Event `place` binds a reference or makes a watcher: it is bad where that is barred.
+    fn set_up(self, alloc: Global, place: u64, event: Step) -> Result<Run<S, J, B>, ScriptFault>
+        requires allowed { IsAllowed self.state event }
+        requires sets_up { SetsUp event }
+        ensures run { IfOk result (RunsAs self (λ N. set_up place event)) }
+        ensures stop { IfErr result (StopsAs self (λ N. set_up place event)) }
     {
-        if !all_known(self.hub.judge(), binding.cap.caveats.as_slice()) {
-            return Err(ScriptFault::Schema(place));
-        }
         let Run {
             hub,
             outs,
             size,
             streams,
         } = self;
-        let (hub, reply) = hub.step(alloc, Step::Bind(binding))?;
+        let (hub, reply) = hub.step(alloc, event)?;
         match reply {
             Reply::Worn => Err(ScriptFault::Limit(5)),
             Reply::Barred => Err(ScriptFault::Bad(place)),
@@ -152,8 +150,20 @@ impl<S: Space + Drop, J: Judge + Drop> Run<S, J> {
         }
     }
 
+    /// Event `place` binds a reference. The names of its guards are looked at first.
+    fn bind(self, alloc: Global, place: u64, binding: Binding) -> Result<Run<S, J, B>, ScriptFault>
+        requires { IsSound binding.cap }
+        ensures run { IfOk result (RunsAs self (λ N. binds place binding)) }
+        ensures stop { IfErr result (StopsAs self (λ N. binds place binding)) }
+    {
+        if !all_known(self.hub.judge(), binding.cap.caveats.as_slice()) {
+            return Err(ScriptFault::Schema(place));
+        }
+        self.set_up(alloc, place, Step::Bind(binding))
+    }
+
     /// A step, whose condition is seen to.
-    fn step(self, alloc: Global, event: Step) -> Result<Run<S, J>, ScriptFault>
+    fn step(self, alloc: Global, event: Step) -> Result<Run<S, J, B>, ScriptFault>
         requires { IsAllowed self.state event }
         ensures run { IfOk result (RunsAs self (λ N. stepped event)) }
         ensures stop { IfErr result (StopsAs self (λ N. stepped event)) }
@@ -186,7 +196,7 @@ impl<S: Space + Drop, J: Judge + Drop> Run<S, J> {
     }
 
     /// A turn of an actor.
-    fn turn(self, alloc: Global, actor: u32) -> Result<Run<S, J>, ScriptFault>
+    fn turn(self, alloc: Global, actor: u32) -> Result<Run<S, J, B>, ScriptFault>
         ensures run { IfOk result (RunsAs self (λ N. turned actor)) }
         ensures stop { IfErr result (StopsAs self (λ N. turned actor)) }
     {
@@ -194,7 +204,7 @@ impl<S: Space + Drop, J: Judge + Drop> Run<S, J> {
     }
 
     /// Up to so many turns of the lowest actor that has work.
-    fn drain(self, alloc: Global, turns: u64) -> Result<Run<S, J>, ScriptFault>
+    fn drain(self, alloc: Global, turns: u64) -> Result<Run<S, J, B>, ScriptFault>
         ensures run { IfOk result (RunsAs self (λ N. drained turns)) }
         ensures stop { IfErr result (StopsAs self (λ N. drained turns)) }
     {
@@ -209,7 +219,7 @@ impl<S: Space + Drop, J: Judge + Drop> Run<S, J> {
     }
 
     /// A connection's stream is put back.
-    fn with_stream(self, connection: u32, stream: Stream) -> Result<Run<S, J>, NoMemory>
+    fn with_stream(self, connection: u32, stream: Stream) -> Result<Run<S, J, B>, NoMemory>
         ensures { IfOk result (RunsAs self (λ N r. goes (with_stream connection stream r))) }
     {
         let Run {
@@ -228,7 +238,7 @@ impl<S: Space + Drop, J: Judge + Drop> Run<S, J> {
     }
 
     /// A turn of a connection.
-    fn send(self, alloc: Global, connection: u32, turn: Turn) -> Result<Run<S, J>, ScriptFault>
+    fn send(self, alloc: Global, connection: u32, turn: Turn) -> Result<Run<S, J, B>, ScriptFault>
         ensures run { IfOk result (RunsAs self (λ N. stepped (steps.Packet connection turn))) }
         ensures stop { IfErr result (StopsAs self (λ N. stepped (steps.Packet connection turn))) }
     {
@@ -244,7 +254,7 @@ impl<S: Space + Drop, J: Judge + Drop> Run<S, J> {
         connection: u32,
         next: Next,
         stream: Stream,
-    ) -> Result<Run<S, J>, ScriptFault>
+    ) -> Result<Run<S, J, B>, ScriptFault>
         ensures run { IfOk result (RunsAs self (λ N. with_no_packet connection next stream)) }
         ensures stop { IfErr result (StopsAs self (λ N. with_no_packet connection next stream)) }
     {
@@ -266,7 +276,7 @@ impl<S: Space + Drop, J: Judge + Drop> Run<S, J> {
         connection: u32,
         packet: Packet,
         stream: Stream,
-    ) -> Result<(Run<S, J>, Option<Stream>), ScriptFault>
+    ) -> Result<(Run<S, J, B>, Option<Stream>), ScriptFault>
         ensures run { IfOk result (λ done. (N : Decider) → Decides N → (r : Running) → IsAt r self
             → ReadsOn done.0 done.1 stream
             (λ more. with_packet connection packet stream more r)) }
@@ -297,7 +307,7 @@ impl<S: Space + Drop, J: Judge + Drop> Run<S, J> {
         alloc: Global,
         connection: u32,
         mut stream: Stream,
-    ) -> Result<Run<S, J>, ScriptFault>
+    ) -> Result<Run<S, J, B>, ScriptFault>
         ensures run { IfOk result
             (RunsAs self (λ N. packets_read N connection stream)) }
         ensures stop { IfErr result
@@ -320,7 +330,12 @@ impl<S: Space + Drop, J: Judge + Drop> Run<S, J> {
     }
 
     /// Bytes of a connection come.
-    fn bytes(self, alloc: Global, connection: u32, bytes: &[u8]) -> Result<Run<S, J>, ScriptFault>
+    fn bytes(
+        self,
+        alloc: Global,
+        connection: u32,
+        bytes: &[u8],
+    ) -> Result<Run<S, J, B>, ScriptFault>
         ensures run { IfOk result
             (RunsAs self (λ N. bytes_come N connection bytes.now)) }
         ensures stop { IfErr result
@@ -361,13 +376,19 @@ impl<S: Space + Drop, J: Judge + Drop> Run<S, J> {
     }
 
     /// Event `place` of a script.
-    fn event(self, alloc: Global, place: u64, event: ScriptEvent) -> Result<Run<S, J>, ScriptFault>
+    fn event(
+        self,
+        alloc: Global,
+        place: u64,
+        event: ScriptEvent,
+    ) -> Result<Run<S, J, B>, ScriptFault>
         requires { IsSoundEvent event }
         ensures run { IfOk result (RunsAs self (λ N. after_event N place event)) }
         ensures stop { IfErr result (StopsAs self (λ N. after_event N place event)) }
     {
         match event {
             ScriptEvent::Bind(binding) => self.bind(alloc, place, binding),
+            ScriptEvent::Watch(watched) => self.set_up(alloc, place, Step::Watch(watched)),
             ScriptEvent::Open(space) => self.step(alloc, Step::Arrive(space)),
             ScriptEvent::Bytes(connection, bytes) if self.was_opened(connection) => {
                 self.bytes(alloc, connection, bytes.as_slice())
@@ -379,7 +400,6 @@ impl<S: Space + Drop, J: Judge + Drop> Run<S, J> {
             ScriptEvent::Drain(turns) => self.drain(alloc, turns),
             ScriptEvent::LongDrain => Err(ScriptFault::Limit(3)),
             ScriptEvent::Schema(_) if place == 0 => Ok(self),
-            ScriptEvent::Unbuilt => Err(ScriptFault::NotBuilt(place)),
             _ => Err(ScriptFault::Bad(place)),
         }
     }
@@ -390,7 +410,7 @@ impl<S: Space + Drop, J: Judge + Drop> Run<S, J> {
         alloc: Global,
         place: u64,
         value: &Value,
-    ) -> Result<Run<S, J>, ScriptFault>
+    ) -> Result<Run<S, J, B>, ScriptFault>
         ensures run { IfOk result
             (RunsAs self (λ N. after_value (doing N) place (event_of value.now))) }
         ensures stop { IfErr result

@@ -10,6 +10,7 @@ use crate::faults::ScriptFault;
 use crate::runs::Run;
 use ds_space::Space;
 use lc_guard::{Guards, Predicate};
+use lc_watch::{Behaviour, Watcher};
 use ps_read::SchemaFault;
 use ps_schema::Schema;
 use pv_value::Value;
@@ -33,12 +34,13 @@ fn schema_of(alloc: Global, first: &Value) -> Result<Schema, ScriptFault>
 /// The run of the script that an input is. Its length is looked at first, and whether a text is
 /// UTF-8; then its values in order, each read and done before the next is read. The first one may
 /// give the schema by which guards judge.
-pub(crate) fn run_of<S: Space + Drop, F: Predicate + Drop>(
+pub(crate) fn run_of<S: Space + Drop, F: Predicate + Drop, G: Behaviour + Drop>(
     alloc: Global,
     bytes: &[u8],
     form: Form,
     predicate: F,
-) -> Result<Run<S, Guards<F>>, ScriptFault>
+    behaviour: G,
+) -> Result<Run<S, Guards<F>, Watcher<G>>, ScriptFault>
     ensures run { IfOk result (RanAs form bytes.now) }
     ensures stop { IfErr result (StopsAt form bytes.now) }
 {
@@ -50,12 +52,15 @@ pub(crate) fn run_of<S: Space + Drop, F: Predicate + Drop>(
     let mut values = Values::of(bytes, form);
     let first = match values.next(alloc) {
         Ok(Some(value)) => value,
-        Ok(None) => return Ok(Run::begin(alloc, Guards::new(no_schema(alloc)?, predicate))?),
+        Ok(None) => {
+            let guards = Guards::new(no_schema(alloc)?, predicate);
+            return Ok(Run::begin(alloc, guards, Watcher::new(behaviour))?);
+        }
         Err(NextFault::Bad) => return Err(ScriptFault::Bad(0)),
         Err(NextFault::NoMemory) => return Err(ScriptFault::NoMemory),
     };
     let guards = Guards::new(schema_of(alloc, &first)?, predicate);
-    let mut run = Run::begin(alloc, guards)?.value(alloc, 0, &first)?;
+    let mut run = Run::begin(alloc, guards, Watcher::new(behaviour))?.value(alloc, 0, &first)?;
     let mut place = 1;
     loop {
         match values.next(alloc) {

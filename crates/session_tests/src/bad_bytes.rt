@@ -3,6 +3,7 @@ use crate::counted::Counts;
 use crate::sessions::{both, sink, source};
 use ds_space::PlainSpace;
 use hub_machine::Fault;
+use lc_watch::{Table, Watcher};
 use sr_pass::NoNames;
 use srv_turns::{ReaderEnd, WriterEnd};
 use std::alloc::{AllocError, Global};
@@ -56,7 +57,14 @@ fn end_so<R: Wait>(
 ) -> Result<bool, AllocError> {
     let mut reads = source(alloc, link.0, link.1, &[])?;
     let mut writes = sink(alloc, &[])?;
-    let ended = both::<R, PlainSpace, NoNames>(rt, alloc, NoNames, &mut reads, &mut writes);
+    let ended = both::<R, PlainSpace, NoNames, Watcher<Table>>(
+        rt,
+        alloc,
+        NoNames,
+        Watcher::new(Table),
+        &mut reads,
+        &mut writes,
+    );
     let told = ended == Some((end, WriterEnd::Ended, counts));
     Ok(told && writes.held() == holds && writes.finishes() == 1)
 }

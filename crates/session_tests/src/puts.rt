@@ -3,6 +3,7 @@ use crate::counted::Counts;
 use crate::drip::Drip;
 use crate::sessions::{sink, writer};
 use ds_space::PlainSpace;
+use lc_watch::{Table, Watcher};
 use out_ports::memory::MemSink;
 use sr_pass::NoNames;
 use srv_turns::WriterEnd;
@@ -27,7 +28,13 @@ fn ends_so<R: Wait>(
     let mut writes: Drip<MemSink> = Drip {
         sink: sink(alloc, failing)?,
     };
-    let ended = writer::<R, PlainSpace, NoNames, Drip<MemSink>>(rt, alloc, NoNames, &mut writes);
+    let ended = writer::<R, PlainSpace, NoNames, Watcher<Table>, Drip<MemSink>>(
+        rt,
+        alloc,
+        NoNames,
+        Watcher::new(Table),
+        &mut writes,
+    );
     let counts = Counts {
         packets: 1,
         bads: 0,

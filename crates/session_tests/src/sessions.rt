@@ -2,6 +2,7 @@
 use crate::counted::{Counted, Counts};
 use ds_space::Space;
 use hub_machine::Step;
+use lc_watch::Behaves;
 use out_ports::memory::{MemSink, MemSource};
 use out_ports::ports::Sink;
 use rl_packet::{Packet, Turn};
@@ -44,14 +45,15 @@ pub fn sink(alloc: Global, failing: &[u64]) -> Result<MemSink, AllocError> {
 
 /// How the sessions of connection 1 at the first dataspace end, the reader's and then the writer's,
 /// and what they committed.
-pub fn both<R: Wait, S: Space + Drop, J: Judge + Drop>(
+pub fn both<R: Wait, S: Space + Drop, J: Judge + Drop, B: Behaves + Drop>(
     rt: &R,
     alloc: Global,
     judge: J,
+    behaves: B,
     reads: &mut MemSource,
     writes: &mut MemSink,
 ) -> Option<(ReaderEnd, WriterEnd, Counts)> {
-    let served = Served::<S, J>::begin(alloc, judge).ok()?;
+    let served = Served::<S, J, B>::begin(alloc, judge, behaves).ok()?;
     let (gate, mut pass) = Gate::begin(alloc, served, 2).ok()?;
     let other = gate.split(&mut pass).ok()?;
     let mut seat = Counted {
@@ -77,14 +79,15 @@ fn turn(alloc: Global) -> Option<Turn> {
 
 /// How the writer of connection 1 at the first dataspace ends, once the connection has sent the
 /// turn above, and what was committed.
-pub fn writer<R: Wait, S: Space + Drop, J: Judge + Drop, W: Sink>(
+pub fn writer<R: Wait, S: Space + Drop, J: Judge + Drop, B: Behaves + Drop, W: Sink>(
     rt: &R,
     alloc: Global,
     judge: J,
+    behaves: B,
     writes: &mut W,
 ) -> Option<(WriterEnd, Counts)> {
     let turn = turn(alloc)?;
-    let served = Served::<S, J>::begin(alloc, judge).ok()?;
+    let served = Served::<S, J, B>::begin(alloc, judge, behaves).ok()?;
     let (gate, mut pass) = Gate::begin(alloc, served, 2).ok()?;
     let other = gate.split(&mut pass).ok()?;
     let mut seat = Counted {

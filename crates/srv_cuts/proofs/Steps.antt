@@ -139,6 +139,7 @@ packets_own : (ss : List Step) → filter is_packet_step ss ≡ filter is_packet
 packets_own [] = refl
 packets_own (steps.Packet k es ∷ ss) = ap (λ (l : List Step). steps.Packet k es ∷ l) (packets_own ss)
 packets_own (steps.Bind b ∷ ss) = packets_own ss
+packets_own (steps.Watch x ∷ ss) = packets_own ss
 packets_own (steps.Arrive n ∷ ss) = packets_own ss
 packets_own (steps.Bad k f ∷ ss) = packets_own ss
 packets_own (steps.Close k ∷ ss) = packets_own ss

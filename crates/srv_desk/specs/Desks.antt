@@ -18,7 +18,7 @@ use Rattle.srv_loop.specs.Links.{Deeds}
 -- ---- one step
 
 -- the steps of a pass, and their replies, in order
-abbrev pub pairs_by : {X Y : Type 0} → View (Served X Y) ServedStep Reply → List Pair
+abbrev pub pairs_by : {X Y Z : Type 0} → View (Served X Y Z) ServedStep Reply → List Pair
 pairs_by v = step_pairs (own_pairs v)
 
 -- as many steps stand as a gate takes

@@ -9,6 +9,7 @@ ghost use Rattle.srv_desk.specs.Desks.{pairs_by, is_spent, IsAnswered, IsDone, H
 use crate::jobs::{Half, Session};
 use ds_space::Space;
 use hub_core::{Reply, Step};
+use lc_watch::Behaves;
 use out_ports::ports::{Sink, Source};
 use sr_pass::Judge;
 use srv_loop::{Desk, NoMemory};
@@ -73,7 +74,7 @@ impl<'g, T: Replayed> GateDesk<'g, T> {
     }
 }
 
-impl<'g, S: Space + Drop, J: Judge + Drop> GateDesk<'g, Served<S, J>> {
+impl<'g, S: Space + Drop, J: Judge + Drop, B: Behaves + Drop> GateDesk<'g, Served<S, J, B>> {
     /// Does a step, and answers its reply, or None where as many steps stand as are taken.
     fn commit<R: Wait>(&mut self, rt: &R, step: Step) -> Result<Option<Reply>, NoMemory>
         ensures done { IfOk result (λ answer. IsAnswered step answer
@@ -149,15 +150,21 @@ impl<'g, S: Space + Drop, J: Judge + Drop> GateDesk<'g, Served<S, J>> {
     }
 }
 
-impl<'g, S: Space + Drop, J: Judge + Drop, R: Source + Drop, W: Sink + Drop> Desk<R, W>
-    for GateDesk<'g, Served<S, J>> {
+impl<
+    'g,
+    S: Space + Drop,
+    J: Judge + Drop,
+    B: Behaves + Drop,
+    R: Source + Drop,
+    W: Sink + Drop,
+> Desk<R, W> for GateDesk<'g, Served<S, J, B>> {
     ghost use Rattle.std.specs.Prelude.{◌≡◌, [], true, false};
     ghost use Rattle.turn_gate.specs.Gates.{view};
     ghost use Rattle.turn_gate.specs.Passes.{own_pairs};
     ghost use Rattle.srv_desk.specs.Desks.{pairs_by, is_spent, deeds_of};
     ghost use Rattle.srv_desk.specs.Jobs.{is_reading};
 
-    type Job = Session<'g, Served<S, J>, R, W>;
+    type Job = Session<'g, Served<S, J, B>, R, W>;
 
     ghost deeds = { λ s. deeds_of (pairs_by (view s.pass)) s.full (is_spent (view s.pass)) };
 

@@ -3,6 +3,7 @@ ghost use Rattle.std.specs.Prelude.{◌≡◌, ◌≤◌, ◌^◌};
 
 use ds_space::Space;
 use hub_core::Step;
+use lc_watch::Behaves;
 use out_ports::ports::{Run, Sink, Source};
 use sr_pass::Judge;
 use srv_session::{Seated, Served};
@@ -53,8 +54,8 @@ impl<'g, T: Replayed, R, W> Session<'g, T, R, W> {
     }
 }
 
-impl<'g, S: Space + Drop, J: Judge + Drop, R: Source + Drop, W: Sink + Drop> Run
-    for Session<'g, Served<S, J>, R, W> {
+impl<'g, S: Space + Drop, J: Judge + Drop, B: Behaves + Drop, R: Source + Drop, W: Sink + Drop> Run
+    for Session<'g, Served<S, J, B>, R, W> {
     fn run<Rt: Wait>(self, rt: &Rt) {
         let Session {
             connection,
@@ -90,7 +91,7 @@ impl<'g, T: Replayed> Worker<'g, T> {
     }
 }
 
-impl<'g, S: Space + Drop, J: Judge + Drop> Run for Worker<'g, Served<S, J>> {
+impl<'g, S: Space + Drop, J: Judge + Drop, B: Behaves + Drop> Run for Worker<'g, Served<S, J, B>> {
     fn run<Rt: Wait>(self, rt: &Rt) {
         let Worker { mut seat } = self;
         serve_worker(rt, &mut seat);

@@ -28,6 +28,8 @@ use Rattle.sr_pass.specs.declared.passing.Judge as judge
 use Rattle.hub_machine.proofs.faults.Fault.TheSendSync as fault
 use Rattle.ac_world.specs.contracts.readings.Readings as readings
 use Rattle.ac_world.specs.contracts.dataspaces.Dataspace as dataspace
+use Rattle.ac_watch.specs.contracts.watching.Watching as watching
+use Rattle.ac_world.specs.contracts.watchers.Watcher as watcher
 use Rattle.ac_world.specs.contracts.world.World as world
 use Rattle.hub_core.specs.contracts.hub.Hub as hub
 use Rattle.rl_ports.specs.contracts.ports.Ports as ports
@@ -118,13 +120,19 @@ ports_send = search (crosses, maps.crosses, sendable, value_send, caveats_send) 
 pub readings_send : IsSend readings.the_row
 readings_send = search (crosses, maps.crosses, sendable, value_send, caveats_send) depth 60 fits 20000
 
+pub watching_send : IsSend watching.the_row
+watching_send = search (crosses, maps.crosses, sendable, value_send) depth 60 fits 20000
+
+pub watcher_send : IsSend watcher.the_row
+watcher_send = search (crosses, sendable, watching_send) depth 60 fits 20000
+
 module _ (S : RattleType) (s : space.Ghosts S.Denot) where
   pub dataspace_send : IsSend S → IsSend (dataspace.the_row S s)
   dataspace_send a = search (crosses, sendable) depth 60 fits 20000
 
-module _ (S J : RattleType) (s : space.Ghosts S.Denot) (j : judge.Ghosts J.Denot) where
-  pub world_send : IsSend S → IsSend J → IsSend (world.the_row S J s j)
-  world_send a b =
+module _ (S J B : RattleType) (s : space.Ghosts S.Denot) (j : judge.Ghosts J.Denot) where
+  pub world_send : IsSend S → IsSend J → IsSend B → IsSend (world.the_row S J B s j)
+  world_send a b c =
       search (
         crosses,
         maps.crosses,
@@ -135,10 +143,11 @@ module _ (S J : RattleType) (s : space.Ghosts S.Denot) (j : judge.Ghosts J.Denot
         deliveries_send,
         readings_send,
         dataspace_send,
+        watcher_send,
       ) depth 60 fits 20000
 
-  pub hub_send : IsSend S → IsSend J → IsSend (hub.the_row S J s j)
-  hub_send a b = search (crosses, maps.crosses, sendable, world_send, ports_send) depth 60 fits 20000
+  pub hub_send : IsSend S → IsSend J → IsSend B → IsSend (hub.the_row S J B s j)
+  hub_send a b c = search (crosses, maps.crosses, sendable, world_send, ports_send) depth 60 fits 20000
 
-  pub served_send : IsSend S → IsSend J → IsSend (served.the_row S J s j)
-  served_send a b = search (crosses, sendable, hub_send) depth 60 fits 20000
+  pub served_send : IsSend S → IsSend J → IsSend B → IsSend (served.the_row S J B s j)
+  served_send a b c = search (crosses, sendable, hub_send) depth 60 fits 20000

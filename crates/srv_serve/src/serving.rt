@@ -5,6 +5,7 @@ ghost use Rattle.srv_loop.specs.Tallies.{links_of, accepts_of, HasEnded};
 
 use ds_space::Space;
 use hub_core::Hub;
+use lc_watch::Behaves;
 use out_ports::ports::{Listen, Run, Spawner};
 use out_real::{ScopeSpawner, start_in};
 use sr_pass::Judge;
@@ -79,9 +80,9 @@ trait Team<V> {
     fn end_workers<Rt: Wait>(&mut self, rt: &Rt) -> Result<(), NoMemory>;
 }
 
-impl<'g, S: Space + Drop, J: Judge + Drop> Team<Worker<'g, Served<S, J>>>
-    for GateDesk<'g, Served<S, J>> {
-    fn worker(&mut self) -> Worker<'g, Served<S, J>> {
+impl<'g, S: Space + Drop, J: Judge + Drop, B: Behaves + Drop> Team<Worker<'g, Served<S, J, B>>>
+    for GateDesk<'g, Served<S, J, B>> {
+    fn worker(&mut self) -> Worker<'g, Served<S, J, B>> {
         Worker::new(self.seat())
     }
 
@@ -164,10 +165,10 @@ fn take_back<T>(lent: &mut T)
 ///
 /// It returns once all threads that it started have ended: first the sessions, and then, told to
 /// stop, the workers.
-pub fn serve<Rt, S, J, Li>(
+pub fn serve<Rt, S, J, B, Li>(
     rt: &Rt,
     alloc: Global,
-    hub: Hub<S, J>,
+    hub: Hub<S, J, B>,
     listener: &mut Li,
     workers: u32,
     connections: u32,
@@ -176,6 +177,7 @@ where
     Rt: Threads + Wait + Sync,
     S: Space + Drop + Send,
     J: Judge + Drop + Send,
+    B: Behaves + Drop + Send,
     Li: Listen,
     Li::R: Send + Drop,
     Li::W: Send + Drop,

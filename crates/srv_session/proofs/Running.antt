@@ -6,7 +6,7 @@ use Rattle.hub_machine.specs.State.{State, opening}
 use Rattle.hub_machine.specs.Machine.{step, IsAllowed}
 use Rattle.hub_machine.specs.Replays.{run_from}
 use Rattle.hub_machine.specs.declared.steps.Step.{Step}
-use Rattle.hub_machine.specs.declared.steps.Step.TheVariants.{Bind, Arrive, Packet, Bad, Close, Turn, Work, Stop}
+use Rattle.hub_machine.specs.declared.steps.Step.TheVariants.{Bind, Watch, Arrive, Packet, Bad, Close, Turn, Work, Stop}
 use Rattle.hub_machine.specs.declared.steps.Reply.{Reply}
 use Rattle.hub_laws.specs.Laws.{AreAllowed}
 use Rattle.srv_session.specs.Served.{served_next}
@@ -17,6 +17,7 @@ use Rattle.srv_session.specs.declared.served.ServedStep.{ServedStep}
 -- what is allowed at one state is allowed at each
 anywhere : (s t : State) (e : Step) → IsAllowed s e → IsAllowed t e
 anywhere s t (Bind b) may = may
+anywhere s t (Watch x) may = may
 anywhere s t (Arrive space) may = may
 anywhere s t (Packet k es) may = may
 anywhere s t (Bad k f) may = may
@@ -25,7 +26,7 @@ anywhere s t (Turn a) may = may
 anywhere s t Work may = may
 anywhere s t Stop may = may
 
-pub runs : {X Y : Type 0} (h : Served X Y) (s : State) (es : List (Entry ServedStep Reply)) → h.hub ≡ s
+pub runs : {X Y Z : Type 0} (h : Served X Y Z) (s : State) (es : List (Entry ServedStep Reply)) → h.hub ≡ s
     → IsLegal served_next h es
     → ((after served_next h es).hub ≡ run_from s (machine_steps es))
     × AreAllowed s (machine_steps es)

@@ -11,7 +11,7 @@ use Rattle.rl_packet.specs.declared.packets.TurnEvent.{TurnEvent}
 use Rattle.hub_machine.specs.State.{State}
 use Rattle.hub_machine.specs.Machine.{IsAllowed}
 use Rattle.hub_machine.specs.declared.steps.Step.{Step}
-use Rattle.hub_machine.specs.declared.steps.Step.TheVariants.{Bind, Arrive, Packet, Bad, Close, Turn, Work, Stop}
+use Rattle.hub_machine.specs.declared.steps.Step.TheVariants.{Bind, Watch, Arrive, Packet, Bad, Close, Turn, Work, Stop}
 
 event_once : (e : Event) → IsProp (IsEvent e)
 event_once (Assert v h) = ×_prop (Bool-set _ _) le_prop
@@ -29,6 +29,7 @@ sound_once c p q =
 
 pub allowed_once : (s : State) (e : Step) → IsProp (IsAllowed s e)
 allowed_once s (Bind b) = sound_once b.cap
+allowed_once s (Watch x) = Unit-prop
 allowed_once s (Arrive space) = Unit-prop
 allowed_once s (Packet k es) = AllByRecursion-prop IsTurnEvent turn_event_once es
 allowed_once s (Bad k f) = Unit-prop

@@ -23,13 +23,13 @@ replies_from s [] = []
 replies_from s (e ∷ es) = (step s e).reply ∷ replies_from (step s e).state es
 
 -- a history goes on with the machine's run behind these steps, from its beginning, where guards judge by this schema
-pub record IsRun {X Y : Type 0} (ds : List Definition) (before : List Step) (h : Served X Y)
+pub record IsRun {X Y Z : Type 0} (ds : List Definition) (before : List Step) (h : Served X Y Z)
     (es : List (Entry ServedStep Reply)) : Type 0 where
   pub state : (after served_next h es).hub ≡ replay ds (before ++ machine_steps es)
   pub allowed : AreAllowed (opening ds) (before ++ machine_steps es)
   pub replies : replies_of es ≡ replies_from (replay ds before) (machine_steps es)
 
-abbrev pub HistoriesAreTheMachines : Type 0 → Type 0 → Type 0
-HistoriesAreTheMachines X Y =
-    (ds : List Definition) (before : List Step) (h : Served X Y) (es : List (Entry ServedStep Reply))
+abbrev pub HistoriesAreTheMachines : Type 0 → Type 0 → Type 0 → Type 0
+HistoriesAreTheMachines X Y Z =
+    (ds : List Definition) (before : List Step) (h : Served X Y Z) (es : List (Entry ServedStep Reply))
     → AreAllowed (opening ds) before → h.hub ≡ replay ds before → IsLegal served_next h es → IsRun ds before h es

@@ -5,6 +5,7 @@ ghost use Rattle.turn_gate.specs.Gates.{IsPassOf};
 use crate::served::{Served, ServedStep};
 use ds_space::Space;
 use hub_core::{Reply, Step};
+use lc_watch::Behaves;
 use sr_pass::Judge;
 use srv_turns::Turns;
 use std::sync::Wait;
@@ -29,7 +30,8 @@ impl<'g, T: Replayed> Seated<'g, T> {
     }
 }
 
-impl<'g, S: Space + Drop, J: Judge + Drop> Turns for Seated<'g, Served<S, J>> {
+impl<'g, S: Space + Drop, J: Judge + Drop, B: Behaves + Drop> Turns
+    for Seated<'g, Served<S, J, B>> {
     ghost use Rattle.std.specs.Prelude.{◌==◌};
     ghost use Rattle.turn_gate.specs.Limits.{most_steps};
     ghost use Rattle.turn_gate.specs.Gates.{view};

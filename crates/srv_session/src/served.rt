@@ -6,6 +6,7 @@ ghost use Rattle.srv_session.specs.Allowed.{allowed_once};
 
 use ds_space::Space;
 use hub_core::{Hub, Reply, Step};
+use lc_watch::Behaves;
 use sr_pass::Judge;
 use std::alloc::Global;
 use turn_gate::{NoMemory, Replayed};
@@ -37,29 +38,29 @@ impl ServedStep {
 
 /// The hub, with the memory that its steps take.
 #[derive(Drop)]
-pub struct Served<S: Space + Drop, J: Judge + Drop> {
-    pub hub: Hub<S, J>,
+pub struct Served<S: Space + Drop, J: Judge + Drop, B: Behaves + Drop> {
+    pub hub: Hub<S, J, B>,
     pub alloc: Global,
 }
 
-impl<S: Space + Drop, J: Judge + Drop> Served<S, J> {
-    /// The hub at its beginning. Guards judge by what is handed in.
-    pub fn begin(alloc: Global, judge: J) -> Result<Served<S, J>, pv_value::NoMemory>
+impl<S: Space + Drop, J: Judge + Drop, B: Behaves + Drop> Served<S, J, B> {
+    /// The hub at its beginning. Guards judge by what is handed in, and watchers act by it.
+    pub fn begin(alloc: Global, judge: J, behaves: B) -> Result<Served<S, J, B>, pv_value::NoMemory>
         ensures { IfOk result (λ s. s.hub ≡ opening (J.schema judge)) }
     {
-        let hub = Hub::begin(alloc, judge)?;
+        let hub = Hub::begin(alloc, judge, behaves)?;
         Ok(Served::of(alloc, hub))
     }
 
     /// This hub, at which steps may have been done before.
-    pub fn of(alloc: Global, hub: Hub<S, J>) -> Served<S, J>
+    pub fn of(alloc: Global, hub: Hub<S, J, B>) -> Served<S, J, B>
         ensures { result.hub ≡ hub }
     {
         Served { hub, alloc }
     }
 }
 
-impl<S: Space + Drop, J: Judge + Drop> Replayed for Served<S, J> {
+impl<S: Space + Drop, J: Judge + Drop, B: Behaves + Drop> Replayed for Served<S, J, B> {
     ghost use Rattle.srv_session.specs.Served.{served_next};
 
     type Step = ServedStep;
@@ -77,7 +78,7 @@ impl<S: Space + Drop, J: Judge + Drop> Replayed for Served<S, J> {
         }
     }
 
-    fn step(self, s: ServedStep) -> Result<(Served<S, J>, Reply), NoMemory> {
+    fn step(self, s: ServedStep) -> Result<(Served<S, J, B>, Reply), NoMemory> {
         let Served { hub, alloc } = self;
         match hub.step(alloc, s.step) {
             Ok((hub, reply)) => Ok((Served { hub, alloc }, reply)),

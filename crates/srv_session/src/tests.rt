@@ -4,6 +4,7 @@ ghost use Rattle.std.specs.Prelude.{◌≡◌};
 use crate::{Seated, Served, ServedStep};
 use ds_space::{PlainSpace, Space};
 use hub_core::{Fault, Reply, Step};
+use lc_watch::{Behaves, Table, Watcher};
 use out_ports::memory::{MemSink, MemSource};
 use sr_pass::{Judge, NoNames};
 use srv_turns::{ReaderEnd, Turns, WriterEnd, serve_reader, serve_writer};
@@ -32,7 +33,9 @@ const ERROR: [u8; 27] = [
 /// Whether a connection that comes to the first dataspace is the first one, and a second gate call
 /// finds it there when the gate is closed.
 fn one_arrival<R: Wait>(rt: &R, alloc: Global) -> bool {
-    let Ok(served) = Served::<PlainSpace, NoNames>::begin(alloc, NoNames) else {
+    let watcher = Watcher::new(Table);
+    let Ok(served) = Served::<PlainSpace, NoNames, Watcher<Table>>::begin(alloc, NoNames, watcher)
+    else {
         return false;
     };
     let Ok((gate, mut pass)) = Gate::begin(alloc, served, 1) else {
@@ -62,14 +65,15 @@ fn sink(alloc: Global, failing: &[u64]) -> Result<MemSink, AllocError> {
 }
 
 /// How the sessions of a connection at the first dataspace end, the reader's and then the writer's.
-fn sessions<R: Wait, S: Space + Drop, J: Judge + Drop>(
+fn sessions<R: Wait, S: Space + Drop, J: Judge + Drop, B: Behaves + Drop>(
     rt: &R,
     alloc: Global,
     judge: J,
+    behaves: B,
     reads: &mut MemSource,
     writes: &mut MemSink,
 ) -> Option<(ReaderEnd, WriterEnd)> {
-    let Ok(served) = Served::<S, J>::begin(alloc, judge) else {
+    let Ok(served) = Served::<S, J, B>::begin(alloc, judge, behaves) else {
         return None;
     };
     let Ok((gate, pass)) = Gate::begin(alloc, served, 1) else {
@@ -93,7 +97,14 @@ fn ends<R: Wait>(
 ) -> Result<bool, AllocError> {
     let mut reads = source(alloc, link.0, link.1)?;
     let mut writes = sink(alloc, link.2)?;
-    let ended = sessions::<R, PlainSpace, NoNames>(rt, alloc, NoNames, &mut reads, &mut writes);
+    let ended = sessions::<R, PlainSpace, NoNames, Watcher<Table>>(
+        rt,
+        alloc,
+        NoNames,
+        Watcher::new(Table),
+        &mut reads,
+        &mut writes,
+    );
     Ok(ended == Some(ends) && writes.held() == holds && writes.finishes() == 1)
 }
 

@@ -2,6 +2,7 @@
 //! makes all; dataspace 1 is told and makes rows at it.
 use ac_world::{Act, World};
 use ds_space::PlainSpace;
+use lc_watch::{Table, Watcher};
 use pv_text::read_text;
 use sr_pass::NoNames;
 use std::alloc::Global;
@@ -11,11 +12,11 @@ const PEER: u32 = 17;
 
 const SPACE: u32 = 1;
 
-type Room = World<PlainSpace, NoNames>;
+type Room = World<PlainSpace, NoNames, Watcher<Table>>;
 
 /// A room with one connection.
 fn room(alloc: Global) -> Result<Room, Fail> {
-    let (room, _) = Room::begin(alloc, NoNames)?.arrive()?;
+    let (room, _) = Room::begin(alloc, NoNames, Watcher::new(Table))?.arrive()?;
     Ok(room)
 }
 

@@ -1,26 +1,20 @@
 -- What the gatekeeper wants changes with the first row of a value that asks, and with the last.
-use Rattle.std.proofs.Common.{◌≡◌, ℕ, List, [], ◌∷◌, ◌++◌, map, Bool, true, false, cond, ◌&&◌, ◌||◌, not, Some, None}
-use Rattle.std.proofs.Common.{refl, ap, sym, ◌∙◌, subst, arith}
+use Rattle.std.proofs.Common.{◌≡◌, List, [], ◌∷◌, ◌++◌, map, Bool, true, false, cond, ◌&&◌, ◌||◌, not}
+use Rattle.std.proofs.Common.{refl, ap, sym, ◌∙◌, subst}
 use Rattle.std.specs.List.{filter}
 use Rattle.std.specs.List.Sorted.{IsStrictlySortedBy}
-use Rattle.std.specs.Map.{values_of, lookup, remove_entry}
-use Rattle.std.specs.BTreeMap.{insert_entry, is_at}
-use Rattle.std.specs.Ordering.{nat_cmp, match_ordering}
-use Rattle.std.specs.declared.cmp.Ordering.{Ordering}
-use Rattle.std.specs.declared.cmp.Ordering.TheVariants.{Less, Equal, Greater}
 use Rattle.std.proofs.lemmas.Map.Views.{any-filter_same}
 use Rattle.pv_value.specs.Plain.{Plain}
 use Rattle.pv_value.specs.Order.{order}
 use Rattle.pv_value.specs.Sets.{ascending_by}
 use Rattle.pv_value.specs.WellFormed.{Ascend}
 use Rattle.pv_words.specs.Parts.{same}
-use Rattle.ds_space.specs.Spaces.{Rows}
 use Rattle.ds_space.specs.Changes.{among, without}
 use Rattle.ds_space.specs.declared.space.Change.TheVariants.{Left, Came}
 use Rattle.ds_space.specs.Lemmas.Keys.{same_is, same_self}
-use Rattle.ds_space.specs.Lemmas.Exact.{without_is}
 use Rattle.ds_space.specs.Lemmas.Lists.{unique, ascending_any, in_order}
-use Rattle.ds_space.specs.Lemmas.Walks.{lacking_ascends}
+use Rattle.ac_watch.specs.Lemmas.Alone.{among_without, without_ascends, ascend_nothing}
+use Rattle.ac_watch.specs.Lemmas.Rows.{IsLonger}
 use Rattle.ac_world.specs.Behaviours.{asks}
 use Rattle.ac_world.specs.Systems.{changes}
 
@@ -33,23 +27,9 @@ among_asked q vs =
     ascending_any (same q) (filter asks vs)
     ∙ any-filter_same (same q) asks (asks q) (λ k e. ap asks (sym (same_is q k e))) vs
 
--- ---- the keys of one list that aren't in another
-
-pub among_without : (q : Plain) (ks ls : List Plain) → among q (without ks ls) ≡ (not (among q ls) && among q ks)
-among_without q ks ls =
-    any-filter_same (same q) (λ k. not (among k ls)) (not (among q ls))
-    (λ k e. ap (λ z. not (among z ls)) (sym (same_is q k e))) ks
-
-pub without_ascends : (ks ls : List Plain) → Ascend ks → Ascend ls → Ascend (without ks ls)
-without_ascends ks ls s t = subst Ascend (without_is ks ls s t) (lacking_ascends ks ls s)
-
 asked_ascends : (ks ls : List Plain) → Ascend (without (asked ks) (asked ls))
 asked_ascends ks ls =
     without_ascends (asked ks) (asked ls) (in_order (filter asks ks)) (in_order (filter asks ls))
-
-ascend_nothing : Ascend []
-unfolding IsStrictlySortedBy
-ascend_nothing = tt
 
 ascend_one : (v : Plain) (b : Bool) → Ascend (cond b (v ∷ []) [])
 unfolding IsStrictlySortedBy
@@ -72,10 +52,6 @@ no_changes vs = λ i. map Left (none i) ++ map Came (none i)
 
 -- ---- a value more
 
--- what is in the longer list alone
-abbrev pub IsLonger : Plain → List Plain → List Plain → Type 0
-IsLonger v less more = (q : Plain) → among q more ≡ (same q v || among q less)
-
 module _ (v : Plain) (less more : List Plain) (longer : IsLonger v less more) where
   abbrev is_new : Bool
   is_new = asks v && not (among v less)
@@ -86,7 +62,7 @@ module _ (v : Plain) (less more : List Plain) (longer : IsLonger v less more) wh
       at : (q : Plain) → among q (without (asked less) (asked more)) ≡ false
       at q =
           among_without q (asked less) (asked more)
-          ∙ (λ i. not ((among_asked q more ∙ ap (λ b. asks q && b) (longer q)) i) && among_asked q less i)
+          ∙ (λ i. not ((among_asked q more ∙ ap (λ b. asks q && b) (longer (same q))) i) && among_asked q less i)
           ∙ by (asks q) (same q v) (among q less)
         where
           by : (a s b : Bool) → (not (a && (s || b)) && (a && b)) ≡ false
@@ -103,7 +79,7 @@ module _ (v : Plain) (less more : List Plain) (longer : IsLonger v less more) wh
       at : (q : Plain) → among q (without (asked more) (asked less)) ≡ among q (cond is_new (v ∷ []) [])
       at q =
           among_without q (asked more) (asked less)
-          ∙ (λ i. not (among_asked q less i) && (among_asked q more ∙ ap (λ b. asks q && b) (longer q)) i)
+          ∙ (λ i. not (among_asked q less i) && (among_asked q more ∙ ap (λ b. asks q && b) (longer (same q))) i)
           ∙ by (same q v) refl
         where
           other : (a b : Bool) → (not (a && b) && (a && b)) ≡ false
@@ -149,63 +125,3 @@ module _ (v : Plain) (less more : List Plain) (longer : IsLonger v less more) wh
       by : (b : Bool) → map Left (cond b (v ∷ []) []) ++ map Came [] ≡ cond b (Left v ∷ []) []
       by true = refl
       by false = refl
-
--- ---- rows
-
--- a row more has its value more
-pub longer_by_row : (h : ℕ) (v : Plain) (rows : Rows) → lookup (is_at (nat_cmp h)) rows ≡ None
-    → IsLonger v (values_of rows) (values_of (insert_entry nat_cmp rows h v))
-longer_by_row h v [] none q = refl
-longer_by_row h v (r ∷ rs) none q = by (nat_cmp h r.0) refl none (longer_by_row h v rs)
-  where
-    turn : (a b c : Bool) → (a || (b || c)) ≡ (b || (a || c))
-    turn true true c = refl
-    turn true false c = refl
-    turn false b c = refl
-
-    by : (o : Ordering) → nat_cmp h r.0 ≡ o → lookup (is_at (nat_cmp h)) (r ∷ rs) ≡ None
-        → (lookup (is_at (nat_cmp h)) rs ≡ None → IsLonger v (values_of rs) (values_of (insert_entry nat_cmp rs h v)))
-        → among q (values_of (match_ordering o ((h, v) ∷ r ∷ rs) ((r.0, v) ∷ rs) (r ∷ insert_entry nat_cmp rs h v)))
-        ≡ (same q v || (same q r.1 || among q (values_of rs)))
-    by Less is none later = refl
-    by Equal is none later =
-        let found : lookup (is_at (nat_cmp h)) (r ∷ rs) ≡ Some r.1 = grind (arith, is) in
-        let clash : None ≡ Some r.1 = sym none ∙ found in
-        absurd cc
-    by Greater is none later =
-        let rest : lookup (is_at (nat_cmp h)) rs ≡ None = grind (arith, is, none) in
-        ap (λ b. same q r.1 || b) (later rest q) ∙ turn (same q r.1) (same q v) (among q (values_of rs))
-
--- a row that isn't there leaves all
-pub same_without : (h : ℕ) (rows : Rows) → lookup (is_at (nat_cmp h)) rows ≡ None
-    → remove_entry (is_at (nat_cmp h)) rows ≡ rows
-same_without h [] none = refl
-same_without h (r ∷ rs) none = by (is_at (nat_cmp h) r.0) none (same_without h rs)
-  where
-    by : (b : Bool) → cond b (Some r.1) (lookup (is_at (nat_cmp h)) rs) ≡ None
-        → (lookup (is_at (nat_cmp h)) rs ≡ None → remove_entry (is_at (nat_cmp h)) rs ≡ rs)
-        → cond b rs (r ∷ remove_entry (is_at (nat_cmp h)) rs) ≡ r ∷ rs
-    by true none later = absurd cc
-    by false none later = ap (λ es. r ∷ es) (later none)
-
--- and a row less its value less
-pub longer_than_without : (h : ℕ) (v : Plain) (rows : Rows) → lookup (is_at (nat_cmp h)) rows ≡ Some v
-    → IsLonger v (values_of (remove_entry (is_at (nat_cmp h)) rows)) (values_of rows)
-longer_than_without h v [] found q = absurd cc
-longer_than_without h v (r ∷ rs) found q = by (is_at (nat_cmp h) r.0) found (longer_than_without h v rs)
-  where
-    turn : (a b c : Bool) → (a || (b || c)) ≡ (b || (a || c))
-    turn true true c = refl
-    turn true false c = refl
-    turn false b c = refl
-
-    by : (b : Bool) → cond b (Some r.1) (lookup (is_at (nat_cmp h)) rs) ≡ Some v
-        → (lookup (is_at (nat_cmp h)) rs ≡ Some v
-        → IsLonger v (values_of (remove_entry (is_at (nat_cmp h)) rs)) (values_of rs))
-        → (same q r.1 || among q (values_of rs))
-        ≡ (same q v || among q (values_of (cond b rs (r ∷ remove_entry (is_at (nat_cmp h)) rs))))
-    by true found later =
-        let one : r.1 ≡ v = cc in ap (λ z. same q z || among q (values_of rs)) one
-    by false found later =
-        ap (λ b. same q r.1 || b) (later found q)
-        ∙ turn (same q r.1) (same q v) (among q (values_of (remove_entry (is_at (nat_cmp h)) rs)))

@@ -29,7 +29,7 @@ use Rattle.hub_machine.specs.Machine.{step, unchanged, packet_at, judged, turn_o
 use Rattle.hub_machine.specs.Machine.{telling_fault}
 use Rattle.hub_machine.specs.Endings.{nameless}
 use Rattle.hub_machine.specs.declared.steps.Step.{Step}
-use Rattle.hub_machine.specs.declared.steps.Step.TheVariants.{Bind, Arrive, Packet, Bad, Close, Turn, Work, Stop}
+use Rattle.hub_machine.specs.declared.steps.Step.TheVariants.{Bind, Watch, Arrive, Packet, Bad, Close, Turn, Work, Stop}
 use Rattle.hub_machine.specs.declared.steps.Reply.{Reply}
 use Rattle.hub_machine.specs.declared.steps.Reply.TheVariants.{Worn, Taken}
 use Rattle.hub_machine.specs.Completeness.{IsLight, MayWait, IsFineValue, IsFineRow, IsFineAssertion, IsFineMessage}
@@ -190,6 +190,7 @@ turn_reply a s b is =
 
 pub complete : (s : State) (e : Step) → IsComplete s e (step s e).reply
 complete s (Bind b) = tt
+complete s (Watch x) = tt
 complete s (Arrive space) = tt
 complete s (Packet k es) = λ fresh fine.
     ap (λ b. (cond b (unchanged s Worn) (packet_at k (ports_of k s) es s)).reply) fresh

@@ -11,8 +11,8 @@ use Rattle.hub_machine.specs.Replays.{packet_in, sent_by}
 use Rattle.hub_machine.specs.declared.steps.Reply.{Reply}
 use Rattle.hub_machine.specs.declared.steps.Reply.TheVariants.{Sent}
 use Rattle.hub_machine.specs.declared.steps.Step.{Step}
-use Rattle.hub_machine.specs.declared.steps.Step.TheVariants.{Bind, Arrive, Packet as Came, Bad, Close, Turn, Work}
-use Rattle.hub_machine.specs.declared.steps.Step.TheVariants.{Stop}
+use Rattle.hub_machine.specs.declared.steps.Step.TheVariants.{Bind, Watch, Arrive, Packet as Came, Bad, Close}
+use Rattle.hub_machine.specs.declared.steps.Step.TheVariants.{Turn, Work, Stop}
 use Rattle.hub_outs.specs.Outs.{OutsState, sent_of, with_sent, kept, turning}
 
 pub lookup-insert_entry : {X : Type 0} (q k : ℕ) (v : X) (es : List (ℕ × X))
@@ -51,6 +51,7 @@ turn_sent false a k p outs is =
 pub kept_sent : (e : Step) (k : ℕ) (p : Packet) (outs : OutsState)
     → sent_of k (kept (turning e) p outs) ≡ sent_of k outs ++ sent_by k e (Sent p)
 kept_sent (Bind b) k p outs = sym (append-nil (sent_of k outs))
+kept_sent (Watch x) k p outs = sym (append-nil (sent_of k outs))
 kept_sent (Arrive space) k p outs = sym (append-nil (sent_of k outs))
 kept_sent (Came c es) k p outs = sym (append-nil (sent_of k outs))
 kept_sent (Bad c f) k p outs = sym (append-nil (sent_of k outs))
@@ -66,6 +67,7 @@ either false xs = refl
 -- where the reply is no packet
 pub none_sent : (e : Step) (k : ℕ) (reply : Reply) → packet_in reply ≡ [] → sent_by k e reply ≡ []
 none_sent (Bind b) k reply is = refl
+none_sent (Watch x) k reply is = refl
 none_sent (Arrive space) k reply is = refl
 none_sent (Came c es) k reply is = refl
 none_sent (Bad c f) k reply is = refl

@@ -34,7 +34,7 @@ use Rattle.hub_machine.specs.Admission.{Admitting, admitted, before_all, value_c
 use Rattle.hub_machine.specs.Admission.{let_through, event_cause, cap_at, cause_at, cause_of, after_assertion}
 use Rattle.hub_machine.specs.Admission.{after_retraction, after_message, after_event, after_at, after}
 use Rattle.hub_machine.specs.Admission.{unless, all_admitted, admission}
-use Rattle.hub_valid.specs.Validity.{IsObject, IsObjectValue, HoldsObjects, IsValidAct, IsValidEntry}
+use Rattle.hub_valid.specs.Validity.{Lived, lived, IsObject, IsObjectValue, HoldsObjects, IsValidAct, IsValidEntry}
 use Rattle.hub_valid.specs.Promises.{ActsAreValid}
 use Rattle.hub_valid.specs.Lemmas.Values.{all_append, all_got, cap_is_object}
 use Rattle.hub_valid.specs.Lemmas.Passed.{through_holds}
@@ -106,17 +106,17 @@ number_low (integer (pos n)) e is = by (nat_lt n (2 ^ 63)) refl is
 number_low m e is = absurd cc
 
 -- a reference to an object with more caveats is one to it
-more_caveats : (n : ℕ) (ws : List Plain) (r : Plain) → IsObjectValue n r → IsObjectValue n (with_caveats ws r)
+more_caveats : (n : Lived) (ws : List Plain) (r : Plain) → IsObjectValue n r → IsObjectValue n (with_caveats ws r)
 more_caveats n ws r h = by (cap_of r) refl h
   where
     by : (o : Option Cap) → cap_of r ≡ o → IsSomeAnd o (IsObject n) → IsObjectValue n (with_caveats ws r)
     by None is h = absurd h
     by (Some c) is h = subst (λ o. IsSomeAnd o (IsObject n)) (sym (with_caveats_is_cap r c ws is)) h
 
--- ---- values that come in; n is the number of the last actor
+-- ---- values that come in; n tells which actors were ever live
 
-module _ (n : ℕ) (few : n < 2 ^ 32) where
-  module _ (k : ℕ) (own : actor_at k ≤ n) (far : 17 ≤ actor_at k) (exports : List Plain)
+module _ (n : Lived) (few : 16 + n.opened < 2 ^ 32) where
+  module _ (k : ℕ) (own : actor_at k ≤ 16 + n.opened) (far : 17 ≤ actor_at k) (exports : List Plain)
       (named : AllByRecursion (IsObjectValue n) exports)
     where
       -- an object of the connection's own
@@ -165,7 +165,7 @@ module _ (n : ℕ) (few : n < 2 ^ 32) where
   abbrev IsSound : Admitting → Type 0
   IsSound x = AllByRecursion (IsObjectValue n) x.ports.exports × AllByRecursion (IsValidAct n) x.acts
 
-  module _ (k : ℕ) (own : actor_at k ≤ n) (far : 17 ≤ actor_at k) (w : WorldState) where
+  module _ (k : ℕ) (own : actor_at k ≤ 16 + n.opened) (far : 17 ≤ actor_at k) (w : WorldState) where
     retracted : (h : ℕ) (o : Option Inbound) (x : Admitting) → IsSound x → IsSound (after_retraction h o w x)
     retracted h None x s = s
     retracted h (Some Refused) x s = s
@@ -234,8 +234,8 @@ module _ (n : ℕ) (few : n < 2 ^ 32) where
 -- the acts name objects, where the numbers of actors fit a reference
 pub acts_are_valid_below :
     (k : ℕ) (ports : PortsState) (es : List TurnEvent) (x : Admitting) (w : WorldState) → 16 + w.opened < 2 ^ 32
-    → IsValidEntry w.opened (k, ports) → AllByRecursion IsTurnEvent es → admission k ports w es ≡ admitted x
-    → AllByRecursion (IsValidAct (16 + w.opened)) x.acts
+    → IsValidEntry (lived w) (k, ports) → AllByRecursion IsTurnEvent es → admission k ports w es ≡ admitted x
+    → AllByRecursion (IsValidAct (lived w)) x.acts
 acts_are_valid_below k ports es x w few entry wired is = by (over most_events 3 (length es)) is
   where
     own : actor_at k ≤ 16 + w.opened
@@ -245,8 +245,8 @@ acts_are_valid_below k ports es x w few entry wired is = by (over most_events 3 
     far = omega (arith, entry.0.0)
 
     by : (o : Option Fault) → unless o (all_admitted k w es (before_all k ports w)) ≡ admitted x
-        → AllByRecursion (IsValidAct (16 + w.opened)) x.acts
-    by None is = (all_sound (16 + w.opened) few k own far w es (before_all k ports w) x (entry.1, tt) wired is).1
+        → AllByRecursion (IsValidAct (lived w)) x.acts
+    by None is = (all_sound (lived w) few k own far w es (before_all k ports w) x (entry.1, tt) wired is).1
     by (Some f) is = absurd cc
 
 -- ---- what the connection names

@@ -1,5 +1,5 @@
 -- What is sent through a reference is aimed at an object, and holds objects.
-use Rattle.std.proofs.Common.{◌≡◌, ℕ, ◌++◌, List, [], ◌∷◌, Bool, true, false, cond, nat_lt, length, Option, Some, None}
+use Rattle.std.proofs.Common.{◌≡◌, ◌++◌, List, [], ◌∷◌, Bool, true, false, cond, nat_lt, length, Option, Some, None}
 use Rattle.std.proofs.Common.{refl, option_map}
 use Rattle.std.specs.Prelude.{IsSomeAnd, option_and_then}
 use Rattle.std.specs.List.{AllByRecursion}
@@ -26,15 +26,15 @@ use Rattle.ac_world.specs.Aims.{aim_by, aim_at, observer_in, aim_for, aim_of}
 use Rattle.ac_world.specs.Behaviours.{answer_for}
 use Rattle.rl_wire.specs.Crossing.{held_in}
 use Rattle.rl_wire.specs.Lemmas.Later.{all_of_front, all_of_rest}
-use Rattle.hub_valid.specs.Validity.{IsObjectAt, IsObject, IsObjectValue, HoldsObjects, IsValidBinding}
+use Rattle.hub_valid.specs.Validity.{Lived, IsObjectAt, IsObject, IsObjectValue, HoldsObjects, IsValidBinding}
 use Rattle.hub_valid.specs.Lemmas.Passed.{through_holds}
 use Rattle.hub_valid.specs.Lemmas.Values.{cap_is_object, observer_is_object}
 
-pub record IsAimed (n : ℕ) (aim : Aim) : Type 0 where
+pub record IsAimed (n : Lived) (aim : Aim) : Type 0 where
   pub at : IsObjectAt n aim.at.actor aim.at.entity
   pub value : HoldsObjects n aim.value
 
-pub sent_aims : (ds : List Definition) (n : ℕ) (v x : Plain) → HoldsObjects n v → IsObjectValue n x
+pub sent_aims : (ds : List Definition) (n : Lived) (v x : Plain) → HoldsObjects n v → IsObjectValue n x
     → If (aim_at ds v x) (IsAimed n)
 sent_aims ds n v x holds object = by (cap_of x) refl object
   where
@@ -48,7 +48,7 @@ sent_aims ds n v x holds object = by (cap_of x) refl object
     by (Some c) is object = passing c (passed ds c.caveats v) object (through_holds ds n x v c is holds)
 
 -- what is told to the one that observes
-pub told_aims : (ds : List Definition) (n : ℕ) (v o : Plain) → HoldsObjects n v → HoldsObjects n o
+pub told_aims : (ds : List Definition) (n : Lived) (v o : Plain) → HoldsObjects n v → HoldsObjects n o
     → If (aim_for ds v o) (IsAimed n)
 told_aims ds n v o holds there = by (observer_in o) (observer_is_object n o there)
   where
@@ -57,7 +57,7 @@ told_aims ds n v o holds there = by (observer_in o) (observer_is_object n o ther
     by (Some r) object = sent_aims ds n v r holds object
 
 -- what a key wants
-pub key_aims : (ds : List Definition) (n : ℕ) (key : Plain) → HoldsObjects n key → If (aim_of ds key) (IsAimed n)
+pub key_aims : (ds : List Definition) (n : Lived) (key : Plain) → HoldsObjects n key → If (aim_of ds key) (IsAimed n)
 key_aims ds n (sequence (then_more o (then_more c no_more))) h =
     told_aims ds n c o
     (all_of_front (IsObjectValue n) (held_in c) [] (all_of_rest (IsObjectValue n) (held_in o) (held_in c ++ []) h))
@@ -67,7 +67,7 @@ key_aims ds n key h = tt
 -- ---- what the gatekeeper replies
 
 -- the reply holds the object that a binding gives, or none
-answer_holds : (n : ℕ) (bs : List Binding) (v : Plain) → AllByRecursion (IsValidBinding n) bs
+answer_holds : (n : Lived) (bs : List Binding) (v : Plain) → AllByRecursion (IsValidBinding n) bs
     → HoldsObjects n (reply_to bs v)
 answer_holds n bs v all = by (ref_of v)
   where
@@ -100,7 +100,7 @@ answer_holds n bs v all = by (ref_of v)
     by (Some r) = found r bs all
 
 -- what is replied to one that asks
-pub answer_aims : (ds : List Definition) (n : ℕ) (bs : List Binding) → AllByRecursion (IsValidBinding n) bs
+pub answer_aims : (ds : List Definition) (n : Lived) (bs : List Binding) → AllByRecursion (IsValidBinding n) bs
     → (v : Plain) → HoldsObjects n v
     → If (answer_for ds bs v) (IsAimed n)
 answer_aims ds n bs all (record_of l (then_more s rest)) h =

@@ -1,5 +1,5 @@
 -- What stays true in each change of which steps are made stays true in each step, and in each run of steps.
-use Rattle.std.proofs.Common.{◌≡◌, ℕ, ◌-◌, List, [], ◌∷◌, Bool, true, false, cond, Option, Some, None, refl, ap}
+use Rattle.std.proofs.Common.{◌≡◌, ℕ, ◌-◌, ◌<◌, ◌≤◌, List, [], ◌∷◌, Bool, true, false, cond, Option, Some, None, refl, ap}
 use Rattle.std.proofs.Common.{is_some}
 use Rattle.gk_sturdy.specs.declared.bound.Binding.{Binding}
 use Rattle.ac_table.specs.declared.batches.Batch.{Batch}
@@ -8,20 +8,21 @@ use Rattle.ac_world.specs.declared.spreads.Spread.{Spread as SpreadOf}
 use Rattle.ac_world.specs.declared.turns.Turned.{Turned}
 use Rattle.ac_world.specs.declared.turns.Turned.TheVariants as turned
 use Rattle.ac_world.specs.Turns.{turn}
-use Rattle.ac_world.specs.Worlds.{binding, without_entry, is_system}
+use Rattle.ac_world.specs.declared.watched.Watched.{Watched}
+use Rattle.ac_world.specs.Worlds.{binding, watching, without_entry, is_system}
 use Rattle.rl_packet.specs.declared.packets.TurnEvent.{TurnEvent}
 use Rattle.rl_ports.specs.Ports.{PortsState}
 use Rattle.hub_machine.specs.declared.faults.Fault.{Fault}
 use Rattle.hub_machine.specs.State.{State, ports_of, is_there}
 use Rattle.hub_machine.specs.Admission.{Admitting, Admitted, refused, admitted, admission}
-use Rattle.hub_machine.specs.Endings.{nameless, closed, failed, finished}
-use Rattle.hub_machine.specs.Machine.{unchanged, is_barred, bind_unless, opened, refusal, arrive_unless, accepted}
-use Rattle.hub_machine.specs.Machine.{judged, packet_at, bad_at}
+use Rattle.hub_machine.specs.Endings.{nameless, closed, failed, dismissed, finished}
+use Rattle.hub_machine.specs.Machine.{unchanged, is_barred, bind_unless, is_unwatchable, watch_unless, opened}
+use Rattle.hub_machine.specs.Machine.{refusal, arrive_unless, accepted, judged, packet_at, bad_at}
 use Rattle.hub_machine.specs.Machine.{close_at, telling_fault, exporting, told_unless, tell, fault_for, tell_fault}
 use Rattle.hub_machine.specs.Machine.{after_turn, turn_of, rest, work_by, is_worn, done, step}
 use Rattle.hub_machine.specs.Replays.{run_from}
 use Rattle.hub_machine.specs.declared.steps.Step.{Step}
-use Rattle.hub_machine.specs.declared.steps.Step.TheVariants.{Bind, Arrive, Packet, Bad, Close, Turn, Work, Stop}
+use Rattle.hub_machine.specs.declared.steps.Step.TheVariants.{Bind, Watch, Arrive, Packet, Bad, Close, Turn, Work, Stop}
 use Rattle.hub_machine.specs.declared.steps.Reply.{Reply}
 use Rattle.hub_machine.specs.declared.steps.Reply.TheVariants.{Worn, Halted, Idle}
 use Rattle.hub_valid.specs.Lemmas.StepEnds.{finished_keeps}
@@ -29,8 +30,11 @@ use Rattle.hub_valid.specs.Lemmas.StepEnds.{finished_keeps}
 -- the changes
 pub record Keeps (P : State → Type 0) : Type 0 where
   pub binds : (b : Binding) (s : State) → is_barred b s ≡ false → P s → P (record s { world = binding b s.world })
+  pub watches : (x : Watched) (s : State) → is_unwatchable x s ≡ false → P s
+      → P (record s { world = watching x s.world })
   pub opens : (space : ℕ) (s : State) → P s → P (opened space s)
   pub fails : (k : ℕ) (f : Fault) (s : State) → is_there k s ≡ true → P s → P (failed k f s)
+  pub dismisses : (a : ℕ) (s : State) → 9 ≤ a → a < 17 → P s → P (dismissed a s)
   pub closes : (k : ℕ) (s : State) → is_there k s ≡ true → P s → P (closed k s)
   pub accepts : (k : ℕ) (x : Admitting) (s : State) → is_there k s ≡ true → P s → P (accepted k x (nameless k s))
   pub exports : (k : ℕ) (b : Batch) (p : PortsState) (s : State) → is_there k s ≡ true → P s
@@ -41,11 +45,15 @@ pub record Keeps (P : State → Type 0) : Type 0 where
 
 module _ (P : State → Type 0) (keeps : Keeps P) where
   ends_keep : (xs : List SpreadOf) (s : State) → P s → P (finished xs s)
-  ends_keep xs s p = finished_keeps P keeps.fails xs s p
+  ends_keep xs s p = finished_keeps P keeps.fails keeps.dismisses xs s p
 
   bind_keeps : (c : Bool) (b : Binding) (s : State) → is_barred b s ≡ c → P s → P (bind_unless c b s).state
   bind_keeps true b s is p = p
   bind_keeps false b s is p = ends_keep [] (record s { world = binding b s.world }) (keeps.binds b s is p)
+
+  watch_keeps : (c : Bool) (x : Watched) (s : State) → is_unwatchable x s ≡ c → P s → P (watch_unless c x s).state
+  watch_keeps true x s is p = p
+  watch_keeps false x s is p = ends_keep [] (record s { world = watching x s.world }) (keeps.watches x s is p)
 
   arrive_keeps : (o : Option Reply) (space : ℕ) (s : State) → P s → P (arrive_unless o space s).state
   arrive_keeps None space s p = ends_keep [] (opened space s) (keeps.opens space s p)
@@ -111,6 +119,7 @@ module _ (P : State → Type 0) (keeps : Keeps P) where
 
   done_keeps : (s : State) (e : Step) → P s → P (done s e).state
   done_keeps s (Bind b) p = bind_keeps (is_barred b s) b s refl p
+  done_keeps s (Watch x) p = watch_keeps (is_unwatchable x s) x s refl p
   done_keeps s (Arrive space) p = arrive_keeps (refusal space s) space s p
   done_keeps s (Packet k es) p = packet_keeps k (ports_of k s) es s refl p
   done_keeps s (Bad k f) p = bad_keeps k (ports_of k s) f s refl p

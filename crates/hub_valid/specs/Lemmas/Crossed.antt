@@ -29,7 +29,7 @@ use Rattle.rl_wire.specs.Crossing.{by_keys, crossed, all_crossed, all_pairs_cros
 use Rattle.rl_wire.specs.Crossing.{all_pairs_held_in, actor_at, wire_value, is_own, reference_out, crossed_out}
 use Rattle.rl_wire.specs.Lemmas.Later.{all_of_front, all_of_rest}
 use Rattle.hub_machine.specs.Machine.{sent_event}
-use Rattle.hub_valid.specs.Validity.{IsObject, IsObjectValue, HoldsObjects, IsValidEvent}
+use Rattle.hub_valid.specs.Validity.{Lived, IsObject, IsObjectValue, HoldsObjects, IsValidEvent}
 use Rattle.hub_valid.specs.Promises.{SentIsSound}
 use Rattle.hub_valid.specs.Lemmas.Values.{all_append, all_ascending}
 
@@ -44,7 +44,7 @@ module _ (Q : Plain → Type 0) where
   abbrev EntryHolds : Plain × Plain → Type 0
   EntryHolds p = Holds p.0 × Holds p.1
 
-  held_listed : (xs : Plains) → AllByRecursion Q (all_held_in xs) → AllByRecursion Holds (listed xs)
+  pub held_listed : (xs : Plains) → AllByRecursion Q (all_held_in xs) → AllByRecursion Holds (listed xs)
   held_listed no_more a = tt
   held_listed (then_more x xs) a =
       (all_of_front Q (held_in x) (all_held_in xs) a, held_listed xs (all_of_rest Q (held_in x) (all_held_in xs) a))
@@ -245,7 +245,8 @@ reference_read x c is =
     ∙ (λ i. cond {A = Option Reference} (lt-ltb c.actor (2 ^ 32) sound.0 i && lt-ltb c.entity (2 ^ 63) sound.1 i)
     (Some (record { actor = c.actor; entity = c.entity })) None)
 
-object_goes_out : (n k : ℕ) (exports : List Plain) (x : Plain) → length exports ≤ most_exports → IsObjectValue n x
+object_goes_out : (n : Lived) (k : ℕ) (exports : List Plain) (x : Plain) → length exports ≤ most_exports
+    → IsObjectValue n x
     → IsWireReference (reference_out exports (actor_at k) x (reference_of x))
 object_goes_out n k exports x few h = by (cap_of x) refl h
   where
@@ -261,14 +262,14 @@ object_goes_out n k exports x few h = by (cap_of x) refl h
         subst (λ o. IsWireReference (reference_out exports (actor_at k) x o)) (sym (reference_read x c is))
         (at c (is_own (actor_at k) x (record { actor = c.actor; entity = c.entity })) h)
 
-sent_value : (n k : ℕ) (exports : List Plain) (v : Plain) → length exports ≤ most_exports → HoldsObjects n v
+sent_value : (n : Lived) (k : ℕ) (exports : List Plain) (v : Plain) → length exports ≤ most_exports → HoldsObjects n v
     → is_wired (crossed_out exports k v) ≡ true
 sent_value n k exports v few h =
     wired_by_held (crossed_out exports k v)
     (held_by_crossed (IsObjectValue n) IsWireReference (λ x. reference_out exports (actor_at k) x (reference_of x))
     (λ x. object_goes_out n k exports x few) v h)
 
-sent_one : (n next k : ℕ) (exports : List Plain) (e : Event) → IsValidEvent n next e → next ≤ 2 ^ 63
+sent_one : (n : Lived) (next k : ℕ) (exports : List Plain) (e : Event) → IsValidEvent n next e → next ≤ 2 ^ 63
     → length exports ≤ most_exports → IsTurnEvent (sent_event exports k e)
 sent_one n next k exports (Assert h entity v) valid low few =
     (valid.1, (sent_value n k exports v few valid.2, omega arith))
@@ -277,7 +278,7 @@ sent_one n next k exports (Message entity v) valid low few = (valid.0, sent_valu
 sent_one n next k exports (Sync entity peer) valid low few =
     (valid.0, object_goes_out n k exports peer few valid.1)
 
-sent_all : (n next k : ℕ) (exports : List Plain) (es : List Event) → AllByRecursion (IsValidEvent n next) es
+sent_all : (n : Lived) (next k : ℕ) (exports : List Plain) (es : List Event) → AllByRecursion (IsValidEvent n next) es
     → next ≤ 2 ^ 63 → length exports ≤ most_exports → AllByRecursion IsTurnEvent (map (sent_event exports k) es)
 sent_all n next k exports [] valid low few = tt
 sent_all n next k exports (e ∷ es) valid low few =

@@ -82,3 +82,10 @@ opened_ended a w = by (is_live a w.table)
     by : (c : Bool) → (cond c (gone a w) w).opened ≡ w.opened
     by true = refl
     by false = refl
+
+pub watches_ended : (a : ℕ) (w : WorldState) → (ended_of a w).watches ≡ w.watches
+watches_ended a w = by (is_live a w.table)
+  where
+    by : (c : Bool) → (cond c (gone a w) w).watches ≡ w.watches
+    by true = refl
+    by false = refl

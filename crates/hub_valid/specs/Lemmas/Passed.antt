@@ -36,7 +36,7 @@ use Rattle.sr_caveat.specs.Lemmas.CaveatsBack.{read_back, nothing_embedded}
 use Rattle.sr_caveat.specs.Lemmas.Capped.{cap_sound}
 use Rattle.rl_wire.specs.Crossing.{held_in, all_held_in, all_pairs_held_in}
 use Rattle.rl_wire.specs.Lemmas.Later.{all_of_front, all_of_rest}
-use Rattle.hub_valid.specs.Validity.{IsObjectValue, HoldsObjects}
+use Rattle.hub_valid.specs.Validity.{Lived, IsObjectValue, HoldsObjects}
 use Rattle.hub_valid.specs.Promises.{PassedIsValid}
 use Rattle.hub_valid.specs.Lemmas.Values.{FoundHold, one_more_holds, both_hold, value_holds}
 use Rattle.hub_valid.specs.Lemmas.Values.{all_append, all_got, cap_is_object, object_found, sequence_holds}
@@ -45,7 +45,7 @@ use Rattle.hub_valid.specs.Lemmas.Values.{all_append, all_got, cap_is_object, ob
 
 module _ (P : Plain → Type 0) where
   mutual
-    quiet_holds : (v : Plain) → has_embedded v ≡ false → AllByRecursion P (held_in v)
+    pub quiet_holds : (v : Plain) → has_embedded v ≡ false → AllByRecursion P (held_in v)
     quiet_holds (embedded x) e = absurd cc
     quiet_holds (record_of l fs) e =
         all_append P (held_in l) (all_held_in fs) (quiet_holds l (or_false (has_embedded l) (any_embedded fs) e).0)
@@ -77,7 +77,7 @@ module _ (P : Plain → Type 0) where
 
 -- ---- what is bound of a value that holds objects
 
-module _ (n : ℕ) where
+module _ (n : Lived) where
   abbrev AllHold : Plains → Type 0
   AllHold xs = AllByRecursion (IsObjectValue n) (all_held_in xs)
 
@@ -177,7 +177,7 @@ CaveatIsRead (guard name) = Unit {0}
 
 -- ---- what templates make of values that hold objects
 
-module _ (n : ℕ) where
+module _ (n : Lived) where
   attenuated_is_object : (cs : List Caveat) (x : Plain) (c : Cap) → AllByRecursion IsReadBack cs
       → IsObjectValue n x → cap_of x ≡ Some c → IsObjectValue n (cap_value (attenuated cs c))
   attenuated_is_object cs x c read h is =
@@ -440,7 +440,7 @@ is_read c back =
 
 -- ---- what passes
 
-module _ (n : ℕ) (ds : List Definition) where
+module _ (n : Lived) (ds : List Definition) where
   of_bound : (t : Template) (o : Option (List Plain)) → IsRead t → FoundHold n o
       → If (option_and_then (filled t) o) (HoldsObjects n)
   of_bound t None read h = tt
@@ -479,7 +479,7 @@ module _ (n : ℕ) (ds : List Definition) where
       of_passed c (passed ds cs v) (is_read c back.0) (passed_holds cs v back.1 h)
 
 -- through the reference that a value is
-pub through_holds : (ds : List Definition) (n : ℕ) (x v : Plain) (c : Cap) → cap_of x ≡ Some c → HoldsObjects n v
+pub through_holds : (ds : List Definition) (n : Lived) (x v : Plain) (c : Cap) → cap_of x ≡ Some c → HoldsObjects n v
     → If (passed ds c.caveats v) (HoldsObjects n)
 through_holds ds n x v c is h = passed_holds n ds c.caveats v (cap_sound x c is).2 h
 

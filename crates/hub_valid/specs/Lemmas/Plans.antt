@@ -104,7 +104,7 @@ goes_on_applied y a from (Add h v) t =
     by (nat_lt most_wanted_weight (y.weight (values_of (changed t.resident.got (Add h v)))))
   where
     by : (b : Bool) → TurnsOn t (cond b
-        (spreading (by_assertion t.plan.table from (y.weight (values_of (changed t.resident.got (Add h v))))) t)
+        (spreading (by_assertion t.plan.table a from (y.weight (values_of (changed t.resident.got (Add h v))))) t)
         (regot y a (changed t.resident.got (Add h v)) t))
     by true = goes_nowhere t.plan.table
     by false = goes_on_regot y a (changed t.resident.got (Add h v)) t

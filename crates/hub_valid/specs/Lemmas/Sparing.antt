@@ -92,6 +92,10 @@ pub spares_finished : (xs : List SpreadOf) (s : State) → AreLive s.world.table
     → Spares s.world.table (finished xs s).world.table
 spares_finished xs s are_live =
     finished_keeps (λ t. Spares s.world.table t.world.table)
-    (λ k f t there spares. spares_then s.world.table t.world.table _ spares
-    (spares_ended (actor_of k) t.world (still_live s.world.table t.world.table spares)))
-    xs s (spares_all s.world.table are_live)
+    (λ k f t there spares. ends (actor_of k) t spares) (λ a t high low spares. ends a t spares) xs s
+    (spares_all s.world.table are_live)
+  where
+    ends : (a : ℕ) (t : State) → Spares s.world.table t.world.table → Spares s.world.table (ended_of a t.world).table
+    ends a t spares =
+        spares_then s.world.table t.world.table (ended_of a t.world).table spares
+        (spares_ended a t.world (still_live s.world.table t.world.table spares))

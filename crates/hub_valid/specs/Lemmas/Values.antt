@@ -1,5 +1,6 @@
 -- Lists of which each element passes, and values that hold objects.
-use Rattle.std.proofs.Common.{◌≡◌, ℕ, zero, suc, ◌≤◌, List, [], ◌∷◌, ◌++◌, Option, Some, None, sym, subst, arith}
+use Rattle.std.proofs.Common.{◌≡◌, ℕ, zero, suc, ◌+◌, ◌<◌, ◌≤◌, List, [], ◌∷◌, ◌++◌, Option, Some, None}
+use Rattle.std.proofs.Common.{sym, subst, arith}
 use Rattle.std.specs.Prelude.{IsSomeAnd, option_map, slice_get, flat_map}
 use Rattle.std.specs.declared.cmp.Ordering.{Ordering}
 use Rattle.std.specs.declared.cmp.Ordering.TheVariants.{Less, Equal, Greater}
@@ -17,7 +18,7 @@ use Rattle.pv_words.specs.Lemmas.Found.{If, if_cond}
 use Rattle.ac_world.specs.Aims.{observer_in}
 use Rattle.rl_wire.specs.Crossing.{held_in, all_held_in, all_pairs_held_in}
 use Rattle.rl_wire.specs.Lemmas.Later.{all_of_front, all_of_rest}
-use Rattle.hub_valid.specs.Validity.{IsObjectAt, IsObject, IsObjectValue, HoldsObjects}
+use Rattle.hub_valid.specs.Validity.{Lived, IsObjectAt, IsObject, IsObjectValue, HoldsObjects}
 
 -- ---- lists
 
@@ -63,33 +64,44 @@ all_got P (x ∷ xs) (suc i) a = all_got P xs i a.1
 
 -- ---- references to objects
 
-pub cap_is_object : (n : ℕ) (c : Cap) → IsSound c → IsObject n c → IsObjectValue n (cap_value c)
+pub cap_is_object : (n : Lived) (c : Cap) → IsSound c → IsObject n c → IsObjectValue n (cap_value c)
 cap_is_object n c sound object = subst (λ o. IsSomeAnd o (IsObject n)) (sym (caps_are_their_values.0 c sound)) object
 
-pub object_found : (n : ℕ) (x : Plain) (c : Cap) → IsObjectValue n x → cap_of x ≡ Some c → IsObject n c
+pub object_found : (n : Lived) (x : Plain) (c : Cap) → IsObjectValue n x → cap_of x ≡ Some c → IsObject n c
 object_found n x c h is = subst (λ o. IsSomeAnd o (IsObject n)) is h
 
 -- ---- an object stays one as actors come
 
-pub later_at : (m n actor entity : ℕ) → m ≤ n → IsObjectAt m actor entity → IsObjectAt n actor entity
-later_at m n actor entity l h = (omega arith, h.1, h.2)
+-- no fewer connections have come by n than by m, and no fewer watchers were made
+abbrev pub IsWithin : Lived → Lived → Type 0
+IsWithin m n = (m.opened ≤ n.opened) × (m.watchers ≤ n.watchers)
 
-later_object : (m n : ℕ) (c : Cap) → m ≤ n → IsObject m c → IsObject n c
+pub within_same : (n : Lived) → IsWithin n n
+within_same n = (omega arith, omega arith)
+
+pub later_at : (m n : Lived) (actor entity : ℕ) → IsWithin m n → IsObjectAt m actor entity → IsObjectAt n actor entity
+later_at m n actor entity l h = (
+  omega (arith, l.0, h.0),
+  h.1,
+  λ near. (let low : actor < 9 + m.watchers = (h.2 near).0 in omega (arith, l.1, low), (h.2 near).1),
+)
+
+later_object : (m n : Lived) (c : Cap) → IsWithin m n → IsObject m c → IsObject n c
 later_object m n c l h = later_at m n c.actor c.entity l h
 
-pub later_inside : (m n : ℕ) (x : Plain) → m ≤ n → IsObjectValue m x → IsObjectValue n x
+pub later_inside : (m n : Lived) (x : Plain) → IsWithin m n → IsObjectValue m x → IsObjectValue n x
 later_inside m n x l h = by (cap_of x) h
   where
     by : (o : Option Cap) → IsSomeAnd o (IsObject m) → IsSomeAnd o (IsObject n)
     by None h = absurd h
     by (Some c) h = later_object m n c l h
 
-pub later_value : (m n : ℕ) (v : Plain) → m ≤ n → HoldsObjects m v → HoldsObjects n v
+pub later_value : (m n : Lived) (v : Plain) → IsWithin m n → HoldsObjects m v → HoldsObjects n v
 later_value m n v l h = all_weaker (IsObjectValue m) (IsObjectValue n) (λ x. later_inside m n x l) (held_in v) h
 
 -- ---- what observations name
 
-pub observer_is_object : (n : ℕ) (o : Plain) → HoldsObjects n o → If (observer_in o) (IsObjectValue n)
+pub observer_is_object : (n : Lived) (o : Plain) → HoldsObjects n o → If (observer_in o) (IsObjectValue n)
 observer_is_object n (record_of l (then_more p (then_more (embedded x) no_more))) h =
     let fields = all_of_rest (IsObjectValue n) (held_in l) (held_in p ++ x ∷ []) h in
     (all_of_rest (IsObjectValue n) (held_in p) (x ∷ []) fields).0
@@ -97,7 +109,7 @@ observer_is_object n o h = tt
 
 -- ---- sequences
 
-pub sequence_holds : (n : ℕ) (cs : List Plain) → AllByRecursion (HoldsObjects n) cs
+pub sequence_holds : (n : Lived) (cs : List Plain) → AllByRecursion (HoldsObjects n) cs
     → HoldsObjects n (sequence (plains cs))
 sequence_holds n [] a = tt
 sequence_holds n (c ∷ cs) a =
@@ -106,20 +118,20 @@ sequence_holds n (c ∷ cs) a =
 -- ---- what is found in values that hold objects
 
 -- each value of the list does, where there is one
-abbrev pub FoundHold : ℕ → Option (List Plain) → Type 0
+abbrev pub FoundHold : Lived → Option (List Plain) → Type 0
 FoundHold n o = If o (AllByRecursion (HoldsObjects n))
 
-pub one_more_holds : (n : ℕ) (v : Plain) (o : Option (List Plain)) → HoldsObjects n v → FoundHold n o
+pub one_more_holds : (n : Lived) (v : Plain) (o : Option (List Plain)) → HoldsObjects n v → FoundHold n o
     → FoundHold n (option_map (λ xs. v ∷ xs) o)
 one_more_holds n v None h a = tt
 one_more_holds n v (Some xs) h a = (h, a)
 
-pub both_hold : (n : ℕ) (o q : Option (List Plain)) → FoundHold n o → FoundHold n q → FoundHold n (both o q)
+pub both_hold : (n : Lived) (o q : Option (List Plain)) → FoundHold n o → FoundHold n q → FoundHold n (both o q)
 both_hold n None q a b = tt
 both_hold n (Some xs) None a b = tt
 both_hold n (Some xs) (Some ys) a b = all_append (HoldsObjects n) xs ys a b
 
-pub value_holds : (n : ℕ) (ps : PlainPairs) (key : Plain) → AllByRecursion (IsObjectValue n) (all_pairs_held_in ps)
+pub value_holds : (n : Lived) (ps : PlainPairs) (key : Plain) → AllByRecursion (IsObjectValue n) (all_pairs_held_in ps)
     → If (value_under ps key) (HoldsObjects n)
 value_holds n no_pairs key h = tt
 value_holds n (then_pair k v ps) key h =

@@ -12,58 +12,59 @@ use Rattle.ac_table.specs.Tables.{TableState, Actor, find_actor, find_row, place
 use Rattle.ac_table.specs.Tables.{popped, first_batch, first_in}
 use Rattle.ac_world.specs.Worlds.{Resident, Deliveries}
 use Rattle.hub_valid.specs.Lemmas.Filtered.{all_kept}
-use Rattle.hub_valid.specs.Validity.{HoldsObjects, IsValidRow, IsValidEvent, IsValidBatch, IsValidActor}
+use Rattle.hub_valid.specs.Validity.{Lived, HoldsObjects, IsValidRow, IsValidEvent, IsValidBatch, IsValidActor}
 use Rattle.hub_valid.specs.Validity.{IsValidResident}
 use Rattle.hub_valid.specs.Validity.{IsValidDelivery, AreValidDeliveries, IsValidBinding}
-use Rattle.hub_valid.specs.Lemmas.Values.{all_weaker, all_append, later_at, later_value, later_inside}
+use Rattle.hub_valid.specs.Lemmas.Values.{all_weaker, all_append, IsWithin, later_at, later_value, later_inside}
 
 -- ---- what is valid stays so with more actors and later handles
 
-pub later_row : (m n next after : ℕ) (r : Row) → m ≤ n → next ≤ after → IsValidRow m next r → IsValidRow n after r
+pub later_row : (m n : Lived) (next after : ℕ) (r : Row) → IsWithin m n → next ≤ after → IsValidRow m next r
+    → IsValidRow n after r
 later_row m n next after r l s v =
     (omega (arith, v.0), later_at m n r.target r.entity l v.1, later_value m n r.value l v.2)
 
-pub later_event : (m n next after : ℕ) (e : Event) → m ≤ n → next ≤ after → IsValidEvent m next e
+pub later_event : (m n : Lived) (next after : ℕ) (e : Event) → IsWithin m n → next ≤ after → IsValidEvent m next e
     → IsValidEvent n after e
 later_event m n next after (Assert h entity x) l s v = (omega (arith, v.0), v.1, later_value m n x l v.2)
 later_event m n next after (Retract h entity) l s v = (omega (arith, v.0), v.1)
 later_event m n next after (Message entity x) l s v = (v.0, later_value m n x l v.1)
 later_event m n next after (Sync entity peer) l s v = (v.0, later_inside m n peer l v.1)
 
-pub later_batch : (m n next after : ℕ) (b : Batch) → m ≤ n → next ≤ after → IsValidBatch m next b
+pub later_batch : (m n : Lived) (next after : ℕ) (b : Batch) → IsWithin m n → next ≤ after → IsValidBatch m next b
     → IsValidBatch n after b
 later_batch m n next after b l s v =
     all_weaker (IsValidEvent m next) (IsValidEvent n after) (λ e. later_event m n next after e l s) b.events v
 
-pub later_actor : (m n next after : ℕ) (x : Actor) → m ≤ n → next ≤ after → IsValidActor m next x
+pub later_actor : (m n : Lived) (next after : ℕ) (x : Actor) → IsWithin m n → next ≤ after → IsValidActor m next x
     → IsValidActor n after x
 later_actor m n next after x l s v =
     all_weaker (IsValidBatch m next) (IsValidBatch n after) (λ b. later_batch m n next after b l s) x.inbox v
 
-pub later_resident : (m n : ℕ) (e : ℕ × Resident) → m ≤ n → IsValidResident m e → IsValidResident n e
+pub later_resident : (m n : Lived) (e : ℕ × Resident) → IsWithin m n → IsValidResident m e → IsValidResident n e
 later_resident m n e l v =
     all_weaker (HoldsObjects m) (HoldsObjects n) (λ x. later_value m n x l) (values_of e.1.got) v
 
-pub later_deliveries : (m n : ℕ) (e : ℕ × Deliveries) → m ≤ n → AreValidDeliveries m e → AreValidDeliveries n e
+pub later_deliveries : (m n : Lived) (e : ℕ × Deliveries) → IsWithin m n → AreValidDeliveries m e → AreValidDeliveries n e
 later_deliveries m n e l v =
     all_weaker (IsValidDelivery m) (IsValidDelivery n) (λ d valid. (valid.0, later_value m n d.1.value l valid.1)) e.1 v
 
-pub later_binding : (m n : ℕ) (b : Binding) → m ≤ n → IsValidBinding m b → IsValidBinding n b
+pub later_binding : (m n : Lived) (b : Binding) → IsWithin m n → IsValidBinding m b → IsValidBinding n b
 later_binding m n b l v = (v.0, later_at m n b.cap.actor b.cap.entity l v.1)
 
 -- ---- tables
 
 -- the rows and the inboxes of a world are those of its table
-pub record IsValidTable (n : ℕ) (t : TableState) : Type 0 where
+pub record IsValidTable (n : Lived) (t : TableState) : Type 0 where
   pub rows : AllByRecursion (IsValidRow n t.next) t.rows
   pub inboxes : AllByRecursion (IsValidActor n t.next) t.actors
 
-pub rows_later : (m n next after : ℕ) (rows : List Row) → m ≤ n → next ≤ after
+pub rows_later : (m n : Lived) (next after : ℕ) (rows : List Row) → IsWithin m n → next ≤ after
     → AllByRecursion (IsValidRow m next) rows → AllByRecursion (IsValidRow n after) rows
 rows_later m n next after rows l s v =
     all_weaker (IsValidRow m next) (IsValidRow n after) (λ r. later_row m n next after r l s) rows v
 
-pub inboxes_later : (m n next after : ℕ) (xs : List Actor) → m ≤ n → next ≤ after
+pub inboxes_later : (m n : Lived) (next after : ℕ) (xs : List Actor) → IsWithin m n → next ≤ after
     → AllByRecursion (IsValidActor m next) xs → AllByRecursion (IsValidActor n after) xs
 inboxes_later m n next after xs l s v =
     all_weaker (IsValidActor m next) (IsValidActor n after) (λ x. later_actor m n next after x l s) xs v
@@ -98,13 +99,13 @@ placed_pass P new (x ∷ xs) p all = split (nat_lt new.number x.number) (placed_
     split true rest = (p, all)
     split false rest = (all.0, rest)
 
-pub joined_valid : (n a : ℕ) (t : TableState) → IsValidTable n t → IsValidTable n (joined a t)
+pub joined_valid : (n : Lived) (a : ℕ) (t : TableState) → IsValidTable n t → IsValidTable n (joined a t)
 joined_valid n a t v = record {
   rows = v.rows;
   inboxes = placed_pass (IsValidActor n t.next) (record { number = a; inbox = [] }) t.actors tt v.inboxes;
 }
 
-pub ended_valid : (n a : ℕ) (t : TableState) → IsValidTable n t → IsValidTable n (ended a t)
+pub ended_valid : (n : Lived) (a : ℕ) (t : TableState) → IsValidTable n t → IsValidTable n (ended a t)
 ended_valid n a t v = record {
   rows = all_kept (IsValidRow n t.next) (λ r. not (r.owner == a)) t.rows v.rows;
   inboxes = all_kept (IsValidActor n t.next) (λ x. not (x.number == a)) t.actors v.inboxes;
@@ -126,7 +127,7 @@ inboxes_pass P a change keep (x ∷ xs) all = split (x.number == a) (inboxes_pas
     split true rest = (keep x.inbox all.0, all.1)
     split false rest = (all.0, rest)
 
-pub pushed_valid : (n a : ℕ) (b : Batch) (t : TableState) → IsValidTable n t → IsValidBatch n t.next b
+pub pushed_valid : (n : Lived) (a : ℕ) (b : Batch) (t : TableState) → IsValidTable n t → IsValidBatch n t.next b
     → IsValidTable n (pushed a b t)
 pushed_valid n a b t v fits = record {
   rows = v.rows;
@@ -138,14 +139,14 @@ all_dropped : {X : Type 0} (P : X → Type 0) (xs : List X) → AllByRecursion P
 all_dropped P [] all = tt
 all_dropped P (x ∷ xs) all = all.1
 
-pub popped_valid : (n a : ℕ) (t : TableState) → IsValidTable n t → IsValidTable n (popped a t)
+pub popped_valid : (n : Lived) (a : ℕ) (t : TableState) → IsValidTable n t → IsValidTable n (popped a t)
 popped_valid n a t v = record {
   rows = v.rows;
   inboxes = inboxes_pass (IsValidBatch n t.next) a (drop 1) (all_dropped (IsValidBatch n t.next)) t.actors v.inboxes;
 }
 
 -- the batch that an actor takes next is valid
-pub first_valid : (n a : ℕ) (t : TableState) (b : Batch) → IsValidTable n t → first_batch a t ≡ Some b
+pub first_valid : (n : Lived) (a : ℕ) (t : TableState) (b : Batch) → IsValidTable n t → first_batch a t ≡ Some b
     → IsValidBatch n t.next b
 first_valid n a t b v is = by_actor (find_actor a t.actors) refl is
   where

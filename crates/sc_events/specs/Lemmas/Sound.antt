@@ -13,8 +13,8 @@ use Rattle.sr_caveat.specs.Lemmas.CaveatsBack.{read_back}
 use Rattle.gk_sturdy.specs.declared.bound.Binding.{Binding}
 use Rattle.sc_events.specs.Events.{ScriptEvent, Bind, Open, Bytes, Close, Turn, Drain, LongDrain, name_in, arrival_in}
 use Rattle.sc_events.specs.Events.{space_in, drain_event, schema_event, event_of_one, event_of_two}
-use Rattle.sc_events.specs.Events.{reference_to, bound_to, binding_event, is_watch, unbuilt_where}
-use Rattle.sc_events.specs.Events.{event_of_four, event_of_record, event_of, Unbuilt, IsSoundEvent}
+use Rattle.sc_events.specs.Events.{reference_to, bound_to, binding_event, watch_between, watch_event}
+use Rattle.sc_events.specs.Events.{event_of_four, event_of_record, event_of, IsSoundEvent}
 
 all_read_back : (cs : Plains) → AllByRecursion IsReadBack (caveats_from cs)
 all_read_back no_more = tt
@@ -91,14 +91,20 @@ binding_fine oid (byte_string key) space (sequence cs) =
     either (has_embedded oid || any_embedded cs) None _ tt (bound_fine oid key cs (space_in space) (space_below space))
 binding_fine oid key space caveats = tt
 
-unbuilt_fine : (b : Bool) → Fine (unbuilt_where b)
-unbuilt_fine true = tt
-unbuilt_fine false = tt
+between_fine : (pattern : Plain) (name : List ℕ) (from to : Option ℕ) → Fine (watch_between pattern name from to)
+between_fine pattern name (Some from) (Some to) = tt
+between_fine pattern name (Some from) None = tt
+between_fine pattern name None to = tt
+
+watch_fine : (from pattern to name : Plain) → Fine (watch_event from pattern to name)
+watch_fine from pattern to (symbol name) =
+    either (has_embedded pattern) None _ tt (between_fine pattern name (space_in from) (space_in to))
+watch_fine from pattern to name = tt
 
 four_fine : (word : List ℕ) (f g h i : Plain) → Fine (event_of_four word f g h i)
 four_fine word f g h i =
     either (is_word word (codes "bind")) _ _ (binding_fine f g h i)
-    (either (is_word word (codes "watch")) _ None (unbuilt_fine (is_watch f g h i)) tt)
+    (either (is_word word (codes "watch")) _ None (watch_fine f g h i) tt)
 
 -- ---- any event
 

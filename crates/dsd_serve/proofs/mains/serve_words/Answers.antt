@@ -1,21 +1,12 @@
 -- Which status comes, and what is said of its cause.
-use Rattle.std.proofs.Common.{Contains, lit<, sym, ◌∙◌, subst, rules}
+use Rattle.std.proofs.Common.{Contains, lit<, sym, subst, rules}
 use Rattle.dsd_top.specs.Commands.{texts}
 use Rattle.dsd_top.specs.declared.faults.Fault.TheVariants as fault
 use Rattle.dsd_serve.specs.Causes.{serve_statuses}
 use Rattle.dsd_serve.specs.Serving.{AskToServe, IsServing}
 use Rattle.dsd_serve.specs.declared.unserved.Unserved.TheVariants.{Of}
-use Rattle.dsd_serve.proofs.Causing.{why_known, unbuilt, stands}
+use Rattle.dsd_serve.proofs.Causing.{why_known, stands}
 use Rattle.dsd_serve.proofs.mains.serve_words.Goals as goal
-
-pub returns-in-Err-clause-not_built : goal.returns-in-Err-clause-not_built
-returns-in-Err-clause-not_built g c = λ e begins.
-    let is : IsServing (texts c.args.words.now) c.in-Some.serving = search rules in (
-      c.in-Some.serving,
-      is,
-      unbuilt c.in-Some.serving (g.H.Listen.files c.args.host.now) c.in-Err.why c.in-Err.ensures.cause
-          (sym c.tell_why.ensures.status ∙ e),
-    )
 
 pub returns-in_default-clause-known : goal.returns-in_default-clause-known
 returns-in_default-clause-known g c = (1, lit< tt, sym c.refuse.ensures.status)

@@ -47,7 +47,6 @@ returns c =
       bad_input = told.bad_input;
       limit = told.limit;
       bad_config = told.bad_config;
-      not_built = told.not_built;
       cut = λ e. if_some (λ (k : Command). IsCut files k input (Some old) (Some new))
           (λ k. IsFrontOfAnswer files k input new)
           (command_of words) (λ k. cut_held old new empty files k input) (told.cut e);

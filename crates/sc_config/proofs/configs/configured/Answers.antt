@@ -12,7 +12,7 @@ pub returns-in-Ok-None-clause-hub : goal.returns-in-Ok-None-clause-hub
 returns-in-Ok-None-clause-hub g c =
     let next = rw c.in-Ok-None.field-0-is at c.in-Ok-None.ensures.next in
     none_there c.args.text.now _ c.in_ok-begin-in-Ok-None.field-0
-    (c.new.ensures ∙ c.in_ok-no_schema-in-Ok-None.ensures) c.in_ok-begin-in-Ok-None.ensures
+    (c.new-guards.ensures ∙ c.in_ok-no_schema-in-Ok-None.ensures) c.in_ok-begin-in-Ok-None.ensures
     (next Text c.args.text.now [] c.of-values.ensures)
 
 pub returns-in-Err-Bad-clause-stop : goal.returns-in-Err-Bad-clause-stop
@@ -42,7 +42,7 @@ returns-in_err-hub-clause-stop g c =
     c.in-Ok-Some.value read
     (c.one_reading.ensures.on Text text (c.in-Ok-Some.value ∷ []) c.next.new.self are read)
     c.in_ok-schema_of.field-0 s c.in_ok-schema_of.ensures.schema
-    (begun _ s (c.in_ok-begin.ensures ∙ ap opening c.new-guards.ensures)) _
+    (begun _ s (c.in_ok-begin.ensures ∙ ap opening c.new-guards-2.ensures)) _
     c.in_err-hub.ensures.stop)
 
 pub loop-value-init : goal.loop-value-init
@@ -52,7 +52,7 @@ loop-value-init g c =
     let s = c.in_ok-begin.field-0 in
     first_done text c.next.new.self c.in-Ok-Some.value (next Text text [] c.of-values.ensures)
     c.in_ok-schema_of.field-0 s _ c.in_ok-schema_of.ensures.schema
-    (begun _ s (c.in_ok-begin.ensures ∙ ap opening c.new-guards.ensures)) c.in_ok-hub.ensures.set
+    (begun _ s (c.in_ok-begin.ensures ∙ ap opening c.new-guards-2.ensures)) c.in_ok-hub.ensures.set
 
 pub returns-in_err-hub-in-Ok-Some-next-clause-stop : goal.returns-in_err-hub-in-Ok-Some-next-clause-stop
 returns-in_err-hub-in-Ok-Some-next-clause-stop g c =

@@ -1,6 +1,7 @@
--- A binding's course is that of its event.
+-- The course of a binding or of a watcher is that of its event.
 use Rattle.std.proofs.Common.{sym, ap}
-use Rattle.sc_config.specs.Courses.{binds, after_event}
+use Rattle.hub_machine.specs.declared.steps.Step.TheVariants.{Watch}
+use Rattle.sc_config.specs.Courses.{set_up, binds, after_event}
 use Rattle.sc_config.proofs.Parts.{sets_so, stops_so}
 use Rattle.sc_config.proofs.events.with_event.Goals as goal
 
@@ -16,3 +17,13 @@ pub returns-in-Bind-clause-stop : goal.returns-in-Bind-clause-stop
 returns-in-Bind-clause-stop g c =
     stops_so c.args.hub (binds c.args.place c.in-Bind.binding) (after_event c.args.place c.args.event)
     (λ d. ap (λ e. after_event c.args.place e d) (sym c.in-Bind.is)) c.with_binding.result c.with_binding.ensures.stop
+
+pub returns-in-Watch-clause-set : goal.returns-in-Watch-clause-set
+returns-in-Watch-clause-set g c =
+    sets_so c.args.hub (set_up c.args.place (Watch c.in-Watch.watched)) (after_event c.args.place c.args.event)
+    (λ d. ap (λ e. after_event c.args.place e d) (sym c.in-Watch.is)) c.set_up.result c.set_up.ensures.set
+
+pub returns-in-Watch-clause-stop : goal.returns-in-Watch-clause-stop
+returns-in-Watch-clause-stop g c =
+    stops_so c.args.hub (set_up c.args.place (Watch c.in-Watch.watched)) (after_event c.args.place c.args.event)
+    (λ d. ap (λ e. after_event c.args.place e d) (sym c.in-Watch.is)) c.set_up.result c.set_up.ensures.stop

@@ -16,7 +16,7 @@ returns-in-Ok-None-clause-run g c =
     none_there c.args.form c.args.bytes.now s (omega (arith, c.if-bytes-gt-INPUT_BYTES.false))
     (next c.args.form c.args.bytes.now [] c.of-values.ensures)
     (subst (λ (ds : List Definition). IsAt (beginning ds) s)
-    (c.new.ensures ∙ c.in_ok-no_schema-in-Ok-None.ensures) c.in_ok-begin-in-Ok-None.ensures)
+    (c.new-guards.ensures ∙ c.in_ok-no_schema-in-Ok-None.ensures) c.in_ok-begin-in-Ok-None.ensures)
 
 pub returns-in-Err-Bad-clause-stop : goal.returns-in-Err-Bad-clause-stop
 returns-in-Err-Bad-clause-stop g c =
@@ -45,7 +45,7 @@ returns-in_err-run-clause-stop g c =
     c.in-Ok-Some.value read (omega (arith, c.if-bytes-gt-INPUT_BYTES.false))
     (c.one_reading.ensures.on c.args.form bytes (c.in-Ok-Some.value ∷ []) c.next.new.self are read)
     c.in_ok-schema_of.field-0 s c.in_ok-schema_of.ensures.schema
-    (subst (λ (ds : List Definition). IsAt (beginning ds) s) c.new-guards.ensures c.in_ok-begin.ensures) _
+    (subst (λ (ds : List Definition). IsAt (beginning ds) s) c.new-guards-2.ensures c.in_ok-begin.ensures) _
     c.in_err-run.ensures.stop)
 
 pub loop-value-init : goal.loop-value-init
@@ -57,7 +57,7 @@ loop-value-init g c =
       done = first_done c.args.form bytes c.next.new.self c.in-Ok-Some.value
           (next c.args.form bytes [] c.of-values.ensures) c.in_ok-schema_of.field-0
           c.in_ok-schema_of.ensures.schema s
-          (subst (λ (ds : List Definition). IsAt (beginning ds) s) c.new-guards.ensures c.in_ok-begin.ensures) _
+          (subst (λ (ds : List Definition). IsAt (beginning ds) s) c.new-guards-2.ensures c.in_ok-begin.ensures) _
           c.in_ok-run.ensures.run;
     }
 

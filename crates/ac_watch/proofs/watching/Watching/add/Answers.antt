@@ -1,94 +1,77 @@
-use Rattle.std.proofs.Common.{◌≡◌, ◌≤◌, ◌+◌, map, None, true, false, sym, ap, ◌∙◌}
+use Rattle.std.proofs.Common.{◌≡◌, ◌≤◌, map, None, refl, sym, ap, ◌∙◌}
 use Rattle.std.proofs.lemmas.Bool.{ltb-true, ltb-false}
-use Rattle.std.specs.BTreeMap.{insert_entry, is_at}
-use Rattle.std.specs.Map.{values_of, lookup}
+use Rattle.std.specs.BTreeMap.{is_at}
+use Rattle.std.specs.Map.{lookup, values_of}
 use Rattle.std.specs.Ordering.{nat_cmp}
-use Rattle.ds_space.specs.Changes.{among}
 use Rattle.ds_space.specs.Limits.{most_wanted_weight}
-use Rattle.ds_space.specs.Spaces.{Rows}
+use Rattle.ds_space.specs.Spaces.{changed}
 use Rattle.ds_space.specs.declared.space.Change.TheVariants.{Came}
-use Rattle.ac_watch.specs.Watching.{Watch, made, keys_from, sequences, weight_of_all, weight_of_made}
-use Rattle.ac_watch.proofs.Rows.{longer_by_row}
-use Rattle.ac_watch.proofs.Wanting.{new_comes, standing_comes}
-use Rattle.ac_watch.proofs.Weights.{standing_weight, new_weight, fitting, whole, summed}
+use Rattle.ds_space.specs.declared.space.SpaceEvent.TheVariants.{Add}
+use Rattle.ac_watch.specs.Watching.{Watch, keys_from, weight_of_all, watcher_weight}
+use Rattle.ac_watch.proofs.Events.{follows, within, weighs, one_more_weighs, sum_weighs, whole_weighs}
+use Rattle.ac_watch.proofs.Events.{one_more_wants, first_wants}
+use Rattle.ac_watch.proofs.Weights.{summed}
 use Rattle.ac_watch.proofs.watching.Watching.add.Goals as goal
 
 pub invariant_of-result : goal.invariant_of-result
 invariant_of-result g c =
-    let h = c.args.handle in
-    let v = c.args.value in
-    let name = c.self.inside.name in
-    let old : Rows = c.self.inside.rows.entries in
-    let new : Rows = insert_entry nat_cmp old h v in
-    let none : lookup (is_at (nat_cmp h)) old ≡ None =
-    ap (λ (w : Watch). lookup (is_at (nat_cmp h)) w.got) c.self.view_is ∙ c.requires in
-    let stands : among v (values_of old) ≡ true = sym c.stands.ensures ∙ c.if-stands.true in (
-      c.self.invariant.0
-          ∙ sym (standing_weight name v (values_of old) (values_of new) (longer_by_row h v old none) stands)
-          ∙ ap (λ (rows : Rows). weight_of_made name (sequences (values_of rows))) (sym c.in_ok-put_row.ensures),
-      c.self.invariant.1,
-    )
+    let none : lookup (is_at (nat_cmp c.args.handle)) c.self.inside.rows.entries ≡ None =
+    ap (λ (w : Watch). lookup (is_at (nat_cmp c.args.handle)) w.got) c.self.view_is ∙ c.requires in
+    let stays =
+    one_more_weighs c.self.inside.name c.args.handle c.args.value c.self.inside.rows.entries _ none
+    c.in_ok-put_row.ensures (sym c.stands.ensures ∙ c.if-stands.true) in
+    (c.self.invariant.0 ∙ sym stays, c.self.invariant.1)
 
 pub returns-then-stands : goal.returns-then-stands
 returns-then-stands g c =
     let h = c.args.handle in
     let v = c.args.value in
-    let name = c.args.self.name in
-    let old : Rows = c.args.self.got in
-    let new : Rows = insert_entry nat_cmp old h v in
-    let stands : among v (values_of old) ≡ true =
-    ap (λ (w : Watch). among v (values_of w.got)) (sym c.self.view_is) ∙ sym c.stands.ensures ∙ c.if-stands.true in
-    let longer = longer_by_row h v old c.requires in
-    let weighs : c.self.inside.weight ≡ weight_of_made name (sequences (values_of new)) =
-    c.self.invariant.0 ∙ ap (λ (w : Watch). weight_of_made w.name (sequences (values_of w.got))) c.self.view_is
-    ∙ sym (standing_weight name v (values_of old) (values_of new) longer stands) in (
-      c.in_ok-put_row.ensures ∙ ap (λ (w : Watch). insert_entry nat_cmp w.got h v) c.self.view_is,
-      ap (λ (w : Watch). w.name) c.self.view_is,
-      c.new.ensures.items ∙ sym (standing_comes name v (values_of old) (values_of new) longer stands),
-      fitting c.self.inside.weight (weight_of_made name (sequences (values_of new))) weighs c.self.invariant.1,
+    let w : Watch = record { name = c.self.inside.name; got = c.self.inside.rows.entries } in
+    let none : lookup (is_at (nat_cmp h)) w.got ≡ None =
+    ap (λ (o : Watch). lookup (is_at (nat_cmp h)) o.got) c.self.view_is ∙ c.requires in
+    let more = c.in_ok-put_row.ensures in
+    let stands = sym c.stands.ensures ∙ c.if-stands.true in
+    let all =
+    follows (Add h v) w c.args.self _ _ c.self.view_is more
+    (c.new.ensures.items ∙ sym (one_more_wants w.name h v w.got _ none more stands)) in (
+      all.0,
+      all.1,
+      all.2,
+      within h v w c.args.self _ c.self.inside.weight c.self.view_is more
+          (c.self.invariant.0 ∙ sym (one_more_weighs w.name h v w.got _ none more stands)) c.self.invariant.1,
     )
 
 pub returns-then-is_over : goal.returns-then-is_over
 returns-then-is_over g c =
     let h = c.args.handle in
     let v = c.args.value in
-    let name = c.args.self.name in
-    let old : Rows = c.args.self.got in
-    let new : Rows = insert_entry nat_cmp old h v in
-    let is_new : among v (values_of old) ≡ false =
-    ap (λ (w : Watch). among v (values_of w.got)) (sym c.self.view_is) ∙ sym c.stands.ensures ∙ c.if-stands.false in
-    let weighs : c.self.inside.weight ≡ weight_of_made name (sequences (values_of old)) =
-    c.self.invariant.0 ∙ ap (λ (w : Watch). weight_of_made w.name (sequences (values_of w.got))) c.self.view_is in
-    let part : weight_of_all c.in_ok-made.made ≡ weight_of_all (made name v) =
-    ap weight_of_all (c.in_ok-made.ensures ∙ ap (λ (w : Watch). made w.name v) c.self.view_is) in
-    let sum = new_weight name v (values_of old) (values_of new) (longer_by_row h v old c.requires) is_new in (
-      ap (λ (w : Watch). w.got) c.self.view_is,
-      ap (λ (w : Watch). w.name) c.self.view_is,
+    let after = c.weight_with-after.result in
+    let w : Watch = record { name = c.self.inside.name; got = c.self.inside.rows.entries } in
+    let none : lookup (is_at (nat_cmp h)) w.got ≡ None =
+    ap (λ (o : Watch). lookup (is_at (nat_cmp h)) o.got) c.self.view_is ∙ c.requires in
+    let sum =
+    sum_weighs w.name h v w.got (changed w.got (Add h v)) none refl c.self.inside.weight c.in_ok-made.made
+    c.self.invariant.0 c.in_ok-made.ensures (sym c.stands.ensures ∙ c.if-stands.false) in (
+      ap (λ (o : Watch). o.got) c.self.view_is,
+      ap (λ (o : Watch). o.name) c.self.view_is,
       (
-        ltb-true most_wanted_weight c.weight_with-after.result (sym c.is_over.ensures ∙ c.if-is_over.true),
-        summed c.self.inside.weight (weight_of_all c.in_ok-made.made) (weight_of_made name (sequences (values_of new)))
-            c.weight_with-after.result c.weight_with-after.ensures
-            (sum ∙ (λ i. sym part i + sym weighs i)),
+        ltb-true most_wanted_weight after (sym c.is_over.ensures ∙ c.if-is_over.true),
+        summed c.self.inside.weight (weight_of_all c.in_ok-made.made) (weighs w.name (changed w.got (Add h v))) after
+            c.weight_with-after.ensures sum
+            ∙ ap (λ (o : Watch). watcher_weight o.name (values_of (changed o.got (Add h v)))) c.self.view_is,
       ),
     )
 
 pub invariant_of-result-2 : goal.invariant_of-result-2
 invariant_of-result-2 g c =
     let h = c.args.handle in
-    let v = c.args.value in
-    let name = c.self.inside.name in
-    let old : Rows = c.self.inside.rows.entries in
-    let new : Rows = insert_entry nat_cmp old h v in
-    let none : lookup (is_at (nat_cmp h)) old ≡ None =
+    let none : lookup (is_at (nat_cmp h)) c.self.inside.rows.entries ≡ None =
     ap (λ (w : Watch). lookup (is_at (nat_cmp h)) w.got) c.self.view_is ∙ c.requires in
-    let is_new : among v (values_of old) ≡ false = sym c.stands.ensures ∙ c.if-stands.false in
-    let sum = new_weight name v (values_of old) (values_of new) (longer_by_row h v old none) is_new in
     let fits : c.weight_with-after.result ≤ most_wanted_weight =
     ltb-false most_wanted_weight c.weight_with-after.result (sym c.is_over.ensures ∙ c.if-is_over.false) in (
-      whole c.self.inside.weight (weight_of_all c.in_ok-made.made) (weight_of_made name (sequences (values_of new)))
-          c.weight_with-after.result c.weight_with-after.ensures fits
-          (sum ∙ (λ i. ap weight_of_all (sym c.in_ok-made.ensures) i + sym c.self.invariant.0 i))
-          ∙ ap (λ (rows : Rows). weight_of_made name (sequences (values_of rows))) (sym c.in_ok-put_row-2.ensures),
+      whole_weighs c.self.inside.name h c.args.value c.self.inside.rows.entries _ none c.in_ok-put_row-2.ensures
+          c.self.inside.weight c.weight_with-after.result c.in_ok-made.made c.self.invariant.0 c.in_ok-made.ensures
+          (sym c.stands.ensures ∙ c.if-stands.false) c.weight_with-after.ensures fits,
       fits,
     )
 
@@ -96,25 +79,22 @@ pub returns : goal.returns
 returns g c =
     let h = c.args.handle in
     let v = c.args.value in
-    let name = c.args.self.name in
-    let old : Rows = c.args.self.got in
-    let new : Rows = insert_entry nat_cmp old h v in
-    let is_new : among v (values_of old) ≡ false =
-    ap (λ (w : Watch). among v (values_of w.got)) (sym c.self.view_is) ∙ sym c.stands.ensures ∙ c.if-stands.false in
-    let made_is : c.in_ok-made.made ≡ made name v =
-    c.in_ok-made.ensures ∙ ap (λ (w : Watch). made w.name v) c.self.view_is in
-    let weighs : c.self.inside.weight ≡ weight_of_made name (sequences (values_of old)) =
-    c.self.invariant.0 ∙ ap (λ (w : Watch). weight_of_made w.name (sequences (values_of w.got))) c.self.view_is in
-    let longer = longer_by_row h v old c.requires in
-    let sum = new_weight name v (values_of old) (values_of new) longer is_new in
-    let fits : c.weight_with-after.result ≤ most_wanted_weight =
-    ltb-false most_wanted_weight c.weight_with-after.result (sym c.is_over.ensures ∙ c.if-is_over.false) in
-    let all = weight_of_made name (sequences (values_of new)) in (
-      c.in_ok-put_row-2.ensures ∙ ap (λ (w : Watch). insert_entry nat_cmp w.got h v) c.self.view_is,
-      ap (λ (w : Watch). w.name) c.self.view_is,
-      c.in_ok-changes.ensures ∙ ap (λ vs. map Came (keys_from v 0 vs)) made_is
-          ∙ sym (new_comes name v (values_of old) (values_of new) longer is_new),
-      fitting c.weight_with-after.result all
-          (whole c.self.inside.weight (weight_of_all c.in_ok-made.made) all c.weight_with-after.result
-          c.weight_with-after.ensures fits (sum ∙ (λ i. ap weight_of_all (sym made_is) i + sym weighs i))) fits,
+    let after = c.weight_with-after.result in
+    let w : Watch = record { name = c.self.inside.name; got = c.self.inside.rows.entries } in
+    let none : lookup (is_at (nat_cmp h)) w.got ≡ None =
+    ap (λ (o : Watch). lookup (is_at (nat_cmp h)) o.got) c.self.view_is ∙ c.requires in
+    let more = c.in_ok-put_row-2.ensures in
+    let first = sym c.stands.ensures ∙ c.if-stands.false in
+    let fits : after ≤ most_wanted_weight =
+    ltb-false most_wanted_weight after (sym c.is_over.ensures ∙ c.if-is_over.false) in
+    let all =
+    follows (Add h v) w c.args.self _ _ c.self.view_is more
+    (c.in_ok-changes.ensures ∙ ap (λ vs. map Came (keys_from v 0 vs)) c.in_ok-made.ensures
+    ∙ sym (first_wants w.name h v w.got _ none more first)) in (
+      all.0,
+      all.1,
+      all.2,
+      within h v w c.args.self _ after c.self.view_is more
+          (whole_weighs w.name h v w.got _ none more c.self.inside.weight after c.in_ok-made.made c.self.invariant.0
+          c.in_ok-made.ensures first c.weight_with-after.ensures fits) fits,
     )

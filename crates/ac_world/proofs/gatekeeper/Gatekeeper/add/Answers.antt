@@ -7,7 +7,8 @@ use Rattle.ds_space.specs.Spaces.{Rows}
 use Rattle.ds_space.specs.declared.space.Change.TheVariants.{Came}
 use Rattle.ac_world.specs.Behaviours.{asks, gatekeeper}
 use Rattle.ac_world.specs.Worlds.{Gatekeeping}
-use Rattle.ac_world.specs.Lemmas.Asking.{came_changes, longer_by_row}
+use Rattle.ac_watch.specs.Lemmas.Rows.{longer_by_row}
+use Rattle.ac_world.specs.Lemmas.Asking.{came_changes}
 use Rattle.ac_world.proofs.gatekeeper.Gatekeeper.add.Goals as goal
 
 pub returns-clause-applied : goal.returns-clause-applied

@@ -8,7 +8,8 @@ use Rattle.ds_space.specs.declared.space.Change.TheVariants.{Left}
 use Rattle.ac_world.specs.Behaviours.{asks, gatekeeper}
 use Rattle.ac_world.specs.Worlds.{Gatekeeping}
 use Rattle.ac_world.specs.Systems.{changes}
-use Rattle.ac_world.specs.Lemmas.Asking.{asked, left_changes, no_changes, longer_than_without, same_without}
+use Rattle.ac_watch.specs.Lemmas.Rows.{longer_than_without, same_without}
+use Rattle.ac_world.specs.Lemmas.Asking.{asked, left_changes, no_changes}
 use Rattle.ac_world.proofs.gatekeeper.Gatekeeper.remove.Goals as goal
 
 pub returns-in-None-clause-applied : goal.returns-in-None-clause-applied

@@ -13,6 +13,6 @@ loop-change-preserved g c =
       done = turns_then g.Y.System.rows behaviour c.args.self.now c.loop-change.self c.change.new.self
           (λ y. all_changed y a c.loop-change.yielded) (λ y. changed_by y a x) _
           (λ y t. all_changed-push y a c.loop-change.yielded x t) so_far.done c.in_ok-change.ensures.turns;
-      bound = c.in_ok-change.ensures.bound ∙ so_far.bound;
+      lasting = c.in_ok-change.ensures.lasting ∙ so_far.lasting;
       stands = c.in_ok-change.ensures.stands;
     }

@@ -8,6 +8,6 @@ abbrev pub invariant-loop-change : goal.invariant-loop-change
 invariant-loop-change g l = record {
   done : TurnsBy g.Y.System.rows (g.Y.System.behaviour (g.J.Judge.schema l.judge)) l.fn.self
       (λ y. all_changed y l.actor l.yielded) l.self;
-  bound : g.Y.System.bound l.self.resident.system ≡ g.Y.System.bound l.fn.self.resident.system;
+  lasting : g.Y.System.lasting l.self.resident.system ≡ g.Y.System.lasting l.fn.self.resident.system;
   stands : Stands l.actor (turning_by g.Y.System.rows l.self);
 }

@@ -14,6 +14,6 @@ loop-event-preserved g c =
       done = turns_then g.Y.System.rows behaviour c.args.self c.loop-event.turning c.in_ok-turning.turning
           (λ y. all_turned y a from c.loop-event.yielded) (λ y. turned_by y a from e) _
           (λ y t. all_turned-push y a from c.loop-event.yielded e t) so_far.done c.in_ok-turning.ensures.turns;
-      bound = c.in_ok-turning.ensures.bound ∙ so_far.bound;
+      lasting = c.in_ok-turning.ensures.lasting ∙ so_far.lasting;
       stands = c.in_ok-turning.ensures.stands;
     }

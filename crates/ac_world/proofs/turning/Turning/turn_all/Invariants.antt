@@ -8,6 +8,6 @@ abbrev pub invariant-loop-event : goal.invariant-loop-event
 invariant-loop-event g l = record {
   done : TurnsBy g.Y.System.rows (g.Y.System.behaviour (g.J.Judge.schema l.judge)) l.fn.self
       (λ y. all_turned y l.actor l.from l.yielded) l.turning;
-  bound : g.Y.System.bound l.turning.resident.system ≡ g.Y.System.bound l.fn.self.resident.system;
+  lasting : g.Y.System.lasting l.turning.resident.system ≡ g.Y.System.lasting l.fn.self.resident.system;
   stands : Stands l.actor (turning_by g.Y.System.rows l.turning);
 }

@@ -5,13 +5,15 @@ use Rattle.ac_world.proofs.Numbers.{next_is_new, world_joined}
 use Rattle.ac_world.proofs.world.World.arrive.Goals as goal
 
 pub add_actor-requires : goal.add_actor-requires
-add_actor-requires g c = next_is_new c.self.inside.opened c.self.inside.table c.self.invariant.0
+add_actor-requires g c =
+    let i = c.self.inside in next_is_new i.opened i.watches.items i.table c.self.invariant.0
 
 pub invariant_of-self : goal.invariant_of-self
 invariant_of-self g c =
     let i = c.self.inside in (
-      rw c.in_ok-add_actor.ensures.joined (world_joined i.opened i.table c.self.invariant.0),
+      rw c.in_ok-add_actor.ensures.joined (world_joined i.opened i.watches.items i.table c.self.invariant.0),
       housed_joined (16 + (i.opened + 1)) i.table c.add_actor.new.self
-          ((0, resident_by (λ k. k.got) i.gatekeeper) ∷ residents_by i.spaces.entries) (omega arith)
-          c.in_ok-add_actor.ensures.joined c.self.invariant.1,
+          ((0, resident_by (λ k. k.got) i.gatekeeper) ∷ residents_by i.others.entries)
+          (λ low. absurd (omega (arith, low))) c.in_ok-add_actor.ensures.joined c.self.invariant.1,
+      c.self.invariant.2,
     )

@@ -12,8 +12,9 @@ returns g c =
       opened = c.self.inside.opened;
       schema = g.J.Judge.schema c.self.inside.judge;
       bindings = c.self.inside.gatekeeper.system.bindings;
+      watches = c.self.inside.watches.items;
       table = c.self.inside.table;
-      residents = (0, resident_by (λ k. k.got) c.self.inside.gatekeeper) ∷ residents_by c.self.inside.spaces.entries;
+      residents = (0, resident_by (λ k. k.got) c.self.inside.gatekeeper) ∷ residents_by c.self.inside.others.entries;
       held = c.self.inside.held.entries;
     } in
     ap (λ (held : List (ℕ × Deliveries)). record w { held = held })

@@ -14,7 +14,7 @@ turned-requires g c =
     let r : Resident = resident_by (λ k. k.got) i.gatekeeper in
     let live : is_live 0 i.table ≡ true =
     ap (λ (w : WorldState). is_live 0 w.table) c.self.view_is ∙ c.requires in
-    stands_first 0 r i.table ((0, r) ∷ residents_by i.spaces.entries) (omega arith) live refl c.self.invariant.1
+    stands_first 0 r i.table ((0, r) ∷ residents_by i.others.entries) (omega arith) live refl c.self.invariant.1
 
 pub invariant_of-world : goal.invariant_of-world
 invariant_of-world g c =
@@ -23,22 +23,24 @@ invariant_of-world g c =
     let y : Behaviour = gatekeeper (g.J.Judge.schema i.judge) i.gatekeeper.system.bindings in
     let r : Resident = resident_by (λ k. k.got) i.gatekeeper in
     let t : Turning = turning_by (λ k. k.got) c.in_ok-resident.field-0 in (
-      world_turned y 0 b.from i.opened b.events r t c.in_ok-commit.field-0 i.table c.in_ok-resident.ensures.turned
-          c.in_ok-commit.ensures c.self.invariant.0,
+      world_turned y 0 b.from i.opened i.watches.items b.events r t c.in_ok-commit.field-0 i.table
+          c.in_ok-resident.ensures.turned c.in_ok-commit.ensures c.self.invariant.0,
       housed_turned y 0 b.from b.events r i.table t c.in_ok-commit.field-0 c.in_ok-resident.ensures.turned
-          c.in_ok-commit.ensures ((0, r) ∷ residents_by i.spaces.entries) c.in_ok-resident.ensures.stands
+          c.in_ok-commit.ensures ((0, r) ∷ residents_by i.others.entries) c.in_ok-resident.ensures.stands
           c.self.invariant.1,
+      c.self.invariant.2,
     )
 
 pub returns-clause-world : goal.returns-clause-world
 returns-clause-world g c =
     let i = c.self.inside in
-    let residents = residents_by i.spaces.entries in
+    let residents = residents_by i.others.entries in
     let w : WorldState =
     record {
       opened = i.opened;
       schema = g.J.Judge.schema i.judge;
       bindings = i.gatekeeper.system.bindings;
+      watches = i.watches.items;
       table = i.table;
       residents = (0, resident_by (λ k. k.got) i.gatekeeper) ∷ residents;
       held = i.held.entries;
@@ -47,7 +49,8 @@ returns-clause-world g c =
     (λ j. record {
       opened = i.opened;
       schema = g.J.Judge.schema i.judge;
-      bindings = c.in_ok-resident.ensures.bound j;
+      bindings = (c.in_ok-resident.ensures.lasting j).bound;
+      watches = i.watches.items;
       table = c.in_ok-commit.ensures j;
       residents = (0, t.resident) ∷ residents;
       held = i.held.entries;
@@ -63,8 +66,9 @@ returns-clause-turned g c =
       opened = i.opened;
       schema = g.J.Judge.schema i.judge;
       bindings = i.gatekeeper.system.bindings;
+      watches = i.watches.items;
       table = i.table;
-      residents = (0, resident_by (λ k. k.got) i.gatekeeper) ∷ residents_by i.spaces.entries;
+      residents = (0, resident_by (λ k. k.got) i.gatekeeper) ∷ residents_by i.others.entries;
       held = i.held.entries;
     } in
     ap (λ (u : Turning). (end_turn 0 w u).turned) c.in_ok-resident.ensures.turned

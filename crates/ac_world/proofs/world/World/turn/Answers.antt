@@ -7,10 +7,12 @@ use Rattle.ac_world.proofs.world.World.turn.Goals as goal
 pub invariant_of-self : goal.invariant_of-self
 invariant_of-self g c =
     let i = c.self.inside in (
-      world_popped c.args.actor i.opened c.pop_batch.new.self i.table c.in-Ok-Some.ensures.popped c.self.invariant.0,
+      world_popped c.args.actor i.opened i.watches.items c.pop_batch.new.self i.table c.in-Ok-Some.ensures.popped
+          c.self.invariant.0,
       housed_popped c.args.actor i.table c.pop_batch.new.self
-          ((0, resident_by (λ k. k.got) i.gatekeeper) ∷ residents_by i.spaces.entries) c.in-Ok-Some.ensures.popped
+          ((0, resident_by (λ k. k.got) i.gatekeeper) ∷ residents_by i.others.entries) c.in-Ok-Some.ensures.popped
           c.self.invariant.1,
+      c.self.invariant.2,
     )
 
 pub turn_with-requires : goal.turn_with-requires

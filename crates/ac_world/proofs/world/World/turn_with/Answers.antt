@@ -4,3 +4,8 @@ pub returns-then-actor-eq-GATEKEEPER-clause-world :
     goal.returns-then-actor-eq-GATEKEEPER-clause-world
 returns-then-actor-eq-GATEKEEPER-clause-world g c =
     rw c.if-actor-eq-GATEKEEPER.true c.gatekeeper_turn.ensures.world
+
+pub returns-then-actor-eq-GATEKEEPER-clause-turned :
+    goal.returns-then-actor-eq-GATEKEEPER-clause-turned
+returns-then-actor-eq-GATEKEEPER-clause-turned g c =
+    rw c.if-actor-eq-GATEKEEPER.true c.gatekeeper_turn.ensures.turned

@@ -2,7 +2,7 @@
 use Rattle.std.proofs.Common.{subst}
 use Rattle.std.specs.Prelude.{IfSome}
 use Rattle.hub_machine.specs.State.{State}
-use Rattle.hub_valid.specs.Validity.{IsValidEntry}
+use Rattle.hub_valid.specs.Validity.{lived, IsValidEntry}
 use Rattle.hub_core.proofs.Keeping.{kept_without, entry_valid}
 use Rattle.hub_core.proofs.hub.Hub.take_ports.Goals as goal
 
@@ -13,7 +13,7 @@ invariant_of-self g c =
 
 pub returns-clause-valid : goal.returns-clause-valid
 returns-clause-valid g c =
-    subst (λ (s : State). IfSome c.remove.result (λ p. IsValidEntry s.world.opened (c.args.connection, p)))
+    subst (λ (s : State). IfSome c.remove.result (λ p. IsValidEntry (lived s.world) (c.args.connection, p)))
     c.self.view_is
     (entry_valid c.args.connection c.self.inside.world c.self.inside.connections.entries c.remove.result
     c.self.invariant.2 c.remove.ensures.value)

@@ -1,12 +1,12 @@
 -- What is told of a valid batch may be sent, and what it exports leaves a valid state.
-use Rattle.std.proofs.Common.{◌+◌, ◌≡◌, subst, sym}
+use Rattle.std.proofs.Common.{◌≡◌, subst, sym}
 use Rattle.std.specs.Prelude.{IfOk}
 use Rattle.std.specs.List.{AllByRecursion}
 use Rattle.ac_world.specs.Worlds.{with_entry}
 use Rattle.rl_packet.specs.Wired.{IsTurnEvent}
 use Rattle.rl_ports.specs.Ports.{PortsState}
 use Rattle.hub_machine.specs.declared.steps.Reply.{Reply}
-use Rattle.hub_valid.specs.Validity.{AreValid}
+use Rattle.hub_valid.specs.Validity.{lived, AreValid}
 use Rattle.hub_valid.specs.Lemmas.Crossed.{sent_is_sound}
 use Rattle.hub_valid.specs.Lemmas.Hubs.{exporting_is_valid}
 use Rattle.hub_core.proofs.Tellings.{reply_told}
@@ -22,7 +22,7 @@ name-requires-clause-valid g c = λ valid.
 pub from_vec-requires : goal.from_vec-requires
 from_vec-requires g c =
     subst (AllByRecursion IsTurnEvent) (sym c.in-Ok.ensures.sent)
-    (sent_is_sound (16 + c.args.self.world.opened) c.args.self.world.table.next c.args.connection
+    (sent_is_sound (lived c.args.self.world) c.args.self.world.table.next c.args.connection
     c.all_to_send.new.ports.exports c.args.batch c.requires.batch c.requires.next c.in-Ok.ensures.few)
 
 pub returns-in_ok-hub-in-Ok-clause-reply : goal.returns-in_ok-hub-in-Ok-clause-reply

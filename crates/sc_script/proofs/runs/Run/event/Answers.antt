@@ -2,7 +2,7 @@
 use Rattle.std.proofs.Common.{sym, ap, ◌∙◌}
 use Rattle.sc_events.specs.declared.events.ScriptEvent.TheVariants.{Bytes}
 use Rattle.sc_script.proofs.PartsPassed.{runs_so, stops_so}
-use Rattle.sc_script.proofs.EventCourses.{bind_part, open_part, bytes_part, close_part, turn_part, drain_part}
+use Rattle.sc_script.proofs.EventCourses.{bind_part, watch_part, open_part, bytes_part, close_part, turn_part, drain_part}
 use Rattle.sc_script.proofs.runs.Run.event.Goals as goal
 
 pub bind-requires : goal.bind-requires
@@ -17,6 +17,16 @@ pub returns-in-Bind-clause-stop : goal.returns-in-Bind-clause-stop
 returns-in-Bind-clause-stop g c =
     stops_so _ _ _ (bind_part c.args.self c.args.place c.args.event c.in-Bind.binding c.in-Bind.is)
     c.bind.result c.bind.ensures.stop
+
+pub returns-in-Watch-clause-run : goal.returns-in-Watch-clause-run
+returns-in-Watch-clause-run g c =
+    runs_so _ _ _ (watch_part c.args.self c.args.place c.args.event c.in-Watch.watched c.in-Watch.is)
+    c.set_up.result c.set_up.ensures.run
+
+pub returns-in-Watch-clause-stop : goal.returns-in-Watch-clause-stop
+returns-in-Watch-clause-stop g c =
+    stops_so _ _ _ (watch_part c.args.self c.args.place c.args.event c.in-Watch.watched c.in-Watch.is)
+    c.set_up.result c.set_up.ensures.stop
 
 pub returns-in-Open-clause-run : goal.returns-in-Open-clause-run
 returns-in-Open-clause-run g c =

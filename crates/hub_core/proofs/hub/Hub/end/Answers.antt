@@ -1,8 +1,0 @@
--- A connection that departs leaves a valid state.
-use Rattle.hub_core.proofs.Keeping.{kept_ended}
-use Rattle.hub_core.proofs.hub.Hub.end.Goals as goal
-
-pub invariant_of-result : goal.invariant_of-result
-invariant_of-result g c =
-    kept_ended c.args.connection c.self.inside.unlooked c.self.inside.world c.in_ok-world.world
-    c.self.inside.connections.entries c.self.inside.faults.entries c.in_ok-world.ensures c.self.invariant
