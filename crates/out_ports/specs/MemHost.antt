@@ -1,13 +1,13 @@
 -- A host in memory: what it answers to an accept, for which files and ports it fails, and what it is then.
-use Rattle.std.specs.Prelude.{ℕ, Bool, ◌||◌, List, Option, None, Some, is_none, map, if◌then◌else◌}
+use Rattle.std.specs.Prelude.{ℕ, Bool, false, ◌||◌, List, Option, None, Some, is_none, map, if◌then◌else◌}
 use Rattle.std.specs.String.{string_bytes}
 use Rattle.out_ports.specs.declared.ports.Accepted.{Accepted}
 use Rattle.out_ports.specs.declared.ports.Accepted.TheVariants as accepted
 use Rattle.out_ports.specs.declared.memory.host.MemFile.{MemFile}
-use Rattle.out_ports.specs.Ports.{raised, contents_of}
+use Rattle.out_ports.specs.Ports.{contents_of}
 use Rattle.out_ports.specs.MemSource.{ToldSource}
 use Rattle.out_ports.specs.MemSink.{ToldSink}
-use Rattle.out_ports.specs.MemListen.{ToldListen, accept_answer, after_accept}
+use Rattle.out_ports.specs.MemListen.{ToldListen, accept_answer, after_accept, after_stop}
 use Rattle.out_ports.specs.Calls.{CallCounts, before_calls, is_next_listed, after_call}
 
 -- the files' names and contents
@@ -39,7 +39,7 @@ host_answer (Some address) listen = accept_answer listen
 
 -- the listener after an accept; without a port its links and its calls stay
 abbrev pub listener_after : Option (List ℕ) → Accepted ToldSource ToldSink → ToldListen → ToldListen
-listener_after None answer listen = record listen { stops = raised 1 listen.stops }
+listener_after None answer listen = after_stop listen
 listener_after (Some address) answer listen = after_accept answer listen
 
 -- the host after an accept
@@ -54,9 +54,10 @@ file_fails host name = is_next_listed host.file_calls || is_none (contents_of na
 abbrev pub after_file : ToldHost → List ℕ → ToldHost
 after_file host name = record host { file_calls = after_call (file_fails host name) host.file_calls }
 
--- the host after a call of `port`, which opened one or didn't
+-- the host after a call of `port`, which opened one or didn't; one that is open accepts, though it was closed before
 abbrev pub after_port : ToldHost → List ℕ → Bool → ToldHost
 after_port host address opened = record host {
+  listen = if opened then record host.listen { closed = false } else host.listen;
   address = if opened then Some address else host.address;
   port_calls = after_call (is_next_listed host.port_calls) host.port_calls;
 }

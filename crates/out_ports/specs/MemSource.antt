@@ -5,14 +5,15 @@ use Rattle.out_ports.specs.declared.ports.Took.TheVariants as took
 use Rattle.out_ports.specs.Ports.{given_after, ended_after}
 use Rattle.out_ports.specs.Calls.{CallCounts, before_calls, is_next_listed, after_call}
 
--- what is left, how many bytes were given, how many are given at once at most, whether a take has answered the end, and
--- the calls
+-- what is left, how many bytes were given, how many are given at once at most, whether a take has answered the end, the
+-- calls, and whether it was settled
 pub record ToldSource : Type 0 where
   pub left : List ℕ
   pub given : ℕ
   pub piece : ℕ
   pub ended : Bool
   pub calls : CallCounts
+  pub settled : Bool
 
 -- a source of these bytes, before the first take
 abbrev pub source_of : List ℕ → ℕ → List ℕ → ToldSource
@@ -22,6 +23,7 @@ source_of bytes piece failing = record {
   piece = piece;
   ended = false;
   calls = before_calls failing;
+  settled = false;
 }
 
 -- the end where nothing is left, and else a piece as long as what is left, the longest piece and the buffer allow
@@ -60,4 +62,5 @@ after_take answer source = record {
   piece = source.piece;
   ended = ended_after answer source.ended;
   calls = after_call (take_failed answer) source.calls;
+  settled = source.settled;
 }

@@ -9,6 +9,8 @@ use Rattle.out_ports.specs.declared.ports.Took.{Took}
 use Rattle.out_ports.specs.declared.ports.Took.TheVariants as took
 use Rattle.out_ports.specs.declared.ports.Put.{Put}
 use Rattle.out_ports.specs.declared.ports.Put.TheVariants as put
+use Rattle.out_ports.specs.declared.ports.Offered.{Offered}
+use Rattle.out_ports.specs.declared.ports.Offered.TheVariants as offered
 use Rattle.out_ports.specs.declared.ports.Accepted.{Accepted}
 use Rattle.out_ports.specs.declared.ports.Accepted.TheVariants as accepted
 
@@ -79,12 +81,27 @@ abbrev pub IsPut : Put → List ℕ → Option (List ℕ) → Option (List ℕ) 
 IsPut (put.Some n) piece before now = Appends before now (take n piece)
 IsPut put.Failed piece before now = now ≡ before
 
+-- Offering to a link
+
+-- a piece is taken by a byte at least, and not past its end
+abbrev pub FitsOffer : Offered → ℕ → Type 0
+FitsOffer (offered.Some n) len = (1 ≤ n) × (n ≤ len)
+FitsOffer offered.Waits len = ⊤
+FitsOffer offered.Failed len = ⊤
+
+-- what an offer does to what the link holds, where that is told: the front of the piece is appended, or nothing
+abbrev pub IsOffered : Offered → List ℕ → Option (List ℕ) → Option (List ℕ) → Type 0
+IsOffered (offered.Some n) piece before now = Appends before now (take n piece)
+IsOffered offered.Waits piece before now = now ≡ before
+IsOffered offered.Failed piece before now = now ≡ before
+
 -- Accepting links
 
 -- the count of links given, after an accept
 abbrev pub gave_after : {R W : Type 0} → Accepted R W → ℕ → ℕ
 gave_after (accepted.Link r w) before = raised 1 before
 gave_after accepted.Stopped before = before
+gave_after accepted.Nobody before = before
 gave_after accepted.Failed before = before
 gave_after accepted.NoMemory before = before
 
@@ -92,6 +109,7 @@ gave_after accepted.NoMemory before = before
 abbrev pub stops_after : {R W : Type 0} → Accepted R W → ℕ → ℕ
 stops_after (accepted.Link r w) before = before
 stops_after accepted.Stopped before = raised 1 before
+stops_after accepted.Nobody before = before
 stops_after accepted.Failed before = before
 stops_after accepted.NoMemory before = before
 

@@ -4,12 +4,13 @@
 //! A call that answers `Failed` has raised that count, and code that is generic over a trait can't
 //! raise it. What a source has left, what a sink holds, what files a host has and which jobs a
 //! spawner took is told by some and not by others.
-ghost use Rattle.std.specs.Prelude.{◌≡◌, ℕ, ◌<◌, ◌≤◌, Bool, false, ⊤, List, length, Option};
+ghost use Rattle.std.specs.Prelude.{◌≡◌, ℕ, ◌<◌, ◌≤◌, Bool, true, false, ⊤, List, length, Option};
 ghost use Rattle.std.specs.Prelude.{vec_len, IfOk, IsErrOf, OnOk, OnErr};
 ghost use Rattle.out_ports.specs.Limits.{most_read};
 ghost use Rattle.out_ports.specs.declared.ports.HostFault.TheVariants.{NoMemory};
 ghost use Rattle.out_ports.specs.Ports.{raised, Rose, FitsBuffer, IsTaken, given_after};
-ghost use Rattle.out_ports.specs.Ports.{ended_after, FitsPiece, IsPut, gave_after, stops_after};
+ghost use Rattle.out_ports.specs.Ports.{ended_after, FitsPiece, IsPut, FitsOffer, IsOffered};
+ghost use Rattle.out_ports.specs.Ports.{gave_after, stops_after};
 ghost use Rattle.out_ports.specs.Ports.{IsFile, took_after, IsStarted};
 
 use std::alloc::{AllocError, Global};
@@ -60,6 +61,17 @@ pub trait Source {
         ensures cause { result ≡ Took.Failed → Rose (faults self.old) (faults self.new) };
 }
 
+/// The reading half of a link, whose peer may say nothing for a while.
+pub trait Incoming: Source {
+    /// The peer has sent a whole packet: what comes then may take any time. Before it a take waits
+    /// for a bounded time in all, and then fails.
+    fn settle(&mut self)
+        ensures content { Self.left self.new ≡ Self.left self.old }
+        ensures counted { Self.given self.new ≡ Self.given self.old }
+        ensures at_end { Self.ended self.new ≡ Self.ended self.old }
+        ensures count { Self.faults self.new ≡ Self.faults self.old };
+}
+
 /// The answer of a [`Sink`] to a put.
 #[derive(Clone, Copy, Debug, PartialEq, Eq)]
 pub enum Put {
@@ -99,6 +111,36 @@ pub trait Sink {
         ensures count { faults self.new ≡ faults self.old };
 }
 
+/// The answer of an [`Outgoing`] to an offer.
+#[derive(Clone, Copy, Debug, PartialEq, Eq)]
+pub enum Offered {
+    /// The first so many bytes of the piece are taken.
+    Some(usize),
+    /// The peer took nothing for a while.
+    Waits,
+    Failed,
+}
+
+/// The writing half of a link, whose peer may take nothing for a while.
+pub trait Outgoing: Sink {
+    /// As `put`, but where the peer takes nothing for about a second it answers `Waits`, and
+    /// nothing is appended.
+    fn offer(&mut self, piece: &[u8]) -> Offered
+        requires { 0 < length piece.now }
+        ensures size { FitsOffer result (length piece.now) }
+        ensures content { IsOffered result piece.now (Self.held self.old) (Self.held self.new) }
+        ensures unfinished { Self.finishes self.new ≡ Self.finishes self.old }
+        ensures lasting { Self.faults self.old ≤ Self.faults self.new }
+        ensures cause { result ≡ Offered.Failed →
+            Rose (Self.faults self.old) (Self.faults self.new) };
+
+    /// From now on it waits for its peer for a bounded time in all, and then fails.
+    fn hurry(&mut self)
+        ensures content { Self.held self.new ≡ Self.held self.old }
+        ensures unfinished { Self.finishes self.new ≡ Self.finishes self.old }
+        ensures count { Self.faults self.new ≡ Self.faults self.old };
+}
+
 /// The answer of a [`Listen`] to an accept.
 #[derive(Debug, Drop)]
 pub enum Accepted<R, W> {
@@ -106,15 +148,17 @@ pub enum Accepted<R, W> {
     Link(R, W),
     /// No more links come.
     Stopped,
+    /// None came for a while.
+    Nobody,
     Failed,
     NoMemory,
 }
 
 /// Something that gives links.
 pub trait Listen {
-    type R: Source;
+    type R: Incoming;
 
-    type W: Sink;
+    type W: Outgoing;
 
     /// How many links it has given, at most the greatest u64.
     ghost gave: { Self → ℕ };
@@ -127,6 +171,9 @@ pub trait Listen {
 
     /// Where it accepts, none before it has a port.
     ghost address: { Self → Option (List ℕ) };
+
+    /// Whether it was closed, and accepts no more.
+    ghost closed: { Self → Bool };
 
     /// Of a host, the files, as names and contents, where it tells them. The first of a name
     /// counts. A listener that is no host tells none, and no count of their faults.
@@ -147,13 +194,28 @@ pub trait Listen {
         ensures links { gave self.new ≡ gave_after result (gave self.old) }
         ensures ends { stops self.new ≡ stops_after result (stops self.old) }
         ensures no_port { address self.old ≡ None → result ≡ Accepted.Stopped }
+        ensures no_more { closed self.old ≡ true → result ≡ Accepted.Stopped }
         ensures place { address self.new ≡ address self.old }
+        ensures same_closed { closed self.new ≡ closed self.old }
         // A host's files and its other counts stay.
         ensures same_files { files self.new ≡ files self.old }
         ensures same_file_faults { file_faults self.new ≡ file_faults self.old }
         ensures same_port_faults { port_faults self.new ≡ port_faults self.old }
         ensures lasting { faults self.old ≤ faults self.new }
         ensures cause { result ≡ Accepted.Failed → Rose (faults self.old) (faults self.new) };
+
+    /// No more links are to come: accepts answer `Stopped` from now on, and whoever connects later
+    /// is refused.
+    fn close(&mut self)
+        ensures closed { closed self.new ≡ true }
+        ensures links { gave self.new ≡ gave self.old }
+        ensures ends { stops self.new ≡ stops self.old }
+        ensures count { faults self.new ≡ faults self.old }
+        // Where it accepted stays told.
+        ensures place { address self.new ≡ address self.old }
+        ensures same_files { files self.new ≡ files self.old }
+        ensures same_file_faults { file_faults self.new ≡ file_faults self.old }
+        ensures same_port_faults { port_faults self.new ≡ port_faults self.old };
 }
 
 /// Why a host's call failed.
@@ -193,6 +255,7 @@ pub trait Host: Listen {
         ensures same_files { Self.files self.new ≡ Self.files self.old }
         // What is told of ports and links stays.
         ensures place { Self.address self.new ≡ Self.address self.old }
+        ensures same_closed { Self.closed self.new ≡ Self.closed self.old }
         ensures links { Self.gave self.new ≡ Self.gave self.old }
         ensures ends { Self.stops self.new ≡ Self.stops self.old }
         ensures port_lasting { Self.port_faults self.old ≤ Self.port_faults self.new }
@@ -201,7 +264,9 @@ pub trait Host: Listen {
     /// Opens a port, from which links are accepted from then on.
     fn port(&mut self, alloc: Global, addr: &str) -> Result<(), HostFault>
         ensures open { OnOk result (Self.address self.new ≡ Some addr.now) }
+        ensures accepts { OnOk result (Self.closed self.new ≡ false) }
         ensures stays { OnErr result (Self.address self.new ≡ Self.address self.old) }
+        ensures same_closed { OnErr result (Self.closed self.new ≡ Self.closed self.old) }
         ensures cause { IsErrOf result HostFault.Failed →
             Rose (Self.port_faults self.old) (Self.port_faults self.new) }
         ensures lasting { Self.port_faults self.old ≤ Self.port_faults self.new }

@@ -1,5 +1,5 @@
 //! Whole texts over sources and sinks: reading one to its end or its front, and writing one.
-ghost use Rattle.std.specs.Prelude.{◌≡◌, ◌≤◌, true, take, vec_len};
+ghost use Rattle.std.specs.Prelude.{◌≡◌, ◌≤◌, ◌++◌, ℕ, List, true, take, vec_len};
 ghost use Rattle.std.specs.Prelude.{IfOk, IfSome, IsErrOf, OnOk, OnErr};
 ghost use Rattle.out_ports.specs.declared.streams.ReadFault.TheVariants.{NoMemory};
 ghost use Rattle.out_ports.specs.Ports.{Rose, Appends, AppendsFront};
@@ -79,6 +79,43 @@ pub fn read_front<I: Source>(
     }
     front.truncate(most);
     Ok(front)
+}
+
+/// Appends as much of a piece as there is room for below `most` bytes.
+fn keep(front: &mut Vec<u8>, piece: &[u8], most: usize) -> Result<(), AllocError>
+    ensures { (read : List ℕ) → front.old.items ≡ take most read
+        → OnOk result (front.new.items ≡ take most (read ++ piece.now)) }
+{
+    let room = most.saturating_sub(front.len());
+    front.extend_from_slice(&piece[..room.min(piece.len())])
+}
+
+/// Reads a source to its end, and keeps its first `most` bytes: so what it gives is no bound on the
+/// memory that is taken. A source without an end, and what stands after a fault, are as for
+/// [`read_to_end`].
+pub fn read_kept<I: Source>(
+    alloc: Global,
+    source: &mut I,
+    most: usize,
+) -> Result<Vec<u8>, ReadFault>
+    ensures content { IfOk result (λ front. IfSome (I.left source.old) (λ bytes.
+        front.items ≡ take most bytes)) }
+    ensures size { IfOk result (λ front. vec_len front ≤ most) }
+    ensures at_end { OnOk result (I.ended source.new ≡ true) }
+    ensures lasting { I.faults source.old ≤ I.faults source.new }
+    ensures cause { IsErrOf result ReadFault.Failed →
+        Rose (I.faults source.old) (I.faults source.new) }
+{
+    let mut front = Vec::new(alloc);
+    let mut buf = [0; PIECE];
+    for _ in 0..u64::MAX {
+        match source.take(&mut buf) {
+            Took::Some(n) => keep(&mut front, &buf[..n], most)?,
+            Took::End => return Ok(front),
+            Took::Failed => return Err(ReadFault::Failed),
+        }
+    }
+    Err(ReadFault::NoMemory)
 }
 
 /// Writes all the bytes, in as many pieces as the sink wants. After a fault the sink holds a front

@@ -1,32 +1,32 @@
 //! The real host: files by name, and links over TCP.
-ghost use Rattle.std.specs.Prelude.{◌≡◌, ◌≤◌, None, take, IfOk, IfSome, IsErrOf, vec_len};
+ghost use Rattle.std.specs.Prelude.{◌≡◌, ◌≤◌, true, false, None, take, IfOk, IfSome, IsErrOf};
+ghost use Rattle.std.specs.Prelude.{vec_len};
 ghost use Rattle.std.specs.Option.{option_map};
 ghost use Rattle.std.specs.String.{string_bytes};
 ghost use Rattle.out_ports.specs.Limits.{most_read};
 ghost use Rattle.out_ports.specs.Ports.{raised, Rose};
 ghost use Rattle.out_ports.specs.declared.ports.HostFault.TheVariants as fault;
 
-use crate::links::{TcpSink, TcpSource, next_link};
+use crate::accepting::{Cause, cause_of, listen_at, next_link};
+use crate::links::{TcpSink, TcpSource};
 use crate::streams::ReadSource;
+use crate::waits::Waits;
 use out_ports::ports::{Accepted, FILE_READ, Host, HostFault, Listen, Source};
 use out_ports::streams::{ReadFault, read_front};
 use std::alloc::Global;
-use std::fs;
 use std::net::{Net, TcpListener, TcpStream};
 use std::rt::Files;
-
-/// Where links are accepted.
-#[derive(Drop)]
-struct Port {
-    address: String,
-    listener: TcpListener,
-}
+use std::time::Clock;
+use std::{fs, thread};
 
 /// The files and the network of the machine.
 #[derive(Drop)]
 pub struct RealHost<'a, Rt> {
     rt: &'a Rt,
-    port: Option<Port>,
+    pub(crate) waits: Waits,
+    address: Option<String>,
+    listener: Option<TcpListener>,
+    closed: bool,
     gave: u64,
     stops: u64,
     faults: u64,
@@ -37,7 +37,8 @@ pub struct RealHost<'a, Rt> {
 impl<'a, Rt> RealHost<'a, Rt> {
     /// A host without a port.
     pub fn new(rt: &'a Rt) -> RealHost<'a, Rt>
-        ensures port { result.port ≡ None }
+        ensures port { result.address ≡ None }
+        ensures closed { result.closed ≡ false }
         ensures gave { result.gave ≡ 0 }
         ensures stops { result.stops ≡ 0 }
         ensures faults { result.faults ≡ 0 }
@@ -46,7 +47,10 @@ impl<'a, Rt> RealHost<'a, Rt> {
     {
         RealHost {
             rt,
-            port: None,
+            waits: Waits::new(),
+            address: None,
+            listener: None,
+            closed: false,
             gave: 0,
             stops: 0,
             faults: 0,
@@ -57,18 +61,28 @@ impl<'a, Rt> RealHost<'a, Rt> {
 
     /// The number of its port, where it has one: another than it was asked for, where that was 0.
     pub fn port_number(&self) -> Option<u16>
-        ensures { self.now.port ≡ None → result ≡ None }
+        ensures { self.now.address ≡ None → result ≡ None }
     {
-        let port = self.port.as_ref()?;
-        let address = port.listener.local_addr().ok()?;
+        let address = self.open_listener()?.local_addr().ok()?;
         Some(address.port())
+    }
+
+    /// The listener, where there is a port that isn't closed.
+    fn open_listener(&self) -> Option<&TcpListener>
+        ensures no_port { self.now.address ≡ None → result ≡ None }
+        ensures closed { self.now.closed ≡ true → result ≡ None }
+    {
+        if self.closed || self.address.is_none() {
+            return None;
+        }
+        self.listener.as_ref()
     }
 }
 
-impl<'a, Rt> Listen for RealHost<'a, Rt> {
-    type R = TcpSource;
+impl<'a, Rt: Clock> Listen for RealHost<'a, Rt> {
+    type R = TcpSource<'a, Rt>;
 
-    type W = TcpSink;
+    type W = TcpSink<'a, Rt>;
 
     ghost gave = { λ h. h.gave };
 
@@ -76,7 +90,9 @@ impl<'a, Rt> Listen for RealHost<'a, Rt> {
 
     ghost faults = { λ h. h.faults };
 
-    ghost address = { λ h. option_map (λ port. string_bytes port.address) h.port };
+    ghost address = { λ h. option_map string_bytes h.address };
+
+    ghost closed = { λ h. h.closed };
 
     ghost files = { λ _. None };
 
@@ -88,25 +104,43 @@ impl<'a, Rt> Listen for RealHost<'a, Rt> {
         self.faults
     }
 
-    fn accept(&mut self, _alloc: Global) -> Accepted<TcpSource, TcpSink> {
-        let Some(port) = &self.port else {
+    /// Nobody came too where a link that came has gone, and where the system has no descriptor or
+    /// no memory left for one: it pauses then, and the link waits on.
+    fn accept(&mut self, _alloc: Global) -> Accepted<TcpSource<'a, Rt>, TcpSink<'a, Rt>> {
+        let Some(listener) = self.open_listener() else {
             self.stops = self.stops.saturating_add(1);
             return Accepted::Stopped;
         };
-        match next_link(&port.listener) {
+        let error = match next_link(self.rt, listener, self.waits) {
             Ok((reads, writes)) => {
                 self.gave = self.gave.saturating_add(1);
-                Accepted::Link(reads, writes)
+                return Accepted::Link(reads, writes);
             }
-            Err(_) => {
+            Err(error) => error,
+        };
+        match cause_of(&error) {
+            Cause::Nobody => Accepted::Nobody,
+            Cause::NoRoom => {
+                thread::sleep(self.rt, self.waits.pause);
+                Accepted::Nobody
+            }
+            Cause::Failure => {
                 self.faults = self.faults.saturating_add(1);
                 Accepted::Failed
             }
         }
     }
+
+    fn close(&mut self) {
+        self.closed = true;
+        self.listener = None;
+    }
 }
 
-impl<'a, Rt: Files + Net<Listener = TcpListener, Stream = TcpStream>> Host for RealHost<'a, Rt> {
+impl<'a, Rt> Host for RealHost<'a, Rt>
+where
+    Rt: Clock + Files + Net<Listener = TcpListener, Stream = TcpStream>,
+{
     fn file_faults(&self) -> u64 {
         self.file_faults
     }
@@ -130,9 +164,11 @@ impl<'a, Rt: Files + Net<Listener = TcpListener, Stream = TcpStream>> Host for R
     /// Listens at the address, of whichever family, and no longer where it listened before.
     fn port(&mut self, alloc: Global, addr: &str) -> Result<(), HostFault> {
         let address = String::from_str(alloc, addr)?;
-        match TcpListener::bind(self.rt, addr) {
+        match listen_at(self.rt, addr, self.waits.accept) {
             Ok(listener) => {
-                self.port = Some(Port { address, listener });
+                self.address = Some(address);
+                self.listener = Some(listener);
+                self.closed = false;
                 Ok(())
             }
             Err(_) => {

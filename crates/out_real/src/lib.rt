@@ -2,14 +2,18 @@
 //!
 //! Each adapter counts its faults and tells nothing of content: no clause can say what a file, a
 //! socket or a terminal gives or takes. So these lines are trusted, and each adapter has a test.
+//! [`waits`] has the times for which links wait, of which no clause tells either.
 #![tactic(auto)]
 
+mod accepting;
 mod host;
+mod keeping;
 mod links;
 mod spawner;
 mod streams;
 #[cfg(test)]
 mod tests;
+pub mod waits;
 
 pub use host::RealHost;
 pub use links::{TcpSink, TcpSource};

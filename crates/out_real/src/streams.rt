@@ -96,13 +96,6 @@ impl<W: Write> WriteSink<W> {
             faults: 0,
         }
     }
-
-    /// The writer.
-    pub(crate) fn writer(&self) -> &W
-        ensures { result.now ≡ self.now.writer }
-    {
-        &self.writer
-    }
 }
 
 impl<W: Write> Sink for WriteSink<W> {

@@ -3,3 +3,4 @@ mod files;
 mod links;
 mod streams;
 mod threads;
+mod waits;

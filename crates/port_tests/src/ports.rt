@@ -21,12 +21,13 @@ fn listener(alloc: Global, failing: &[u64]) -> Result<MemListen, AllocError> {
     Ok(MemListen::new(links, Vec::from_slice(alloc, failing)?))
 }
 
-/// The answer to an accept: `s` for a stop, `f` for a fault, `m` for want of memory, and for a link
-/// the first byte that can be read of it.
+/// The answer to an accept: `s` for a stop, `n` for nobody, `f` for a fault, `m` for want of
+/// memory, and for a link the first byte that can be read of it.
 fn answer(answer: Accepted<MemSource, MemSink>) -> u8 {
     match answer {
         Accepted::Link(reads, _) => *reads.left().first().unwrap_or(&b'?'),
         Accepted::Stopped => b's',
+        Accepted::Nobody => b'n',
         Accepted::Failed => b'f',
         Accepted::NoMemory => b'm',
     }
@@ -45,6 +46,21 @@ fn four_answers(alloc: Global) -> Result<[u8; 4], AllocError> {
 #[test]
 fn a_listener_gives_its_links_and_stops(rt: HostRuntime) -> Result<(), Fail> {
     assert!(rt; four_answers(rt.alloc())? == *b"afbs");
+    Ok(())
+}
+
+/// A listener that is closed stops, though its next accept is to fail and a link is left.
+fn closed_listener_stops(alloc: Global) -> Result<bool, AllocError> {
+    let mut listener = listener(alloc, &[1])?;
+    let first = answer(listener.accept(alloc)) == b'a';
+    listener.close();
+    let stopped = answer(listener.accept(alloc)) == b's' && listener.stops() == 1;
+    Ok(first && stopped && listener.is_closed() && listener.faults() == 0)
+}
+
+#[test]
+fn a_listener_that_is_closed_stops(rt: HostRuntime) -> Result<(), Fail> {
+    assert!(rt; closed_listener_stops(rt.alloc())?);
     Ok(())
 }
 
@@ -97,5 +113,22 @@ fn host_gives_links_behind_its_port(alloc: Global) -> Result<bool, AllocError> {
 #[test]
 fn a_host_gives_links_behind_its_port(rt: HostRuntime) -> Result<(), Fail> {
     assert!(rt; host_gives_links_behind_its_port(rt.alloc())?);
+    Ok(())
+}
+
+/// A host that is closed stops until it has a port again.
+fn closed_host_opens_again(alloc: Global) -> Result<bool, AllocError> {
+    let mut host = host(alloc)?;
+    let failed = host.port(alloc, "a:1").is_err();
+    let open = host.port(alloc, "a:1").is_ok();
+    host.close();
+    let closed = answer(host.accept(alloc)) == b's' && host.listener().is_closed();
+    let again = host.port(alloc, "a:2").is_ok() && answer(host.accept(alloc)) == b'a';
+    Ok(failed && open && closed && again)
+}
+
+#[test]
+fn a_host_that_is_closed_opens_again(rt: HostRuntime) -> Result<(), Fail> {
+    assert!(rt; closed_host_opens_again(rt.alloc())?);
     Ok(())
 }

@@ -1,7 +1,7 @@
 //! A source and a sink in memory, and whole texts over them.
 use out_ports::memory::{MemSink, MemSource};
-use out_ports::ports::{HostFault, Sink, Source};
-use out_ports::streams::{ReadFault, WriteFault, read_front, read_to_end, write_all};
+use out_ports::ports::{HostFault, Incoming, Offered, Outgoing, Put, Sink, Source};
+use out_ports::streams::{ReadFault, WriteFault, read_front, read_kept, read_to_end, write_all};
 use std::alloc::{AllocError, Global};
 use std::test::Fail;
 
@@ -32,6 +32,14 @@ fn begins(alloc: Global, source: &mut MemSource, wanted: &[u8]) -> bool {
     }
 }
 
+/// Whether the first three bytes, or those that are left, are these, and nothing is left then.
+fn keeps(alloc: Global, source: &mut MemSource, wanted: &[u8]) -> bool {
+    match read_kept(alloc, source, 3) {
+        Ok(bytes) => bytes.as_slice() == wanted && source.left().is_empty(),
+        Err(_) => false,
+    }
+}
+
 /// What was read before the second take is gone with its fault, and the rest is left.
 fn failed_take_leaves_the_rest(alloc: Global) -> Result<bool, AllocError> {
     let mut source = source(alloc, &[1])?;
@@ -57,6 +65,18 @@ fn a_front_ends_within_a_piece(rt: HostRuntime) -> Result<(), Fail> {
     Ok(())
 }
 
+/// Three bytes are kept of five, and none is left.
+fn first_bytes_are_kept(alloc: Global) -> Result<bool, AllocError> {
+    let mut source = source(alloc, &[])?;
+    Ok(keeps(alloc, &mut source, b"abc") && keeps(alloc, &mut source, b""))
+}
+
+#[test]
+fn what_is_kept_ends_and_the_rest_is_read(rt: HostRuntime) -> Result<(), Fail> {
+    assert!(rt; first_bytes_are_kept(rt.alloc())?);
+    Ok(())
+}
+
 /// A sink with room for five bytes, which fails at its second put.
 fn sink(alloc: Global) -> Result<MemSink, AllocError> {
     let room = Vec::with_capacity(alloc, 5)?;
@@ -79,6 +99,38 @@ fn failed_put_leaves_what_came_before(alloc: Global) -> Result<bool, AllocError>
 #[test]
 fn a_put_that_fails_leaves_what_came_before(rt: HostRuntime) -> Result<(), Fail> {
     assert!(rt; failed_put_leaves_what_came_before(rt.alloc())?);
+    Ok(())
+}
+
+/// Of four offers the first and the third wait, which are no puts, so the fourth is the second put
+/// and fails.
+fn offers_wait_at_their_numbers(alloc: Global) -> Result<bool, AllocError> {
+    let mut sink = sink(alloc)?.with_waits(Vec::from_slice(alloc, &[0, 2])?);
+    let first = sink.offer(b"ab") == Offered::Waits && sink.offer(b"ab") == Offered::Some(2);
+    let then = sink.offer(b"c") == Offered::Waits && sink.offer(b"c") == Offered::Failed;
+    let put = sink.faults() == 1 && sink.put(b"c") == Put::Some(1);
+    Ok(first && then && put && sink.held() == b"abc".as_slice())
+}
+
+#[test]
+fn an_offer_that_waits_takes_nothing(rt: HostRuntime) -> Result<(), Fail> {
+    assert!(rt; offers_wait_at_their_numbers(rt.alloc())?);
+    Ok(())
+}
+
+/// Both are told, and nothing else changes.
+fn settled_and_hurried(alloc: Global) -> Result<bool, AllocError> {
+    let (mut source, mut sink) = (source(alloc, &[])?, sink(alloc)?);
+    let before = !source.is_settled() && !sink.is_hurried();
+    source.settle();
+    sink.hurry();
+    let after = source.is_settled() && sink.is_hurried() && sink.held().is_empty();
+    Ok(before && after && begins(alloc, &mut source, b"abc"))
+}
+
+#[test]
+fn a_link_is_settled_and_hurried(rt: HostRuntime) -> Result<(), Fail> {
+    assert!(rt; settled_and_hurried(rt.alloc())?);
     Ok(())
 }
 

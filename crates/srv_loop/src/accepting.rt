@@ -1,7 +1,7 @@
 //! The accept loop.
 ghost use Rattle.std.specs.Prelude.{◌≡◌, ℕ, ◌+◌, ◌*◌, nat_eq, ◌≤◌, true, false, List, [], ◌∷◌};
 ghost use Rattle.std.specs.Prelude.{length, take, IfOk, OnErr};
-ghost use Rattle.out_ports.specs.Ports.{raised, RoseBy};
+ghost use Rattle.out_ports.specs.Ports.{raised, Rose, RoseBy, gave_after, stops_after};
 ghost use Rattle.srv_loop.specs.Fates.{full_in, unserved_in, IsFateOf};
 ghost use Rattle.srv_loop.specs.Links.{Opened, AreLed, AreTaken, jobs_of, OnlyGrew};
 ghost use Rattle.srv_loop.specs.Tallies.{links_of, accepts_of, Counts, HasEnded};
@@ -12,10 +12,10 @@ use out_ports::ports::{Accepted, Listen, Spawner};
 use std::alloc::Global;
 use std::sync::Wait;
 
-/// Accepts `count` times, or until no more links come. Each link is welcomed once. Its first job is
-/// started, and its second one where the spawner took the first. A link that was opened and of
-/// which the spawner didn't take both jobs is dismissed once. What was done before want of memory
-/// stands.
+/// Accepts `count` times, or until no more links come, and then closes the listener. Each link is
+/// welcomed once. Its first job is started, and its second one where the spawner took the first. A
+/// link that was opened and of which the spawner didn't take both jobs is dismissed once. What was
+/// done before want of memory stands; that of a desk that is over is told where nobody comes.
 pub fn accept_all<Rt: Wait, Li: Listen, D: Desk<Li::R, Li::W>, Sp: Spawner<D::Job>>(
     rt: &Rt,
     alloc: Global,
@@ -47,6 +47,8 @@ pub fn accept_all<Rt: Wait, Li: Listen, D: Desk<Li::R, Li::W>, Sp: Spawner<D::Jo
         raised (2 * tally.served) (Sp.took spawner.old) ≤ Sp.took spawner.new) }
     ensures spent { (D.deeds desk.old).spent ≡ true → (D.deeds desk.new).spent ≡ true }
     ensures can_start { (job : D.Job) → Sp.can_start spawner.new job }
+    // However it ends, who connects later is refused.
+    ensures closed { Li.closed listener.new ≡ true }
     // Counts of faults never fall, and what else a host tells stays.
     ensures lasting { Li.faults listener.old ≤ Li.faults listener.new }
     ensures spawner_lasting { Sp.faults spawner.old ≤ Sp.faults spawner.new }
@@ -60,17 +62,58 @@ pub fn accept_all<Rt: Wait, Li: Listen, D: Desk<Li::R, Li::W>, Sp: Spawner<D::Jo
 {
     let mut tally = Tally::new();
     for _ in 0..count {
-        match listener.accept(alloc) {
-            Accepted::Link(reads, writes) => {
-                let fate = lead(rt, desk, spawner, reads, writes)?;
-                tally.count(fate);
-            }
-            Accepted::Stopped => return Ok(tally),
+        match next_answer(rt, alloc, listener, desk) {
+            Accepted::Link(reads, writes) => match lead(rt, desk, spawner, reads, writes) {
+                Ok(fate) => tally.count(fate),
+                Err(NoMemory) => {
+                    listener.close();
+                    return Err(NoMemory);
+                }
+            },
             Accepted::Failed => tally.failed += 1,
-            Accepted::NoMemory => return Err(NoMemory),
+            Accepted::Stopped => {
+                listener.close();
+                return Ok(tally);
+            }
+            Accepted::Nobody | Accepted::NoMemory => {
+                listener.close();
+                return Err(NoMemory);
+            }
         }
     }
+    listener.close();
     Ok(tally)
+}
+
+/// Waits for an answer of the listener other than that nobody came, or that nobody came and the
+/// desk is over.
+fn next_answer<Rt: Wait, Li: Listen, D: Desk<Li::R, Li::W>>(
+    rt: &Rt,
+    alloc: Global,
+    listener: &mut Li,
+    desk: &D,
+) -> Accepted<Li::R, Li::W>
+    ensures links { Li.gave listener.new ≡ gave_after result (Li.gave listener.old) }
+    ensures ends { Li.stops listener.new ≡ stops_after result (Li.stops listener.old) }
+    ensures place { Li.address listener.new ≡ Li.address listener.old }
+    ensures same_files { Li.files listener.new ≡ Li.files listener.old }
+    ensures same_file_faults { Li.file_faults listener.new ≡ Li.file_faults listener.old }
+    ensures same_port_faults { Li.port_faults listener.new ≡ Li.port_faults listener.old }
+    ensures lasting { Li.faults listener.old ≤ Li.faults listener.new }
+    ensures cause { result ≡ Accepted.Failed →
+        Rose (Li.faults listener.old) (Li.faults listener.new) }
+{
+    for _ in rt.forever() {
+        match listener.accept(alloc) {
+            Accepted::Nobody => {
+                if desk.is_over() {
+                    return Accepted::Nobody;
+                }
+            }
+            answer => return answer,
+        }
+    }
+    unreachable!()
 }
 
 /// Leads a link to the desk, and its jobs to the spawner.

@@ -41,6 +41,9 @@ pub trait Desk<R, W> {
         ensures stands { OnErr result (Begins (deeds self.old).opened (deeds self.new).opened) }
         ensures same_full { OnErr result ((deeds self.new).full ≡ (deeds self.old).full) };
 
+    /// Whether it opens no further link, as its server was given up for want of memory.
+    fn is_over(&self) -> bool;
+
     /// Dismisses a link that it opened, whose jobs don't both run. A desk that is spent changes
     /// nothing.
     fn dismiss<Rt: Wait>(&mut self, rt: &Rt, number: u32) -> Result<(), NoMemory>

@@ -1,5 +1,5 @@
 //! A host in memory.
-ghost use Rattle.std.specs.Prelude.{◌≡◌, ◌≤◌, ◌↔◌, Some, length, vec_len};
+ghost use Rattle.std.specs.Prelude.{◌≡◌, ◌≤◌, ◌↔◌, true, Some, length, vec_len};
 ghost use Rattle.std.specs.Prelude.{IfOk, IsTrue, IsErrOf, is_ok};
 ghost use Rattle.std.specs.Option.{option_copied};
 ghost use Rattle.out_ports.specs.Limits.{most_read};
@@ -91,6 +91,8 @@ impl Listen for MemHost {
 
     ghost address = { λ h. h.address };
 
+    ghost closed = { λ h. h.listen.closed };
+
     ghost files = { λ h. Some h.files };
 
     ghost file_faults = { λ h. h.file_calls.faults };
@@ -113,6 +115,12 @@ impl Listen for MemHost {
             return Accepted::Stopped;
         }
         self.listen.accept(alloc)
+    }
+
+    fn close(&mut self)
+        ensures { self.new ≡ record self.old { listen = record self.old.listen { closed = true } } }
+    {
+        self.listen.close();
     }
 }
 
@@ -174,6 +182,7 @@ impl Host for MemHost {
             return Err(HostFault::Failed);
         }
         self.address = Some(String::from_str(alloc, addr)?);
+        self.listen.open();
         Ok(())
     }
 }

@@ -1,7 +1,6 @@
 //! Links in memory, and a listener that gives them.
-ghost use Rattle.std.specs.Prelude.{◌≡◌, ◌≤◌, [], None, Some};
-ghost use Rattle.out_ports.specs.Ports.{raised};
-ghost use Rattle.out_ports.specs.MemListen.{listener_of, accept_answer, after_accept};
+ghost use Rattle.std.specs.Prelude.{◌≡◌, ◌≤◌, true, false, [], None, Some};
+ghost use Rattle.out_ports.specs.MemListen.{listener_of, accept_answer, after_accept, after_stop};
 
 use super::calls::Calls;
 use super::sink::MemSink;
@@ -24,6 +23,7 @@ pub struct MemListen {
     gave: u64,
     stops: u64,
     calls: Calls,
+    closed: bool,
 }
 
 impl Model for MemListen {
@@ -36,11 +36,12 @@ impl Model for MemListen {
       gave = l.gave;
       stops = l.stops;
       calls = l.calls;
+      closed = l.closed;
     } };
 }
 
 impl MemListen {
-    /// A listener that fails at these accepts.
+    /// A listener that fails at these accepts. One that is closed stops, which is no call.
     pub fn new(links: Vec<MemLink>, failing: Vec<u64>) -> Self
         ensures { result ≡ listener_of links.items failing.items }
     {
@@ -49,6 +50,7 @@ impl MemListen {
             gave: 0,
             stops: 0,
             calls: Calls::new(failing),
+            closed: false,
         }
     }
 
@@ -66,11 +68,25 @@ impl MemListen {
         self.stops
     }
 
+    /// Whether it was closed.
+    pub fn is_closed(&self) -> bool
+        ensures { result ≡ self.now.closed }
+    {
+        self.closed
+    }
+
     /// Counts a stop that is no call.
     pub(super) fn stop(&mut self)
-        ensures { self.new ≡ record self.old { stops = raised 1 self.old.stops } }
+        ensures { self.new ≡ after_stop self.old }
     {
         self.stops = self.stops.saturating_add(1);
+    }
+
+    /// Accepts again.
+    pub(super) fn open(&mut self)
+        ensures { self.new ≡ record self.old { closed = false } }
+    {
+        self.closed = false;
     }
 }
 
@@ -86,6 +102,8 @@ impl Listen for MemListen {
     ghost faults = { λ l. l.calls.faults };
 
     ghost address = { λ _. Some [] };
+
+    ghost closed = { λ l. l.closed };
 
     ghost files = { λ _. None };
 
@@ -103,6 +121,10 @@ impl Listen for MemListen {
         ensures after { self.new ≡ after_accept result self.old }
         ensures lasting { self.old.calls.faults ≤ self.new.calls.faults }
     {
+        if self.closed {
+            self.stop();
+            return Accepted::Stopped;
+        }
         if self.calls.fails() {
             return Accepted::Failed;
         }
@@ -113,5 +135,12 @@ impl Listen for MemListen {
         self.gave = self.gave.saturating_add(1);
         let link = self.links.remove(0);
         Accepted::Link(link.reads, link.writes)
+    }
+
+    /// The links that are left stay, and are given to nobody.
+    fn close(&mut self)
+        ensures { self.new ≡ record self.old { closed = true } }
+    {
+        self.closed = true;
     }
 }

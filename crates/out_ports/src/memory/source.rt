@@ -1,10 +1,10 @@
 //! A source in memory.
-ghost use Rattle.std.specs.Prelude.{◌≡◌, ◌<◌, ◌≤◌, Some, length};
+ghost use Rattle.std.specs.Prelude.{◌≡◌, ◌<◌, ◌≤◌, true, Some, length};
 ghost use Rattle.out_ports.specs.Ports.{FitsBuffer, IsTaken};
 ghost use Rattle.out_ports.specs.MemSource.{source_of, take_answer, after_take, buffer_after};
 
 use super::calls::Calls;
-use crate::ports::{Source, Took};
+use crate::ports::{Incoming, Source, Took};
 use std::marker::Model;
 
 /// A source that gives these bytes.
@@ -15,6 +15,7 @@ pub struct MemSource {
     piece: usize,
     ended: bool,
     calls: Calls,
+    settled: bool,
 }
 
 impl Model for MemSource {
@@ -29,6 +30,7 @@ impl Model for MemSource {
       piece = s.piece;
       ended = s.ended;
       calls = s.calls;
+      settled = s.settled;
     } };
 
     ghost invariant = { λ s. (s.at ≤ length s.bytes.items) × (1 ≤ s.piece) };
@@ -46,6 +48,7 @@ impl MemSource {
             piece,
             ended: false,
             calls: Calls::new(failing),
+            settled: false,
         }
     }
 
@@ -54,6 +57,13 @@ impl MemSource {
         ensures { result.now ≡ self.now.left }
     {
         &self.bytes[self.at..]
+    }
+
+    /// Whether it was settled.
+    pub fn is_settled(&self) -> bool
+        ensures { result ≡ self.now.settled }
+    {
+        self.settled
     }
 }
 
@@ -92,5 +102,14 @@ impl Source for MemSource {
         buf[..n].copy_from_slice(&left[..n]);
         self.at += n;
         Took::Some(n)
+    }
+}
+
+impl Incoming for MemSource {
+    /// It waits for nobody, before and afterwards.
+    fn settle(&mut self)
+        ensures { self.new ≡ record self.old { settled = true } }
+    {
+        self.settled = true;
     }
 }

@@ -5,6 +5,7 @@ use std::alloc::Global;
 use std::net::{Net, TcpListener, TcpStream};
 use std::rt::Files;
 use std::test::Fail;
+use std::time::Clock;
 
 /// How many bytes of a file are given.
 fn given<H: Host>(host: &mut H, alloc: Global, name: &str) -> Result<usize, HostFault> {
@@ -16,7 +17,7 @@ fn given<H: Host>(host: &mut H, alloc: Global, name: &str) -> Result<usize, Host
 /// isn't there is a fault.
 fn host_reads_files<Rt>(rt: &Rt, alloc: Global) -> bool
 where
-    Rt: Files + Net<Listener = TcpListener, Stream = TcpStream>,
+    Rt: Clock + Files + Net<Listener = TcpListener, Stream = TcpStream>,
 {
     let mut host = RealHost::new(rt);
     let long = given(&mut host, alloc, "/dev/zero") == Ok(FILE_READ);

@@ -1,4 +1,5 @@
 //! Both ends of links over loopback.
+use super::waits::hardly_draining;
 use crate::{RealHost, TcpSink, TcpSource};
 use out_ports::ports::{Accepted, Host, Listen, Put, Sink, Source, Took};
 use std::alloc::Global;
@@ -6,24 +7,25 @@ use std::io::{Read, Write};
 use std::net::{Net, TcpListener, TcpStream};
 use std::rt::Files;
 use std::test::Fail;
+use std::time::Clock;
 
 /// The client's end of a link, and the server's two halves.
 #[derive(Drop)]
-pub struct Ends {
+pub struct Ends<'a, Rt> {
     pub client: TcpStream,
-    pub reads: TcpSource,
-    pub writes: TcpSink,
+    pub reads: TcpSource<'a, Rt>,
+    pub writes: TcpSink<'a, Rt>,
 }
 
 /// A link to a host that listens at this address of the machine's own.
-pub(super) fn link_to<Rt>(
-    rt: &Rt,
+pub(super) fn link_to<'a, Rt>(
+    rt: &'a Rt,
     alloc: Global,
-    host: &mut RealHost<'_, Rt>,
+    host: &mut RealHost<'a, Rt>,
     address: &str,
-) -> Option<Ends>
+) -> Option<Ends<'a, Rt>>
 where
-    Rt: Files + Net<Listener = TcpListener, Stream = TcpStream>,
+    Rt: Clock + Files + Net<Listener = TcpListener, Stream = TcpStream>,
 {
     let number = host.port_number()?;
     let client = TcpStream::connect(rt, (address, number)).ok()?;
@@ -38,7 +40,7 @@ where
 }
 
 /// What the client sends comes to the host, and what the host puts comes to the client.
-fn talks(ends: &mut Ends) -> bool {
+fn talks<Rt: Clock>(ends: &mut Ends<'_, Rt>) -> bool {
     let mut buf = [0; 8];
     let sent = ends.client.write_all(b"ask").is_ok();
     let asked = ends.reads.take(&mut buf) == Took::Some(3) && buf.starts_with(b"ask");
@@ -48,7 +50,7 @@ fn talks(ends: &mut Ends) -> bool {
 }
 
 /// A client that has read all and goes is the link's end.
-fn ends_with_its_client(ends: Ends) -> bool {
+fn ends_with_its_client<Rt: Clock>(ends: Ends<'_, Rt>) -> bool {
     let Ends {
         client,
         mut reads,
@@ -59,7 +61,7 @@ fn ends_with_its_client(ends: Ends) -> bool {
 }
 
 /// A client that goes with bytes unread resets the link: a failure of both halves, and no signal.
-fn fails_where_it_is_reset(ends: Ends) -> bool {
+fn fails_where_it_is_reset<Rt: Clock>(ends: Ends<'_, Rt>) -> bool {
     let Ends {
         client,
         mut reads,
@@ -72,7 +74,7 @@ fn fails_where_it_is_reset(ends: Ends) -> bool {
 }
 
 /// A writer that is finished ends the link's reader, though the client stays.
-fn ends_where_it_is_finished(ends: Ends) -> bool {
+fn ends_where_it_is_finished<Rt: Clock>(ends: Ends<'_, Rt>) -> bool {
     let Ends {
         client: _client,
         mut reads,
@@ -85,9 +87,10 @@ fn ends_where_it_is_finished(ends: Ends) -> bool {
 /// Three links to one host, over IP version 4.
 fn three_links<Rt>(rt: &Rt, alloc: Global) -> Option<bool>
 where
-    Rt: Files + Net<Listener = TcpListener, Stream = TcpStream>,
+    Rt: Clock + Files + Net<Listener = TcpListener, Stream = TcpStream>,
 {
     let mut host = RealHost::new(rt);
+    host.waits = hardly_draining();
     let stopped = matches!(host.accept(alloc), Accepted::Stopped);
     host.port(alloc, "127.0.0.1:0").ok()?;
     let mut first = link_to(rt, alloc, &mut host, "127.0.0.1")?;
@@ -106,7 +109,7 @@ fn links_over_loopback(rt: HostRuntime) -> Result<(), Fail> {
 /// A link over IP version 6. A machine that hasn't got it shows nothing.
 fn sixth_version<Rt>(rt: &Rt, alloc: Global) -> Option<bool>
 where
-    Rt: Files + Net<Listener = TcpListener, Stream = TcpStream>,
+    Rt: Clock + Files + Net<Listener = TcpListener, Stream = TcpStream>,
 {
     let mut host = RealHost::new(rt);
     if host.port(alloc, "[::1]:0").is_err() {
@@ -122,10 +125,29 @@ fn a_link_over_the_sixth_version(rt: HostRuntime) -> Result<(), Fail> {
     Ok(())
 }
 
+/// A link to a host whose address is a name. A machine that hasn't got the name shows nothing.
+fn by_name<Rt>(rt: &Rt, alloc: Global) -> Option<bool>
+where
+    Rt: Clock + Files + Net<Listener = TcpListener, Stream = TcpStream>,
+{
+    let mut host = RealHost::new(rt);
+    if host.port(alloc, "localhost:0").is_err() {
+        return Some(true);
+    }
+    let mut link = link_to(rt, alloc, &mut host, "localhost")?;
+    Some(talks(&mut link))
+}
+
+#[test]
+fn a_link_to_a_name(rt: HostRuntime) -> Result<(), Fail> {
+    assert!(rt; by_name(&rt, rt.alloc()) == Some(true));
+    Ok(())
+}
+
 /// An address in use is a fault, and one that is no address is another.
 fn ports_fail<Rt>(rt: &Rt, alloc: Global) -> Option<bool>
 where
-    Rt: Files + Net<Listener = TcpListener, Stream = TcpStream>,
+    Rt: Clock + Files + Net<Listener = TcpListener, Stream = TcpStream>,
 {
     let mut host = RealHost::new(rt);
     host.port(alloc, "127.0.0.1:0").ok()?;

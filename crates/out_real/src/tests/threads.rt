@@ -1,5 +1,6 @@
 //! Jobs in threads of a scope.
 use super::links::{Ends, link_to};
+use super::waits::hardly_draining;
 use crate::{RealHost, ScopeSpawner, TcpSink, TcpSource, start_in};
 use out_ports::ports::{Host, Run, Sink, Source, Spawner, Took};
 use std::alloc::Global;
@@ -9,6 +10,7 @@ use std::sync::Wait;
 use std::sync::atomic::{AtomicU64, Ordering};
 use std::test::Fail;
 use std::thread::{self, Threads};
+use std::time::Clock;
 
 /// A job that adds to a sum.
 #[derive(Drop)]
@@ -46,12 +48,12 @@ fn a_scope_ends_once_its_jobs_have_ended(rt: HostRuntime) -> Result<(), Fail> {
 /// A half of a link as a job: the reading one waits for the end, and counts one where it comes, and
 /// the writing one is finished.
 #[derive(Drop)]
-enum Half<'a> {
-    Reads(TcpSource, &'a AtomicU64),
-    Writes(TcpSink),
+enum Half<'a, Rt> {
+    Reads(TcpSource<'a, Rt>, &'a AtomicU64),
+    Writes(TcpSink<'a, Rt>),
 }
 
-impl<'a> Run for Half<'a> {
+impl<'a, C: Clock> Run for Half<'a, C> {
     fn run<Rt: Wait>(self, _rt: &Rt) {
         match self {
             Half::Reads(reads, ends) => count_end(reads, ends),
@@ -60,7 +62,7 @@ impl<'a> Run for Half<'a> {
     }
 }
 
-fn count_end(mut reads: TcpSource, ends: &AtomicU64) {
+fn count_end<Rt: Clock>(mut reads: TcpSource<'_, Rt>, ends: &AtomicU64) {
     if reads.take(&mut [0; 8]) == Took::End {
         ends.fetch_add(1, Ordering::SeqCst);
     }
@@ -69,9 +71,10 @@ fn count_end(mut reads: TcpSource, ends: &AtomicU64) {
 /// How many readers come to an end, of a link whose client stays and says nothing.
 fn ends_of_two_halves<Rt>(rt: &Rt, alloc: Global) -> Option<u64>
 where
-    Rt: Files + Net<Listener = TcpListener, Stream = TcpStream> + Threads + Wait + Sync,
+    Rt: Clock + Files + Net<Listener = TcpListener, Stream = TcpStream> + Threads + Wait + Sync,
 {
     let mut host = RealHost::new(rt);
+    host.waits = hardly_draining();
     host.port(alloc, "127.0.0.1:0").ok()?;
     let Ends {
         client: _client,

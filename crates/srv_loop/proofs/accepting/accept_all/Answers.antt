@@ -2,7 +2,7 @@ use Rattle.std.proofs.Common.{refl, ◌∙◌, arith}
 use Rattle.srv_loop.proofs.Leading.{RoseBy-more}
 use Rattle.srv_loop.proofs.Many.{AllLed-none, AllLed-more, AllLed-many, AllLed-jobs, at_least_more, one_more}
 use Rattle.srv_loop.proofs.accepting.accept_all.Goals as goal
-use Rattle.srv_loop.proofs.accepting.accept_all.Goals.{in-Link+in_ok-fate-in-Link, in-Failed}
+use Rattle.srv_loop.proofs.accepting.accept_all.Goals.{in-Link+in-Ok, in-Failed}
 
 pub loop-init : goal.loop-init
 loop-init g c =
@@ -27,13 +27,13 @@ loop-init g c =
 pub loop-preserved : goal.loop-preserved
 loop-preserved g c =
     let so_far = c.loop.invariant in
-    elim c.match-accept.branch [
-      | in-Link+in_ok-fate-in-Link w ↦
+    elim c.match-next_answer.branch [
+      | in-Link+in-Ok w ↦
           let link = w.in-Link.ensures in
-          let fate = w.in_ok-fate-in-Link.ensures in
+          let fate = w.in-Ok.ensures in
           let counted = w.count.ensures in
           let sums =
-          one_more c.loop.tally w.count.new.self w.in_ok-fate-in-Link.fate
+          one_more c.loop.tally w.count.new.self w.in-Ok.fate
           counted.served counted.full counted.unserved in
           rw (w.desk-is, w.spawner-is, w.tally-is) (record {
             accepts = omega (arith, so_far.accepts, sums, counted.failed);
