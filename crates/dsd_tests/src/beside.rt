@@ -10,7 +10,7 @@ use out_real::start_in;
 use sr_pass::{Judge, NoNames};
 use srv_desk::GateDesk;
 use srv_session::{Seated, Served};
-use srv_turns::{Turns, serve_reader};
+use srv_turns::{Behind, Turns, serve_reader};
 use std::alloc::{AllocError, Global};
 use std::sync::atomic::{AtomicU64, Ordering};
 use std::sync::{Arc, Wait};
@@ -41,6 +41,8 @@ impl<T: Turns> Turns for Held<T> {
 
     ghost spent = { λ s. T.spent s.turns };
 
+    ghost lost = { λ s. T.lost s.turns };
+
     fn commit<R: Wait>(&mut self, rt: &R, step: Step) -> Result<Reply, GateFault> {
         wait_for(&self.counts.answered, self.least, &self.counts.lost);
         let answer = self.turns.commit(rt, step);
@@ -48,8 +50,25 @@ impl<T: Turns> Turns for Held<T> {
         answer
     }
 
+    fn commit_row<R: Wait>(
+        &mut self,
+        rt: &R,
+        step: Step,
+        behind: Behind,
+        replies: &mut Vec<Reply>,
+    ) -> Result<(), GateFault> {
+        wait_for(&self.counts.answered, self.least, &self.counts.lost);
+        let answer = self.turns.commit_row(rt, step, behind, replies);
+        self.counts.answered.fetch_add(1, Ordering::SeqCst);
+        answer
+    }
+
     fn rest<R: Wait>(&mut self, rt: &R) {
         self.turns.rest(rt);
+    }
+
+    fn has_ended<R: Wait>(&mut self, rt: &R, connection: u32) -> bool {
+        self.turns.has_ended(rt, connection)
     }
 }
 
@@ -90,7 +109,7 @@ fn seated_reader<'g, Rt: Wait, S: Space + Drop, J: Judge + Drop, B: Behaves + Dr
 ) -> Option<Reader<Seated<'g, Served<S, J, B>>>> {
     let connection = desk.open(rt).ok()??;
     let turns = Held {
-        turns: desk.seat(),
+        turns: desk.seat(0),
         least,
         counts: Arc::try_clone(counts).ok()?,
     };

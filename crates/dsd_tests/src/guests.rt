@@ -2,7 +2,9 @@
 ghost use Rattle.std.specs.Prelude.{◌≡◌, None, option_map};
 ghost use Rattle.std.specs.String.{string_bytes};
 
-use out_ports::ports::{Accepted, Host, HostFault, Listen, Put, Sink, Source, Took};
+use out_ports::ports::{
+    Accepted, Host, HostFault, Incoming, Listen, Offered, Outgoing, Put, Sink, Source, Took,
+};
 use std::alloc::Global;
 use std::sync::atomic::{AtomicU64, Ordering};
 use std::thread;
@@ -83,6 +85,10 @@ impl<'a> Source for Guest<'a> {
     }
 }
 
+impl<'a> Incoming for Guest<'a> {
+    fn settle(&mut self) {}
+}
+
 /// The writing half of a link. It counts the texts that come in it, each once it is there and those
 /// before it came. `texts` stand in reverse.
 #[derive(Drop)]
@@ -141,6 +147,18 @@ impl<'a> Sink for Hearer<'a> {
     }
 }
 
+impl<'a> Outgoing for Hearer<'a> {
+    /// Its peer never waits.
+    fn offer(&mut self, piece: &[u8]) -> Offered {
+        match self.put(piece) {
+            Put::Some(n) => Offered::Some(n),
+            Put::Failed => Offered::Failed,
+        }
+    }
+
+    fn hurry(&mut self) {}
+}
+
 /// A link's two halves.
 #[derive(Drop)]
 pub struct Link<'a> {
@@ -182,6 +200,7 @@ pub struct Door<'a> {
     config: Vec<u8>,
     links: Vec<Link<'a>>,
     address: Option<String>,
+    closed: bool,
     gave: u64,
     stops: u64,
 }
@@ -192,6 +211,7 @@ pub fn door_with<'a>(config: Vec<u8>, links: Vec<Link<'a>>) -> Door<'a> {
         config,
         links,
         address: None,
+        closed: false,
         gave: 0,
         stops: 0,
     }
@@ -210,6 +230,8 @@ impl<'a> Listen for Door<'a> {
 
     ghost address = { λ h. option_map string_bytes h.address };
 
+    ghost closed = { λ h. h.closed };
+
     ghost files = { λ _. None };
 
     ghost file_faults = { λ _. 0 };
@@ -221,7 +243,7 @@ impl<'a> Listen for Door<'a> {
     }
 
     fn accept(&mut self, _alloc: Global) -> Accepted<Guest<'a>, Hearer<'a>> {
-        if self.address.is_none() {
+        if self.closed || self.address.is_none() {
             self.stops = self.stops.saturating_add(1);
             return Accepted::Stopped;
         }
@@ -235,6 +257,10 @@ impl<'a> Listen for Door<'a> {
                 Accepted::Stopped
             }
         }
+    }
+
+    fn close(&mut self) {
+        self.closed = true;
     }
 }
 
@@ -257,6 +283,7 @@ impl<'a> Host for Door<'a> {
 
     fn port(&mut self, alloc: Global, addr: &str) -> Result<(), HostFault> {
         self.address = Some(String::from_str(alloc, addr)?);
+        self.closed = false;
         Ok(())
     }
 }

@@ -49,10 +49,10 @@ fn three_passes<R: Wait>(rt: &R, alloc: Global) -> Option<u64> {
     let Ok((gate, mut first)) = Gate::begin(alloc, Sum { total: 100 }, 3) else {
         return None;
     };
-    let Ok(mut second) = gate.split(&mut first) else {
+    let Ok(mut second) = gate.split(&mut first, 0) else {
         return None;
     };
-    let Ok(mut third) = gate.split(&mut first) else {
+    let Ok(mut third) = gate.split(&mut first, 0) else {
         return None;
     };
     let _ = answer(rt, &gate, &mut third, 20);
@@ -74,7 +74,7 @@ fn one_dropped<R: Wait>(rt: &R, alloc: Global) -> (u64, u64) {
     let Ok((gate, mut first)) = Gate::begin(alloc, Sum { total: 0 }, 2) else {
         return (0, 0);
     };
-    let Ok(mut second) = gate.split(&mut first) else {
+    let Ok(mut second) = gate.split(&mut first, 0) else {
         return (0, 0);
     };
     let before = answer(rt, &gate, &mut second, 3);

@@ -5,11 +5,13 @@ mod laws;
 mod sums;
 
 pub use laws::each_reply_is_the_sum_of_a_front;
-pub use sums::Sum;
+pub use sums::{Sum, UpTo};
 
 #[cfg(test)]
 mod alone;
 #[cfg(test)]
 mod orders;
+#[cfg(test)]
+mod rows;
 #[cfg(test)]
 mod together;

@@ -100,7 +100,7 @@ fn split_one<R: Wait>(
     ensures none_lost { OnSome result (NoneIsLost (view first.old) others.old.items
         → NoneIsLost (view first.new) others.new.items) }
 {
-    let Ok(mut pass) = gate.split(first) else {
+    let Ok(mut pass) = gate.split(first, 0) else {
         return None;
     };
     let _ = answer(rt, gate, &mut pass, step);

@@ -5,6 +5,7 @@ ghost use Rattle.turn_gate.specs.Gates.{view, IsPassOf};
 ghost use Rattle.turn_gate.specs.Passes.{IsSame};
 
 use crate::Sum;
+use crate::alone::answer;
 use std::alloc::Global;
 use std::sync::Wait;
 use std::test::Fail;
@@ -69,7 +70,7 @@ fn three_steps<R: Threads + Wait + Sync>(
         return None;
     };
     let shared = &gate;
-    let Ok(second) = shared.split(&mut first) else {
+    let Ok(second) = shared.split(&mut first, 0) else {
         return None;
     };
     let (one, two) = join(
@@ -126,7 +127,7 @@ fn woken<R: Threads + Wait + Sync>(rt: &R, alloc: Global) -> u64 {
         return 0;
     };
     let shared = &gate;
-    let Ok(second) = shared.split(&mut first) else {
+    let Ok(second) = shared.split(&mut first, 0) else {
         return 0;
     };
     let (resting, _committing) = join(
@@ -149,6 +150,66 @@ fn a_caller_that_rests_sees_the_step(rt: HostRuntime) -> Result<(), Fail> {
     Ok(())
 }
 
+/// Commits a hundred steps, and rests before each, but before the first of the caller that begins.
+/// The first reply is 1 where all replies are those of strict turns: 200 is added, which calls
+/// place 2, then 100, which calls place 1, and so on.
+fn turns<R: Wait>(rt: &R, gate: &Gate<Sum>, mut pass: Pass<Sum>, begins: bool) -> Done
+    requires { IsPassOf gate.now pass }
+    ensures gate { IsPassOf gate.now result.pass }
+    ensures same { IsSame (view pass) (view result.pass) }
+{
+    let mut strict = true;
+    for turn in 0..100 {
+        if !begins || turn > 0 {
+            gate.rest(rt, &pass);
+        }
+        let (step, total) = if begins {
+            (200, 300 * turn + 200)
+        } else {
+            (100, 300 * turn + 300)
+        };
+        let reply = answer(rt, gate, &mut pass, step);
+        strict = strict && reply == total;
+    }
+    Done {
+        pass,
+        replies: (u64::from(strict), 0),
+    }
+}
+
+/// Whether two callers that rest at places 1 and 2 take strict turns, each called by the other's
+/// steps alone. One that was called by its own steps too wouldn't wait for the other's.
+fn take_turns<R: Threads + Wait + Sync>(rt: &R, alloc: Global) -> bool {
+    let Ok((gate, mut first)) = Gate::begin(alloc, Sum { total: 0 }, 3) else {
+        return false;
+    };
+    let shared = &gate;
+    let Ok(second) = shared.split(&mut first, 1) else {
+        return false;
+    };
+    let Ok(third) = shared.split(&mut first, 2) else {
+        return false;
+    };
+    let (one, two) = join(
+        rt,
+        || -> Done
+            requires { IsSync R.row × IsPassOf shared.now second }
+            ensures { IsPassOf shared.entry.now result.pass }
+        { turns(rt, shared, second, true) },
+        || -> Done
+            requires { IsSync R.row × IsPassOf shared.now third }
+            ensures { IsPassOf shared.entry.now result.pass }
+        { turns(rt, shared, third, false) },
+    );
+    one.replies.0 == 1 && two.replies.0 == 1
+}
+
+#[test]
+fn a_step_calls_its_place_alone(rt: HostRuntime) -> Result<(), Fail> {
+    assert!(rt; take_turns(&rt, rt.alloc()));
+    Ok(())
+}
+
 /// Commits so many steps of 1.
 fn many_steps<R: Wait>(rt: &R, gate: &Gate<Sum>, mut pass: Pass<Sum>, count: u32) -> Pass<Sum>
     requires { IsPassOf gate.now pass }
@@ -167,7 +228,7 @@ fn crowded<R: Threads + Wait + Sync>(rt: &R, alloc: Global) -> Option<(u64, u64)
         return None;
     };
     let shared = &gate;
-    let Ok(second) = shared.split(&mut first) else {
+    let Ok(second) = shared.split(&mut first, 0) else {
         return None;
     };
     let (first, second) = join(

@@ -4,3 +4,4 @@ pub mod Small
 pub mod Tellings
 pub mod Turning
 pub mod Watching
+pub mod Waits

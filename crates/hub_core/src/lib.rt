@@ -12,6 +12,7 @@ mod packets;
 mod turns;
 mod unlooked;
 mod watchers;
+mod work;
 
 pub use hub::Hub;
 pub use hub_machine::{
@@ -20,3 +21,4 @@ pub use hub_machine::{
     refusals_change_nothing, refused_packets_have_their_cause, refused_packets_leave_nothing,
 };
 pub use rl_ports::Inbound;
+pub use work::{CLASSES, class_of};

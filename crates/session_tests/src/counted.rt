@@ -1,6 +1,6 @@
 //! A seat whose steps are counted.
 use hub_machine::{Reply, Step};
-use srv_turns::Turns;
+use srv_turns::{Behind, Turns};
 use std::sync::Wait;
 use turn_gate::GateFault;
 
@@ -45,12 +45,29 @@ impl<T: Turns, U: Turns> Turns for Counted<T, U> {
 
     ghost spent = { λ s. T.spent s.turns };
 
+    ghost lost = { λ s. T.lost s.turns };
+
     fn commit<R: Wait>(&mut self, rt: &R, step: Step) -> Result<Reply, GateFault> {
         self.counts.note(&step);
         self.turns.commit(rt, step)
     }
 
+    fn commit_row<R: Wait>(
+        &mut self,
+        rt: &R,
+        step: Step,
+        behind: Behind,
+        replies: &mut Vec<Reply>,
+    ) -> Result<(), GateFault> {
+        self.counts.note(&step);
+        self.turns.commit_row(rt, step, behind, replies)
+    }
+
     fn rest<R: Wait>(&mut self, rt: &R) {
         let _ = self.other.commit(rt, Step::Close(1));
+    }
+
+    fn has_ended<R: Wait>(&mut self, rt: &R, connection: u32) -> bool {
+        self.turns.has_ended(rt, connection)
     }
 }

@@ -1,7 +1,7 @@
 //! A sink that takes a byte at a put.
 ghost use Rattle.std.specs.Prelude.{None};
 
-use out_ports::ports::{Put, Sink};
+use out_ports::ports::{Offered, Outgoing, Put, Sink};
 
 /// Another sink, which gets a byte at a time.
 #[derive(Drop)]
@@ -26,5 +26,15 @@ impl<W: Sink> Sink for Drip<W> {
 
     fn finish(&mut self) {
         self.sink.finish();
+    }
+}
+
+impl<W: Outgoing> Outgoing for Drip<W> {
+    fn offer(&mut self, piece: &[u8]) -> Offered {
+        self.sink.offer(&piece[..1])
+    }
+
+    fn hurry(&mut self) {
+        self.sink.hurry();
     }
 }

@@ -4,7 +4,7 @@ use ds_space::Space;
 use hub_machine::Step;
 use lc_watch::Behaves;
 use out_ports::memory::{MemSink, MemSource};
-use out_ports::ports::Sink;
+use out_ports::ports::Outgoing;
 use rl_packet::{Packet, Turn};
 use rl_stream::{Next, next_packet};
 use sr_pass::Judge;
@@ -55,7 +55,7 @@ pub fn both<R: Wait, S: Space + Drop, J: Judge + Drop, B: Behaves + Drop>(
 ) -> Option<(ReaderEnd, WriterEnd, Counts)> {
     let served = Served::<S, J, B>::begin(alloc, judge, behaves).ok()?;
     let (gate, mut pass) = Gate::begin(alloc, served, 2).ok()?;
-    let other = gate.split(&mut pass).ok()?;
+    let other = gate.split(&mut pass, 1).ok()?;
     let mut seat = Counted {
         turns: Seated::new(&gate, pass),
         other: Seated::new(&gate, other),
@@ -79,7 +79,7 @@ fn turn(alloc: Global) -> Option<Turn> {
 
 /// How the writer of connection 1 at the first dataspace ends, once the connection has sent the
 /// turn above, and what was committed.
-pub fn writer<R: Wait, S: Space + Drop, J: Judge + Drop, B: Behaves + Drop, W: Sink>(
+pub fn writer<R: Wait, S: Space + Drop, J: Judge + Drop, B: Behaves + Drop, W: Outgoing>(
     rt: &R,
     alloc: Global,
     judge: J,
@@ -89,7 +89,7 @@ pub fn writer<R: Wait, S: Space + Drop, J: Judge + Drop, B: Behaves + Drop, W: S
     let turn = turn(alloc)?;
     let served = Served::<S, J, B>::begin(alloc, judge, behaves).ok()?;
     let (gate, mut pass) = Gate::begin(alloc, served, 2).ok()?;
-    let other = gate.split(&mut pass).ok()?;
+    let other = gate.split(&mut pass, 1).ok()?;
     let mut seat = Counted {
         turns: Seated::new(&gate, pass),
         other: Seated::new(&gate, other),

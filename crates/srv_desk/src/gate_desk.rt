@@ -1,5 +1,5 @@
 //! A desk at a gate over the hub.
-ghost use Rattle.std.specs.Prelude.{◌≡◌, true, [], IfOk, IfSome, OnOk, OnErr};
+ghost use Rattle.std.specs.Prelude.{◌≡◌, ◌<◌, true, [], IfOk, IfSome, OnOk, OnErr};
 ghost use Rattle.turn_gate.specs.Gates.{view, IsPassOf};
 ghost use Rattle.turn_gate.specs.Passes.{own_pairs};
 ghost use Rattle.hub_machine.specs.declared.steps.Step.TheVariants as steps;
@@ -8,9 +8,9 @@ ghost use Rattle.srv_desk.specs.Desks.{pairs_by, is_spent, IsAnswered, IsDone, H
 
 use crate::jobs::{Half, Session};
 use ds_space::Space;
-use hub_core::{Reply, Step};
+use hub_core::{Reply, Step, class_of};
 use lc_watch::Behaves;
-use out_ports::ports::{Sink, Source};
+use out_ports::ports::{Incoming, Outgoing};
 use sr_pass::Judge;
 use srv_loop::{Desk, NoMemory};
 use srv_session::{Seated, Served, ServedStep};
@@ -58,8 +58,16 @@ impl<'g, T: Replayed> GateDesk<'g, T> {
         }
     }
 
-    /// A seat at the gate for another caller, which has done nothing yet.
-    pub fn seat(&mut self) -> Seated<'g, T>
+    /// The memory that sessions take.
+    pub fn alloc(&self) -> Global
+        ensures { result ≡ self.now.alloc }
+    {
+        self.alloc
+    }
+
+    /// A seat at the gate for another caller, which has done nothing yet and rests at this place.
+    pub fn seat(&mut self, place: usize) -> Seated<'g, T>
+        requires { place < 64 }
         ensures new { own_pairs (view result.pass) ≡ [] }
         ensures gate { result.gate.now ≡ self.old.gate.now }
         ensures same_gate { self.new.gate.now ≡ self.old.gate.now }
@@ -67,7 +75,7 @@ impl<'g, T: Replayed> GateDesk<'g, T> {
         ensures floor { (view self.new.pass).floor ≡ (view self.old.pass).floor }
         ensures full { self.new.full ≡ self.old.full }
     {
-        let Ok(pass) = self.gate.split(&mut self.pass) else {
+        let Ok(pass) = self.gate.split(&mut self.pass, place) else {
             unreachable!()
         };
         Seated::new(self.gate, pass)
@@ -155,8 +163,8 @@ impl<
     S: Space + Drop,
     J: Judge + Drop,
     B: Behaves + Drop,
-    R: Source + Drop,
-    W: Sink + Drop,
+    R: Incoming + Drop,
+    W: Outgoing + Drop,
 > Desk<R, W> for GateDesk<'g, Served<S, J, B>> {
     ghost use Rattle.std.specs.Prelude.{◌≡◌, [], true, false};
     ghost use Rattle.turn_gate.specs.Gates.{view};
@@ -188,9 +196,14 @@ impl<
             self.full = self.full.saturating_add(1);
             return Ok(None);
         };
-        let reader = Session::new(self.alloc, number, Half::Reads(reads), self.seat());
-        let writer = Session::new(self.alloc, number, Half::Writes(writes), self.seat());
+        let place = class_of(number);
+        let reader = Session::new(self.alloc, number, Half::Reads(reads), self.seat(place));
+        let writer = Session::new(self.alloc, number, Half::Writes(writes), self.seat(place));
         Ok(Some((number, writer, reader)))
+    }
+
+    fn is_over(&self) -> bool {
+        self.gate.is_lost()
     }
 
     #[tactic(auto, using(crate::proofs::Adding::one_closed, crate::proofs::Adding::still_opened))]

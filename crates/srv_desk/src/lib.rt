@@ -9,4 +9,4 @@ mod gate_desk;
 mod jobs;
 
 pub use gate_desk::GateDesk;
-pub use jobs::{Half, Session, Worker};
+pub use jobs::{Half, Session, Worker, serve_reads, serve_writes};

@@ -83,7 +83,7 @@ trait Team<V> {
 impl<'g, S: Space + Drop, J: Judge + Drop, B: Behaves + Drop> Team<Worker<'g, Served<S, J, B>>>
     for GateDesk<'g, Served<S, J, B>> {
     fn worker(&mut self) -> Worker<'g, Served<S, J, B>> {
-        Worker::new(self.seat())
+        Worker::new(self.alloc(), self.seat(0))
     }
 
     fn end_workers<Rt: Wait>(&mut self, rt: &Rt) -> Result<(), NoMemory> {

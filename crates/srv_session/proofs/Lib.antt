@@ -1,1 +1,3 @@
 pub mod Running
+pub mod News
+pub mod Called

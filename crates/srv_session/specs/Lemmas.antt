@@ -1,2 +1,3 @@
 -- Lemmas on the definitions, which proofs above cite. A reader of the contracts needs none of them.
 pub mod Replied
+pub mod Rows

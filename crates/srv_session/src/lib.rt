@@ -10,6 +10,6 @@ mod served;
 #[cfg(test)]
 mod tests;
 
-pub use laws::histories_are_the_machines;
+pub use laws::{histories_are_the_machines, news_are_called, news_are_seen};
 pub use seated::Seated;
 pub use served::{Served, ServedStep};

@@ -7,9 +7,9 @@ use ds_space::Space;
 use hub_core::{Reply, Step};
 use lc_watch::Behaves;
 use sr_pass::Judge;
-use srv_turns::Turns;
+use srv_turns::{Behind, Turns};
 use std::sync::Wait;
-use turn_gate::{Gate, GateFault, Pass, Replayed};
+use turn_gate::{Course, Gate, GateFault, Pass, Replayed};
 
 /// A session's seat: a gate, and a pass of it.
 #[derive(Drop)]
@@ -30,6 +30,28 @@ impl<'g, T: Replayed> Seated<'g, T> {
     }
 }
 
+/// What a session does behind a step, as steps of a gate over the hub.
+#[derive(Drop)]
+struct Following {
+    behind: Behind,
+}
+
+impl<S: Space + Drop, J: Judge + Drop, B: Behaves + Drop> Course<Served<S, J, B>> for Following {
+    ghost use Rattle.srv_session.specs.Served.{served_behind};
+
+    ghost further = { λ f r. served_behind f.behind r };
+
+    fn further(&self, reply: &Reply) -> Option<ServedStep> {
+        match self.behind.further(reply) {
+            Some(Step::Work) => Some(ServedStep { step: Step::Work }),
+            Some(Step::Turn(actor)) => Some(ServedStep {
+                step: Step::Turn(actor),
+            }),
+            _ => None,
+        }
+    }
+}
+
 impl<'g, S: Space + Drop, J: Judge + Drop, B: Behaves + Drop> Turns
     for Seated<'g, Served<S, J, B>> {
     ghost use Rattle.std.specs.Prelude.{◌==◌};
@@ -42,11 +64,30 @@ impl<'g, S: Space + Drop, J: Judge + Drop, B: Behaves + Drop> Turns
 
     ghost spent = { λ s. (view s.pass).floor == most_steps };
 
+    ghost lost = { λ s. (view s.pass).lost };
+
     fn commit<R: Wait>(&mut self, rt: &R, step: Step) -> Result<Reply, GateFault> {
         self.gate.commit(rt, &mut self.pass, ServedStep::new(step))
     }
 
+    fn commit_row<R: Wait>(
+        &mut self,
+        rt: &R,
+        step: Step,
+        behind: Behind,
+        replies: &mut Vec<Reply>,
+    ) -> Result<(), GateFault> {
+        let first = ServedStep::new(step);
+        let course = Following { behind };
+        self.gate
+            .commit_row(rt, &mut self.pass, first, &course, replies)
+    }
+
     fn rest<R: Wait>(&mut self, rt: &R) {
         self.gate.rest(rt, &self.pass);
+    }
+
+    fn has_ended<R: Wait>(&mut self, rt: &R, connection: u32) -> bool {
+        self.gate.ask(rt, &mut self.pass, connection)
     }
 }

@@ -1,15 +1,17 @@
 //! The hub as a value that a gate holds.
-ghost use Rattle.std.specs.Prelude.{◌≡◌, [], IfOk};
+ghost use Rattle.std.specs.Prelude.{◌≡◌, ◌<◌, ℕ, [], false, get_or, IfOk};
 ghost use Rattle.hub_machine.specs.State.{opening};
 ghost use Rattle.hub_machine.specs.Machine.{IsAllowed};
 ghost use Rattle.srv_session.specs.Allowed.{allowed_once};
+ghost use Rattle.hub_core.specs.Work.{has_work};
+ghost use Rattle.srv_session.specs.Called.{called_by};
 
 use ds_space::Space;
-use hub_core::{Hub, Reply, Step};
+use hub_core::{Hub, Reply, Step, class_of};
 use lc_watch::Behaves;
 use sr_pass::Judge;
 use std::alloc::Global;
-use turn_gate::{NoMemory, Replayed};
+use turn_gate::{NoMemory, PLACES, Replayed};
 
 /// A step that may come: a reference that it binds is one that is read back, and the events of a
 /// packet may stand on the wire.
@@ -61,7 +63,7 @@ impl<S: Space + Drop, J: Judge + Drop, B: Behaves + Drop> Served<S, J, B> {
 }
 
 impl<S: Space + Drop, J: Judge + Drop, B: Behaves + Drop> Replayed for Served<S, J, B> {
-    ghost use Rattle.srv_session.specs.Served.{served_next};
+    ghost use Rattle.srv_session.specs.Served.{served_next, served_over};
 
     type Step = ServedStep;
 
@@ -69,13 +71,28 @@ impl<S: Space + Drop, J: Judge + Drop, B: Behaves + Drop> Replayed for Served<S,
 
     ghost next = { served_next };
 
-    /// A step that nothing waited for, that sent what waited for its own connection, or that found
-    /// its actor gone or the server stopped, gives nobody else anything to do.
-    fn is_quiet(reply: &Reply) -> bool {
-        match reply {
-            Reply::Idle | Reply::Sent(_) | Reply::Gone | Reply::Halted => true,
-            _ => false,
+    ghost over = { served_over };
+
+    /// Who waits for a connection's end rests at the place of its class.
+    fn called_by(s: &ServedStep) -> Option<usize>
+        ensures { result ≡ called_by s.now.step }
+    {
+        match &s.step {
+            Step::Close(connection) => Some(class_of(*connection)),
+            _ => None,
         }
+    }
+
+    /// Its places are the classes of the hub.
+    fn work(&self) -> [bool; PLACES]
+        ensures { (p : ℕ) → p < 64 → get_or result p false ≡ has_work p self.now.hub }
+    {
+        self.hub.work_by_class()
+    }
+
+    /// Whether a connection isn't there.
+    fn is_over(&self, about: u32) -> bool {
+        !self.hub.live(about)
     }
 
     fn step(self, s: ServedStep) -> Result<(Served<S, J, B>, Reply), NoMemory> {

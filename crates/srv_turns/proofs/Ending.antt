@@ -1,6 +1,9 @@
 -- How a session ends for a reply, and where no step was done.
-use Rattle.std.proofs.Common.{◌≡◌, inl, inr, ℕ, List, [], ◌∷◌, ◌++◌, Bool, true, false, Option, None, Some, refl, ap}
-use Rattle.std.proofs.Common.{◌∙◌, IfSome}
+use Rattle.std.proofs.Common.{◌≡◌, ◌⊎◌, inl, inr, ℕ, List, [], ◌∷◌, ◌++◌, Bool, true, false, Option, None, Some, refl, ap}
+use Rattle.std.proofs.Common.{◌∙◌, IfSome, IsSome, sym, subst, append_assoc}
+use Rattle.std.specs.List.{AllByRecursion}
+use Rattle.std.proofs.lemmas.List.{map-append}
+use Rattle.ac_world.specs.Lemmas.Entries.{all_append}
 use Rattle.hub_machine.specs.declared.steps.Step.{Step}
 use Rattle.hub_machine.specs.declared.steps.Step.TheVariants as steps
 use Rattle.hub_machine.specs.declared.steps.Reply.{Reply}
@@ -14,9 +17,12 @@ use Rattle.srv_turns.specs.declared.reader.Heard.TheVariants as said_as
 use Rattle.turn_gate.specs.declared.gate.GateFault.{GateFault}
 use Rattle.turn_gate.specs.declared.gate.GateFault.TheVariants as gate
 use Rattle.srv_turns.specs.Replies.{CanBeReplied}
-use Rattle.srv_turns.specs.Rounds.{Pair}
-use Rattle.srv_turns.specs.Working.{is_for_more_work, AreForMoreWork, HasWorked}
-use Rattle.srv_turns.specs.Pausing.{after_work, end_at as worker_end_at}
+use Rattle.turn_gate.specs.Rows.{IsRow, IsCutRow}
+use Rattle.srv_turns.specs.Rounds.{Pair, worked}
+use Rattle.srv_turns.specs.Rows.{further_behind, replies_of, AreAdded, IsIdle, IsLast}
+use Rattle.srv_turns.specs.declared.committing.Behind.TheVariants.{Work}
+use Rattle.srv_turns.specs.Working.{is_for_more_work, AreForMoreWork, IsLastWork, HasWorked}
+use Rattle.srv_turns.specs.Pausing.{after_row, end_at as worker_end_at}
 use Rattle.srv_turns.specs.Keeping.{IsDone, IsCut, IsCutFor, IsRefusal, Sends, Closes, end_at, end_of}
 use Rattle.srv_turns.specs.Keeping.{after_turn, said, is_of_link}
 use Rattle.srv_turns.specs.declared.reader.ReaderEnd.{ReaderEnd}
@@ -24,33 +30,117 @@ use Rattle.srv_turns.specs.declared.reader.ReaderEnd.TheVariants as end
 use Rattle.srv_turns.specs.declared.worker.WorkerEnd.{WorkerEnd}
 use Rattle.srv_turns.specs.declared.worker.WorkerEnd.TheVariants as worker
 use Rattle.srv_turns.specs.declared.worker.After.TheVariants.{More, Rest, Over}
+use Rattle.srv_turns.proofs.Pairs.{all_snoc}
+use Rattle.srv_turns.proofs.Following.{asked_before, all_asked, same_steps, same_cut_steps, only_work}
 
 -- ---- a worker
 
-pub works_on : (r : Reply) → after_work r ≡ More → is_for_more_work r ≡ true
-works_on reply.Idle e = absurd cc
-works_on reply.Halted e = absurd cc
-works_on reply.Worn e = absurd cc
-works_on r e = refl
+abbrev asks : Reply → Option Step
+asks = further_behind Work
 
-pub rests : (r : Reply) → after_work r ≡ Rest → is_for_more_work r ≡ true
-rests reply.Idle e = refl
-rests reply.Halted e = absurd cc
-rests reply.Worn e = absurd cc
-rests r e = absurd cc
+asked_one : (r : Reply) → IsSome (asks r) → is_for_more_work r ≡ true
+asked_one reply.Halted is = absurd cc
+asked_one reply.Worn is = absurd cc
+asked_one r is = refl
 
-pub work_over : (rs : List Reply) (r : Reply) (spent : Bool) (x : WorkerEnd) → AreForMoreWork rs
-    → after_work r ≡ Over x → HasWorked (rs ++ r ∷ []) spent x
-work_over rs reply.Halted spent worker.Stopped more e = (rs, more, refl)
-work_over rs reply.Halted spent worker.Worn more e = absurd cc
-work_over rs reply.Halted spent worker.Spent more e = absurd cc
-work_over rs reply.Halted spent worker.NoMemory more e = absurd cc
-work_over rs reply.Worn spent worker.Stopped more e = absurd cc
-work_over rs reply.Worn spent worker.Worn more e = (rs, more, refl)
-work_over rs reply.Worn spent worker.Spent more e = absurd cc
-work_over rs reply.Worn spent worker.NoMemory more e = absurd cc
-work_over rs reply.Idle spent x more e = absurd cc
-work_over rs r spent x more e = absurd cc
+asked_goes : (rs : List Reply) → AllByRecursion (λ r. IsSome (asks r)) rs → AreForMoreWork rs
+asked_goes [] all = tt
+asked_goes (r ∷ rs) all = (asked_one r all.0, asked_goes rs all.1)
+
+more_for : (r : Reply) → after_row (Some r) ≡ More → is_for_more_work r ≡ true
+more_for reply.Idle e = refl
+more_for reply.Halted e = absurd cc
+more_for reply.Worn e = absurd cc
+more_for r e = refl
+
+rest_for : (last : Option Reply) → after_row last ≡ Rest → last ≡ Some reply.Idle
+rest_for None e = absurd cc
+rest_for (Some reply.Idle) e = refl
+rest_for (Some reply.Halted) e = absurd cc
+rest_for (Some reply.Worn) e = absurd cc
+rest_for (Some r) e = absurd cc
+
+over_for : (last : Option Reply) (x : WorkerEnd) → after_row last ≡ Over x
+    → ((last ≡ Some reply.Halted) × (worker.Stopped ≡ x)) ⊎ ((last ≡ Some reply.Worn) × (worker.Worn ≡ x))
+over_for None x e = absurd cc
+over_for (Some reply.Idle) x e = absurd cc
+over_for (Some reply.Halted) x e = inl (refl, cc)
+over_for (Some reply.Worn) x e = inr (refl, cc)
+over_for (Some r) x e = absurd cc
+
+module _ (ps before now : List Pair) (has : List Reply) (added : AreAdded ps before now [] has) where
+  pub row_worked : IsRow asks 33 steps.Work ps → now ≡ before ++ worked has
+  row_worked row =
+      added.pairs
+      ∙ ap (λ (qs : List Pair). before ++ qs)
+      (same_steps asks steps.Work only_work 33 steps.Work ps refl row ∙ ap worked (sym added.replies))
+
+  pub cut_worked : IsCutRow asks 33 steps.Work ps → (now ≡ before ++ worked has) × AreForMoreWork has
+  cut_worked cut = (
+    added.pairs
+        ∙ ap (λ (qs : List Pair). before ++ qs)
+        (same_cut_steps asks steps.Work only_work 33 steps.Work ps refl cut ∙ ap worked (sym added.replies)),
+    subst AreForMoreWork (sym added.replies) (asked_goes (replies_of ps) (all_asked asks 33 steps.Work ps cut)),
+  )
+
+  last_work : IsRow asks 33 steps.Work ps → (r : Reply) → IsLast has (Some r) → IsLastWork has r
+  last_work row r is = (
+    is.0,
+    asked_goes is.0 (asked_before asks 33 steps.Work ps row is.0 r (sym added.replies ∙ is.1)),
+    is.1,
+  )
+
+  goes_behind : (r : Reply) → is_for_more_work r ≡ true → IsLastWork has r → AreForMoreWork has
+  goes_behind r goes last =
+      subst AreForMoreWork (sym last.2) (all_snoc (λ x. is_for_more_work x ≡ true) last.0 r last.1 goes)
+
+  pub works_on : IsRow asks 33 steps.Work ps → (last : Option Reply) → IsLast has last → after_row last ≡ More
+      → AreForMoreWork has
+  works_on row None none e = subst AreForMoreWork (sym none) tt
+  works_on row (Some r) is e = goes_behind r (more_for r e) (last_work row r is)
+
+  -- where it rests, the last reply was Idle
+  pub rests : IsRow asks 33 steps.Work ps → (last : Option Reply) → IsLast has last → after_row last ≡ Rest
+      → AreForMoreWork has × IsIdle now
+  rests row last is e =
+      let idle : IsLast has (Some reply.Idle) = subst (IsLast has) (rest_for last e) is in (
+        goes_behind reply.Idle refl (last_work row reply.Idle idle),
+        (
+          before ++ worked idle.0,
+          steps.Work,
+          row_worked row
+              ∙ ap (λ (xs : List Reply). before ++ worked xs) idle.1
+              ∙ ap (λ (qs : List Pair). before ++ qs)
+              (map-append (λ (r : Reply). (steps.Work, r)) idle.0 (reply.Idle ∷ []))
+              ∙ sym (append_assoc before (worked idle.0) ((steps.Work, reply.Idle) ∷ [])),
+        ),
+      )
+
+  pub work_over : IsRow asks 33 steps.Work ps → (last : Option Reply) → IsLast has last → (spent : Bool) (x : WorkerEnd)
+      → after_row last ≡ Over x → HasWorked has spent x
+  work_over row last is spent x e = elim (over_for last x e) [
+    | inl halted ↦
+        subst (HasWorked has spent) halted.1
+        (last_work row reply.Halted (subst (IsLast has) halted.0 is))
+    | inr worn ↦
+        subst (HasWorked has spent) worn.1
+        (last_work row reply.Worn (subst (IsLast has) worn.0 is))
+  ]
+
+-- behind work that was done
+last_behind : (rs ss : List Reply) (r : Reply) → AreForMoreWork rs → IsLastWork ss r → IsLastWork (rs ++ ss) r
+last_behind rs ss r more (front, goes, is) = (
+  rs ++ front,
+  all_append _ rs front more goes,
+  ap (λ (xs : List Reply). rs ++ xs) is ∙ sym (append_assoc rs front (r ∷ [])),
+)
+
+pub worked_behind : (rs ss : List Reply) (spent : Bool) (x : WorkerEnd) → AreForMoreWork rs → HasWorked ss spent x
+    → HasWorked (rs ++ ss) spent x
+worked_behind rs ss spent worker.Stopped more last = last_behind rs ss reply.Halted more last
+worked_behind rs ss spent worker.Worn more last = last_behind rs ss reply.Worn more last
+worked_behind rs ss spent worker.Spent more (goes, so) = (all_append _ rs ss more goes, so)
+worked_behind rs ss spent worker.NoMemory more goes = all_append _ rs ss more goes
 
 pub work_failed : (rs : List Reply) (f : GateFault) (spent : Bool) → AreForMoreWork rs
     → (f ≡ gate.Spent → spent ≡ true) → HasWorked rs spent (worker_end_at f)

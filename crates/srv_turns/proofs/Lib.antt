@@ -1,5 +1,6 @@
 pub mod Replying
 pub mod Pairs
+pub mod Following
 pub mod Ending
 pub mod Dues
 pub mod Reading

@@ -12,12 +12,12 @@ pub all_snoc : {X : Type 0} (P : X → Type 0) (xs : List X) (y : X) → AllByRe
     → AllByRecursion P (xs ++ y ∷ [])
 all_snoc P xs y a p = all_append P xs (y ∷ []) a (p, tt)
 
--- one reply more to work
-pub worked_more : (rs : List Reply) (r : Reply) (before mid now : List Pair) → mid ≡ before ++ worked rs
-    → now ≡ mid ++ (Work, r) ∷ [] → now ≡ before ++ worked (rs ++ r ∷ [])
-worked_more rs r before mid now e f =
-    f ∙ ap (λ (ps : List Pair). ps ++ (Work, r) ∷ []) e ∙ append_assoc before (worked rs) ((Work, r) ∷ [])
-    ∙ ap (λ (ps : List Pair). before ++ ps) (sym (map-append (λ (x : Reply). (Work, x)) rs (r ∷ [])))
+-- more work
+pub worked_more : (rs ss : List Reply) (before mid now : List Pair) → mid ≡ before ++ worked rs
+    → now ≡ mid ++ worked ss → now ≡ before ++ worked (rs ++ ss)
+worked_more rs ss before mid now e f =
+    f ∙ ap (λ (ps : List Pair). ps ++ worked ss) e ∙ append_assoc before (worked rs) (worked ss)
+    ∙ ap (λ (ps : List Pair). before ++ ps) (sym (map-append (λ (x : Reply). (Work, x)) rs ss))
 
 -- one round more
 pub pairs_more : (ds : List Round) (d : Round) (before mid now : List Pair) → mid ≡ before ++ pairs_in ds

@@ -1,5 +1,6 @@
 pub mod Replies
 pub mod Rounds
+pub mod Rows
 pub mod Reading
 pub mod Writing
 pub mod Working

@@ -1,4 +1,5 @@
--- What a worker does behind each reply, as its code tells it. What is promised of a worker speaks of none of it.
+-- What a worker does behind its work, as its code tells it. What is promised of a worker speaks of none of it.
+use Rattle.std.specs.Prelude.{Option, None, Some}
 use Rattle.hub_machine.specs.declared.steps.Reply.{Reply}
 use Rattle.hub_machine.specs.declared.steps.Reply.TheVariants as reply
 use Rattle.turn_gate.specs.declared.gate.GateFault.{GateFault}
@@ -13,6 +14,11 @@ after_work reply.Idle = Rest
 after_work reply.Halted = Over end.Stopped
 after_work reply.Worn = Over end.Worn
 after_work r = More
+
+-- behind a row of work with this last reply
+abbrev pub after_row : Option Reply → After
+after_row (Some r) = after_work r
+after_row None = More
 
 -- how a worker ends where no step was done
 abbrev pub end_at : GateFault → WorkerEnd

@@ -7,7 +7,7 @@ use Rattle.rl_packet.specs.Packets.{packet_value}
 use Rattle.hub_machine.specs.declared.steps.Step.TheVariants.{Close, Turn}
 use Rattle.hub_machine.specs.declared.steps.Reply.{Reply}
 use Rattle.hub_machine.specs.declared.steps.Reply.TheVariants.{Worn, Gone, Sent}
-use Rattle.srv_turns.specs.Rounds.{Pair}
+use Rattle.srv_turns.specs.Rounds.{Pair, IsCutRound, IsWorkBehind, is_taken, worked}
 use Rattle.srv_turns.specs.declared.writer.WriterEnd.{WriterEnd}
 use Rattle.srv_turns.specs.declared.writer.WriterEnd.TheVariants as end
 
@@ -45,11 +45,17 @@ AreTurns rs = AreForMoreTurns rs ⊎ ((r : Reply) × IsLastTurn rs r)
 abbrev pub AreTurned : ℕ → List Reply → List Pair → List Pair → Type 0
 AreTurned k rs before now = now ≡ before ++ turned k rs
 
--- behind the turns the connection was closed; or it wasn't, since the steps are spent
+-- behind the turns nothing of a closing was done, or the connection was closed and the work behind that was begun
+abbrev pub IsCutClosing : ℕ → List Reply → List Pair → List Pair → Type 0
+IsCutClosing k rs before now = (half : List Pair) × IsCutRound (Close k) half × (now ≡ before ++ turned k rs ++ half)
+
+-- behind the turns the connection was closed, and the work behind that was done; or that was cut, since the steps are
+-- spent
 abbrev pub AreClosed : ℕ → List Reply → List Pair → List Pair → Bool → Type 0
 AreClosed k rs before now spent =
-    ((r : Reply) × (now ≡ before ++ turned k rs ++ (Close k, r) ∷ []))
-    ⊎ (AreTurned k rs before now × (spent ≡ true))
+    ((r : Reply) × (work : List Reply) × IsWorkBehind (is_taken r) work
+    × (now ≡ before ++ turned k rs ++ (Close k, r) ∷ worked work))
+    ⊎ (IsCutClosing k rs before now × (spent ≡ true))
 
 -- how a writer of connection k ended: the pairs before it and now, whether the steps are spent, and what the sink held
 -- and holds
@@ -64,4 +70,4 @@ HasWritten k rs before now spent held holds end.WriteFault =
 HasWritten k rs before now spent held holds end.Spent =
     AreForMoreTurns rs × AreTurned k rs before now × Appends held holds (spelled_in rs) × (spent ≡ true)
 HasWritten k rs before now spent held holds end.NoMemory =
-    AreTurns rs × AreTurned k rs before now × AppendsFront held holds (spelled_in rs)
+    AreTurns rs × IsCutClosing k rs before now × AppendsFront held holds (spelled_in rs)

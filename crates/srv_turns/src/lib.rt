@@ -13,10 +13,11 @@ mod laws;
 mod reader;
 mod receiving;
 mod rounds;
+mod rows;
 mod worker;
 mod writer;
 
-pub use committing::Turns;
+pub use committing::{Behind, ROW, Turns};
 pub use laws::replies_to_peers;
 pub use reader::{ReaderEnd, serve_reader};
 pub use worker::{WorkerEnd, serve_worker};

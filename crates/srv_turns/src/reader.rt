@@ -1,6 +1,6 @@
 //! The reader of a connection, which commits what its peer sends.
 ghost use Rattle.std.specs.Prelude.{◌≡◌, ◌≤◌, ℕ, List, ◌++◌, Some, true, false};
-ghost use Rattle.std.specs.Prelude.{[], length, IfSome, IfNone};
+ghost use Rattle.std.specs.Prelude.{[], length, IfOk, IfSome, IfNone};
 ghost use Rattle.out_ports.specs.Ports.{Rose};
 ghost use Rattle.rl_stream.specs.declared.nexts.Next.TheVariants as next;
 ghost use Rattle.rl_stream.specs.Nexts.{IsNext};
@@ -15,8 +15,9 @@ ghost use Rattle.srv_turns.specs.Keeping.{Closes, IsRefusal, Sends, IsWaiting, R
 use crate::committing::Turns;
 use crate::receiving::{PIECE, Received};
 use crate::rounds::round;
+use crate::rows::Row;
 use hub_machine::{Fault, Reply, Step};
-use out_ports::ports::{Source, Took};
+use out_ports::ports::{Incoming, Took};
 use pv_value::NoMemory;
 use rl_packet::{Packet, Turn};
 use rl_stream::{Next, next_is_decided, one_course};
@@ -87,11 +88,17 @@ fn bytes_have_courses()
 }
 
 /// Closes the connection, for this end.
-fn close<Rt: Wait, T: Turns>(rt: &Rt, connection: u32, end: ReaderEnd, turns: &mut T) -> ReaderEnd
+fn close<Rt: Wait, T: Turns>(
+    rt: &Rt,
+    connection: u32,
+    end: ReaderEnd,
+    row: &mut Row,
+    turns: &mut T,
+) -> ReaderEnd
     ensures { Closes connection (T.pairs turns.old) (T.pairs turns.new) (T.spent turns.new) end
         result }
 {
-    match round(rt, Step::Close(connection), turns) {
+    match round(rt, Step::Close(connection), row, turns) {
         Ok(reply) => {
             drop(reply);
             end
@@ -101,11 +108,17 @@ fn close<Rt: Wait, T: Turns>(rt: &Rt, connection: u32, end: ReaderEnd, turns: &m
 }
 
 /// The peer sent what is no packet.
-fn refuse<Rt: Wait, T: Turns>(rt: &Rt, connection: u32, fault: Fault, turns: &mut T) -> ReaderEnd
+fn refuse<Rt: Wait, T: Turns>(
+    rt: &Rt,
+    connection: u32,
+    fault: Fault,
+    row: &mut Row,
+    turns: &mut T,
+) -> ReaderEnd
     ensures { IsRefusal (steps.Bad connection fault) (T.pairs turns.old) (T.pairs turns.new)
         (T.spent turns.new) result }
 {
-    match round(rt, Step::Bad(connection, fault), turns) {
+    match round(rt, Step::Bad(connection, fault), row, turns) {
         Ok(reply) => end_of(reply),
         Err(fault) => end_at(fault),
     }
@@ -116,12 +129,13 @@ fn send<Rt: Wait, T: Turns>(
     rt: &Rt,
     connection: u32,
     turn: Turn,
+    row: &mut Row,
     turns: &mut T,
 ) -> Option<ReaderEnd>
     ensures { Sends connection turn (T.pairs turns.old) (T.pairs turns.new)
         (T.spent turns.new) result }
 {
-    match round(rt, Step::Packet(connection, turn), turns) {
+    match round(rt, Step::Packet(connection, turn), row, turns) {
         Ok(reply) => after_turn(reply),
         Err(fault) => Some(end_at(fault)),
     }
@@ -151,6 +165,7 @@ fn packet<Rt: Wait, T: Turns>(
     rt: &Rt,
     connection: u32,
     packet: Packet,
+    row: &mut Row,
     turns: &mut T,
 ) -> Option<ReaderEnd>
     ensures reads { (b : List ℕ) (st : StreamState) (size : ℕ) (before : List Pair)
@@ -162,8 +177,8 @@ fn packet<Rt: Wait, T: Turns>(
 {
     bytes_have_courses();
     match said(packet) {
-        Heard::Turn(turn) => send(rt, connection, turn, turns),
-        Heard::Error => Some(close(rt, connection, ReaderEnd::PeerError, turns)),
+        Heard::Turn(turn) => send(rt, connection, turn, row, turns),
+        Heard::Error => Some(close(rt, connection, ReaderEnd::PeerError, row, turns)),
         Heard::Nothing => None,
     }
 }
@@ -174,6 +189,7 @@ fn packets<Rt: Wait, T: Turns>(
     alloc: Global,
     connection: u32,
     received: &mut Received,
+    row: &mut Row,
     turns: &mut T,
 ) -> Option<ReaderEnd>
     ensures reads { (b : List ℕ) (before : List Pair)
@@ -192,27 +208,30 @@ fn packets<Rt: Wait, T: Turns>(
         match next {
             Next::Whole(it, size) => {
                 received.read_off(size);
-                if let Some(end) = packet(rt, connection, it, turns) {
+                if let Some(end) = packet(rt, connection, it, row, turns) {
                     return Some(end);
                 }
             }
             Next::BadBytes(number, place) => {
                 let fault = Fault::BadBytes(number, place);
-                return Some(refuse(rt, connection, fault, turns));
+                return Some(refuse(rt, connection, fault, row, turns));
             }
-            Next::BadPacket => return Some(refuse(rt, connection, Fault::BadPacket, turns)),
+            Next::BadPacket => {
+                return Some(refuse(rt, connection, Fault::BadPacket, row, turns));
+            }
             Next::Waits => return None,
         }
     }
 }
 
 /// Takes a piece, once all packets are read that are there. Answers the end where no more is taken.
-fn take<Rt: Wait, R: Source, T: Turns>(
+fn take<Rt: Wait, R: Incoming, T: Turns>(
     rt: &Rt,
     connection: u32,
     link: &mut R,
     buffer: &mut [u8],
     received: &mut Received,
+    row: &mut Row,
     turns: &mut T,
 ) -> Option<ReaderEnd>
     requires room { length buffer.old ≡ 65536 }
@@ -234,7 +253,7 @@ fn take<Rt: Wait, R: Source, T: Turns>(
     bytes_have_courses();
     let room = received.room();
     if room == 0 {
-        return Some(close(rt, connection, ReaderEnd::Spent, turns));
+        return Some(close(rt, connection, ReaderEnd::Spent, row, turns));
     }
     let piece = &mut buffer[..room];
     match link.take(piece) {
@@ -244,16 +263,38 @@ fn take<Rt: Wait, R: Source, T: Turns>(
         },
         Took::End => {
             let end = received.end();
-            Some(close(rt, connection, end, turns))
+            Some(close(rt, connection, end, row, turns))
         }
-        Took::Failed => Some(close(rt, connection, ReaderEnd::ReadFault, turns)),
+        Took::Failed => Some(close(rt, connection, ReaderEnd::ReadFault, row, turns)),
     }
+}
+
+/// Once a packet was read, the link is told that what comes may take any time.
+fn settle<R: Incoming>(link: &mut R, received: &Received)
+    ensures content { R.left link.new ≡ R.left link.old }
+    ensures counted { R.given link.new ≡ R.given link.old }
+    ensures at_end { R.ended link.new ≡ R.ended link.old }
+    ensures count { R.faults link.new ≡ R.faults link.old }
+{
+    if received.has_read() {
+        link.settle();
+    }
+}
+
+/// What a reader begins with: a buffer for a piece, and a row.
+fn begin(alloc: Global) -> Result<(Vec<u8>, Row), NoMemory>
+    ensures { IfOk result (λ both. length both.0.items ≡ 65536) }
+{
+    let buffer = vec![in alloc; 0; PIECE]?;
+    let row = Row::new(alloc)?;
+    Ok((buffer, row))
 }
 
 /// Commits what the peer of a connection sends, until its link ends or no more is taken.
 ///
-/// It takes up to 65,536 bytes at once, and reads all packets in them before it takes more.
-pub fn serve_reader<Rt: Wait, R: Source, T: Turns>(
+/// It takes up to 65,536 bytes at once, and reads all packets in them before it takes more. Each
+/// packet's step and the work behind it are done in one hold, 33 steps at most.
+pub fn serve_reader<Rt: Wait, R: Incoming, T: Turns>(
     rt: &Rt,
     alloc: Global,
     connection: u32,
@@ -269,15 +310,24 @@ pub fn serve_reader<Rt: Wait, R: Source, T: Turns>(
     ensures lasting { R.faults link.old ≤ R.faults link.new }
 {
     bytes_have_courses();
-    let Ok(mut buffer) = vec![in alloc; 0; PIECE] else {
+    let Ok((mut buffer, mut row)) = begin(alloc) else {
         return ReaderEnd::NoMemory;
     };
     let mut received = Received::new(alloc);
     for _ in rt.forever() {
-        if let Some(end) = packets(rt, alloc, connection, &mut received, turns) {
+        if let Some(end) = packets(rt, alloc, connection, &mut received, &mut row, turns) {
             return end;
         }
-        if let Some(end) = take(rt, connection, link, &mut buffer, &mut received, turns) {
+        settle(link, &received);
+        if let Some(end) = take(
+            rt,
+            connection,
+            link,
+            &mut buffer,
+            &mut received,
+            &mut row,
+            turns,
+        ) {
             return end;
         }
     }

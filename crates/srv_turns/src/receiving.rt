@@ -1,5 +1,6 @@
 //! What a reader has taken from its link.
-ghost use Rattle.std.specs.Prelude.{◌≡◌, ◌+◌, ◌-◌, ◌≤◌, ◌^◌, length, min, IfOk, OnOk, OnErr};
+ghost use Rattle.std.specs.Prelude.{◌≡◌, ◌+◌, ◌-◌, ◌≤◌, ◌^◌, length, min, nat_lt, IfOk, OnOk};
+ghost use Rattle.std.specs.Prelude.{OnErr};
 ghost use Rattle.pv_binary.specs.OneOfThree.{AreBytes};
 ghost use Rattle.rl_stream.specs.Nexts.{IsNext};
 ghost use Rattle.srv_turns.specs.Keeping.{link_end};
@@ -52,6 +53,13 @@ impl Received {
         } else {
             ReaderEnd::Cut
         }
+    }
+
+    /// Whether a packet was read.
+    pub(crate) fn has_read(&self) -> bool
+        ensures { result ≡ nat_lt (length self.now.stream.rest) self.now.taken }
+    {
+        (self.stream.left() as u64) < self.taken
     }
 
     /// What is next in the bytes that aren't decided.

@@ -3,10 +3,12 @@ ghost use Rattle.std.specs.Prelude.{◌≡◌, List, ◌++◌};
 ghost use Rattle.hub_machine.specs.declared.steps.Reply.{Reply as ReplyOf};
 ghost use Rattle.srv_turns.specs.Rounds.{worked};
 ghost use Rattle.srv_turns.specs.Working.{HasWorked};
-ghost use Rattle.srv_turns.specs.Pausing.{after_work, end_at};
+ghost use Rattle.srv_turns.specs.Pausing.{after_work, after_row, end_at};
 
-use crate::committing::Turns;
+use crate::committing::{Behind, Turns};
+use crate::rows::Row;
 use hub_machine::{Reply, Step};
+use std::alloc::Global;
 use std::sync::Wait;
 use turn_gate::GateFault;
 
@@ -43,6 +45,16 @@ fn after_work(reply: Reply) -> After
     }
 }
 
+/// What a worker does behind a row of its work with this last reply.
+fn after_row(last: Option<Reply>) -> After
+    ensures { result ≡ after_row last }
+{
+    match last {
+        Some(reply) => after_work(reply),
+        None => After::More,
+    }
+}
+
 /// How a worker ends where no step was done.
 fn end_at(fault: GateFault) -> WorkerEnd
     ensures { result ≡ end_at fault }
@@ -53,14 +65,14 @@ fn end_at(fault: GateFault) -> WorkerEnd
     }
 }
 
-/// Commits work until the server stops. Where nothing is to be done it rests.
-pub fn serve_worker<Rt: Wait, T: Turns>(rt: &Rt, turns: &mut T) -> WorkerEnd
+/// Commits rows of work until the server stops. Where nothing is to be done it rests.
+fn work<Rt: Wait, T: Turns>(rt: &Rt, row: &mut Row, turns: &mut T) -> WorkerEnd
     ensures { (rs : List ReplyOf) × (T.pairs turns.new ≡ T.pairs turns.old ++ worked rs)
         × HasWorked rs (T.spent turns.new) result }
 {
     for _ in rt.forever() {
-        match turns.commit(rt, Step::Work) {
-            Ok(reply) => match after_work(reply) {
+        match row.commit(rt, Step::Work, Behind::Work, turns) {
+            Ok(()) => match after_row(row.last()) {
                 After::More => {}
                 After::Rest => turns.rest(rt),
                 After::Over(end) => return end,
@@ -69,4 +81,16 @@ pub fn serve_worker<Rt: Wait, T: Turns>(rt: &Rt, turns: &mut T) -> WorkerEnd
         }
     }
     unreachable!()
+}
+
+/// Commits work until the server stops, up to 33 steps in one hold. Where nothing is to be done it
+/// rests.
+pub fn serve_worker<Rt: Wait, T: Turns>(rt: &Rt, alloc: Global, turns: &mut T) -> WorkerEnd
+    ensures { (rs : List ReplyOf) × (T.pairs turns.new ≡ T.pairs turns.old ++ worked rs)
+        × HasWorked rs (T.spent turns.new) result }
+{
+    let Ok(mut row) = Row::new(alloc) else {
+        return WorkerEnd::NoMemory;
+    };
+    work(rt, &mut row, turns)
 }

@@ -3,3 +3,4 @@ pub mod Moves
 pub mod Family
 pub mod Passing
 pub mod Standing
+pub mod Going

@@ -1,5 +1,5 @@
 -- Each step keeps the rule.
-use Rattle.std.proofs.Common.{◌≡◌, ℕ, zero, suc, ◌+◌, ◌%◌, ◌^◌, ◌<◌, ◌≤◌, eqb, ◌≢◌, ◌⊎◌, inl, inr, List, [], ◌∷◌}
+use Rattle.std.proofs.Common.{◌≡◌, ℕ, zero, suc, ◌+◌, ◌-◌, ◌%◌, ◌^◌, ◌<◌, ◌≤◌, eqb, ◌≢◌, ◌⊎◌, inl, inr, List, [], ◌∷◌}
 use Rattle.std.proofs.Common.{◌++◌, length, get_or, set, sym, refl, ap, ◌∙◌, subst, arith, length-append}
 use Rattle.std.specs.Prelude.{true, false, Bool, Some}
 use mathlib.Core.List.{IsPrefix}
@@ -20,9 +20,10 @@ use Rattle.turn_gate.specs.declared.view.Has.TheVariants.{Nothing, Value, Mark}
 use Rattle.turn_gate.specs.declared.view.Held.{Held}
 use Rattle.turn_gate.specs.declared.view.Held.TheVariants as held
 use Rattle.turn_gate.specs.History.{after, IsLegal, places}
+use Rattle.turn_gate.specs.Table.{words_of}
 use Rattle.turn_gate.specs.Table.{first_view, Lock, free, by, lock_word, Owner, own, joined_as, Among, Stands}
-use Rattle.turn_gate.specs.Table.{HasFits, Fits, resting, homes_of, Kept, Us, asked, taking, giving, seeing}
-use Rattle.turn_gate.specs.Table.{lost_after, gave, looked, compared, took, entry_of, noting, noted, Ready}
+use Rattle.turn_gate.specs.Table.{HasFits, Fits, resting, homes_of, Kept, Us, asked, taking, asking, giving, seeing}
+use Rattle.turn_gate.specs.Table.{lost_after, gave, again, looked, compared, took, entry_of, noting, noted, Ready}
 use Rattle.turn_gate.proofs.Histories.{prefix_refl, prefix_trans, prefix_length, legal_more, places_mine}
 use Rattle.turn_gate.proofs.Histories.{places_others, same_pairs}
 
@@ -170,7 +171,7 @@ module _ {T S R : Type 0} (next : T → S → T × R) (t : T) where
   moved : (s : St) (k : Kept next t s) (id : ℕ) (v w : V) → get_elem? s.views id ≡ some v
       → (v.named ≡ true → w.named ≡ true) → w.name ≡ v.name → (ws : List ℕ) (hs : List (maybe.Option (Held T S)))
       (log : List (Entry S R)) (lock : Lock) (gone : Bool) (others : List ℕ)
-      → ws ≡ length log ∷ lock_word lock ∷ others → hs ≡ homes_of next t log gone lock → length log ≤ 2 ^ 62
+      → ws ≡ words_of (length log) (lock_word lock) others → hs ≡ homes_of next t log gone lock → length log ≤ 2 ^ 62
       → IsLegal next t log → Grown k.log log k.owner k.kids id
       → Turned k.lock lock k.gone gone k.log log id (set s.views id w)
       → Fits t log lock gone k.owner k.kids k.joined id w → Among (set s.views id w) (λ u. u.seen ≡ log)
@@ -265,16 +266,16 @@ module _ {T S R : Type 0} (next : T → S → T × R) (t : T) where
   unspent v n m = not_both v.named n m
 
   hits : (slots id : ℕ) (v : V) (said : maybe.Option (Held T S)) (s : St) (k : Kept next t s) → v.named ≡ true
-      → get_elem? s.views id ≡ some v → get_or s.words 1 0 ≡ 0 → k.lock ≡ free → (g : Bool) → k.gone ≡ g
-      → Goes s 1 id (v, []) (took next (step slots 1 0 1 said) (v, [])) 1
+      → get_elem? s.views id ≡ some v → get_or s.words 8 0 ≡ 0 → k.lock ≡ free → (g : Bool) → k.gone ≡ g
+      → Goes s 8 id (v, []) (took next (step slots 8 0 1 said) (v, [])) 1
   hits slots id v said s k named at hit e false gi = let f = k.each id v at in
       let h : s.homes ≡ some (held.Value (after next t k.log)) ∷ [] = k.homes
       ∙ (λ i. homes_of next t k.log (gi i) (e i)) in let w : V = taking v Value k.log (asked said) in (
         w,
         takes 0 (held.Value (after next t k.log)),
         ap (λ hs. get_elem? hs 0) h,
-        moved s k id v w at (λ n. n) refl (set s.words 1 1) (set s.homes 0 none) k.log (by id) k.gone k.others
-            (ap (λ ws. set ws 1 1) k.words) (ap (λ hs. set hs 0 none) h) k.short k.legal (stays s k id)
+        moved s k id v w at (λ n. n) refl (set s.words 8 1) (set s.homes 0 none) k.log (by id) k.gone k.others
+            (ap (λ ws. set ws 8 1) k.words) (ap (λ hs. set hs 0 none) h) k.short k.legal (stays s k id)
             (seized s k id v w at (λ j. free_not_by k.lock j e) refl no_value)
             record {
               begins = f.begins;
@@ -294,7 +295,7 @@ module _ {T S R : Type 0} (next : T → S → T × R) (t : T) where
               after next t k.log,
               refl,
               (λ t' is. let o = (f.named named).opened in let same : t ≡ t' = cc in
-                  ap (λ (z : T). after next z k.log) same),
+                  (ap (λ (z : T). after next z k.log) same, subst (λ (z : T). IsLegal next z k.log) same k.legal)),
               not_lost v.lost k.gone f.told gi,
             ),
           )),
@@ -307,8 +308,8 @@ module _ {T S R : Type 0} (next : T → S → T × R) (t : T) where
         w,
         takes 0 held.Mark,
         ap (λ hs. get_elem? hs 0) h,
-        moved s k id v w at (λ n. n) refl (set s.words 1 1) (set s.homes 0 none) k.log (by id) k.gone k.others
-            (ap (λ ws. set ws 1 1) k.words) (ap (λ hs. set hs 0 none) h) k.short k.legal (stays s k id)
+        moved s k id v w at (λ n. n) refl (set s.words 8 1) (set s.homes 0 none) k.log (by id) k.gone k.others
+            (ap (λ ws. set ws 8 1) k.words) (ap (λ hs. set hs 0 none) h) k.short k.legal (stays s k id)
             (seized s k id v w at (λ j. free_not_by k.lock j e) refl no_mark)
             record {
               begins = f.begins;
@@ -333,29 +334,59 @@ module _ {T S R : Type 0} (next : T → S → T × R) (t : T) where
   }
 
   takes_at : (slots id : ℕ) (v : V) (said : maybe.Option (Held T S)) → v.named ≡ true
-      → Allows (Kept next t) slots id (v, []) 1 (λ n. either (eqb n 0) 1 n)
-      (took next (step slots 1 0 1 said) (v, []))
-  takes_at slots id v said named s k wide at small = let n : ℕ = get_or s.words 1 0 in
-      let is : n ≡ lock_word k.lock = ap (λ ws. get_or ws 1 0) k.words in
-      exchanged n 0 1 (Goes s 1 id (v, []) (took next (step slots 1 0 1 said) (v, [])))
+      → Allows (Kept next t) slots id (v, []) 8 (λ n. either (eqb n 0) 1 n)
+      (took next (step slots 8 0 1 said) (v, []))
+  takes_at slots id v said named s k wide at small = let n : ℕ = get_or s.words 8 0 in
+      let is : n ≡ lock_word k.lock = ap (λ ws. get_or ws 8 0) k.words in
+      exchanged n 0 1 (Goes s 8 id (v, []) (took next (step slots 8 0 1 said) (v, [])))
       (λ hit. hits slots id v said s k named at hit (free_of k.lock (sym is ∙ hit)) k.gone refl)
       (λ miss. (
         v,
         keeps,
         tt,
-        moved s k id v v at (λ n. n) refl (set s.words 1 n) s.homes k.log k.lock k.gone k.others
-            (ap (λ ws. set ws 1 n) k.words ∙ ap (λ (m : ℕ). length k.log ∷ m ∷ k.others) is) k.homes k.short k.legal
+        moved s k id v v at (λ n. n) refl (set s.words 8 n) s.homes k.log k.lock k.gone k.others
+            (ap (λ ws. set ws 8 n) k.words ∙ ap (λ (m : ℕ). words_of (length k.log) m k.others) is) k.homes k.short k.legal
             (stays s k id) (turned_same s k id v v at refl refl) (k.each id v at) (same_longest s k id v v at refl),
         ((λ hit. absurd (miss hit)), λ _. refl),
       ))
 
   pub takes_slot : (slots id : ℕ) (me : Us T S R) (said : maybe.Option (Held T S)) → me.1 ≡ [] → me.0.named ≡ true
-      → Allows (Kept next t) slots id me 1 (λ n. either (eqb n 0) 1 n) (took next (step slots 1 0 1 said) me)
+      → Allows (Kept next t) slots id me 8 (λ n. either (eqb n 0) 1 n) (took next (step slots 8 0 1 said) me)
   takes_slot slots id me said e named = subst (λ (c : List (ℕ × Held T S)). Allows (Kept next t) slots id (
     me.0,
     c,
-  ) 1 (λ n. either (eqb n 0) 1 n) (took next (step slots 1 0 1 said) (me.0, c))) (sym e)
+  ) 8 (λ n. either (eqb n 0) 1 n) (took next (step slots 8 0 1 said) (me.0, c))) (sym e)
       (takes_at slots id me.0 said named)
+
+  pub asks_again : (slots id : ℕ) (me : Us T S R) (said : maybe.Option (Held T S))
+      → Allows (Kept next t) slots id me 8 (λ n. either (eqb n 1) 1 n) (λ _. again (step slots 8 1 1 said) me)
+  asks_again slots id me said s k wide at small = let v = me.0 in let f = k.each id v at in
+      let n : ℕ = get_or s.words 8 0 in let is : n ≡ lock_word k.lock = ap (λ ws. get_or ws 8 0) k.words in
+      exchanged n 1 1 (λ y. (u : V) × (a : Act (Held T S)) × Valid s.homes me.1 a
+      × Kept next t (stepped s 8 y id me.1 u a) × again (step slots 8 1 1 said) me (u, carried_after me.1 a))
+      (λ hit. same f 1 (sym hit ∙ is)) (λ miss. same f n is)
+    where
+      same : Fits t k.log k.lock k.gone k.owner k.kids k.joined id me.0 → (y : ℕ) → y ≡ lock_word k.lock
+          → (u : V) × (a : Act (Held T S)) × Valid s.homes me.1 a
+          × Kept next t (stepped s 8 y id me.1 u a) × again (step slots 8 1 1 said) me (u, carried_after me.1 a)
+      same f y is = let v = me.0 in let w : V = asking v (asked said) in (
+        w,
+        keeps,
+        tt,
+        moved s k id v w at (λ n. n) refl (set s.words 8 y) s.homes k.log k.lock k.gone k.others
+            (ap (λ ws. set ws 8 y) k.words ∙ ap (λ (m : ℕ). words_of (length k.log) m k.others) is) k.homes k.short k.legal
+            (stays s k id) (turned_same s k id v w at refl refl)
+            record {
+              begins = f.begins;
+              based = f.based;
+              low = f.low;
+              told = f.told;
+              hand = f.hand;
+              named = f.named;
+              spent = f.spent;
+            } (same_longest s k id v w at refl),
+        refl,
+      )
 
   pub looks : (slots id : ℕ) (me : Us T S R) → Allows (Kept next t) slots id me 0 (λ n. n) (looked me)
   looks slots id me s k wide at small = let v = me.0 in let f = k.each id v at in let n : ℕ = get_or s.words 0 0 in
@@ -368,7 +399,7 @@ module _ {T S R : Type 0} (next : T → S → T × R) (t : T) where
         tt,
         moved s k id v w at (λ n. n) refl (set s.words 0 n) s.homes k.log k.lock k.gone k.others
             (ap (λ ws. set ws 0 n) k.words ∙ ap
-            (λ (m : ℕ). m ∷ lock_word k.lock ∷ k.others) is) k.homes k.short k.legal (stays s k id)
+            (λ (m : ℕ). words_of m (lock_word k.lock) k.others) is) k.homes k.short k.legal (stays s k id)
             (turned_same s k id v w at refl refl)
             record {
               begins = f.begins;
@@ -396,7 +427,7 @@ module _ {T S R : Type 0} (next : T → S → T × R) (t : T) where
         keeps,
         tt,
         moved s k id v v at (λ n. n) refl (set s.words 0 n) s.homes k.log k.lock k.gone k.others
-            (ap (λ ws. set ws 0 n) k.words ∙ ap (λ (m : ℕ). m ∷ lock_word k.lock ∷ k.others) is) k.homes k.short k.legal
+            (ap (λ ws. set ws 0 n) k.words ∙ ap (λ (m : ℕ). words_of m (lock_word k.lock) k.others) is) k.homes k.short k.legal
             (stays s k id) (turned_same s k id v v at refl refl) f (same_longest s k id v v at refl),
         (
           refl,
@@ -413,16 +444,22 @@ module _ {T S R : Type 0} (next : T → S → T × R) (t : T) where
 
   -- a word changes of which the rule says nothing
   pub touches : (slots id : ℕ) (me : Us T S R) (i : ℕ) (f : ℕ → ℕ)
-      → Allows (Kept next t) slots id me (suc (suc i)) f (λ _ m'. m' ≡ me)
-  touches slots id me i f s k wide at small = let v = me.0 in let y : ℕ = f (get_or s.words (suc (suc i)) 0) in (
+      → Allows (Kept next t) slots id me (suc (suc (suc (suc (suc (suc (suc (suc (suc i))))))))) f (λ _ m'. m' ≡ me)
+  touches slots id me i f s k wide at small = let v = me.0 in let y : ℕ = f (get_or s.words (suc (suc (suc (suc (suc (suc (suc (suc (suc i))))))))) 0) in (
     v,
     keeps,
     tt,
-    moved s k id v v at (λ n. n) refl (set s.words (suc (suc i)) y) s.homes k.log k.lock k.gone (set k.others i y)
-        (ap (λ ws. set ws (suc (suc i)) y) k.words) k.homes k.short k.legal (stays s k id)
+    moved s k id v v at (λ n. n) refl (set s.words (suc (suc (suc (suc (suc (suc (suc (suc (suc i))))))))) y) s.homes k.log k.lock k.gone (set k.others i y)
+        (ap (λ ws. set ws (suc (suc (suc (suc (suc (suc (suc (suc (suc i))))))))) y) k.words) k.homes k.short k.legal (stays s k id)
         (turned_same s k id v v at refl refl) (k.each id v at) (same_longest s k id v v at refl),
     refl,
   )
+
+  -- the same, of any word behind the lock
+  pub touches_at : (slots id : ℕ) (me : Us T S R) (w : ℕ) (f : ℕ → ℕ) → 9 ≤ w
+      → Allows (Kept next t) slots id me w f (λ _ m'. m' ≡ me)
+  touches_at slots id me w f le = let e : suc (suc (suc (suc (suc (suc (suc (suc (suc (w - 9))))))))) ≡ w = omega arith in
+      subst (λ (v : ℕ). Allows (Kept next t) slots id me v f (λ _ m'. m' ≡ me)) e (touches slots id me (w - 9) f)
 
   names_more : (log : List (Entry S R)) (e : Entry S R) (kids : ℕ) → e.name ≤ kids
       → ((p : ℕ) (x : Entry S R) → get_elem? log p ≡ some x → x.name ≤ kids) → (p : ℕ) (x : Entry S R)
@@ -467,7 +504,7 @@ module _ {T S R : Type 0} (next : T → S → T × R) (t : T) where
         keeps,
         tt,
         moved s k id v w at (λ n. n) refl (set s.words 0 y) s.homes log k.lock k.gone k.others
-            (ap (λ ws. set ws 0 y) k.words ∙ ap (λ (m : ℕ). m ∷ lock_word k.lock ∷ k.others) ys) (k.homes
+            (ap (λ ws. set ws 0 y) k.words ∙ ap (λ (m : ℕ). words_of m (lock_word k.lock) k.others) ys) (k.homes
             ∙ (λ i. homes_of next t k.log k.gone (hand.0 i)) ∙ (λ i. homes_of next t log k.gone (sym hand.0 i)))
             (omega arith) legal grown turned
             record {
@@ -495,7 +532,7 @@ module _ {T S R : Type 0} (next : T → S → T × R) (t : T) where
       )
 
   gives_at : (slots id : ℕ) (v : V) (x : Held T S) → v.named ≡ true → Ready next t v x
-      → Allows (Kept next t) slots id (v, (0, x) ∷ []) 1 (λ _. 0) (λ _. gave (v, (0, x) ∷ []))
+      → Allows (Kept next t) slots id (v, (0, x) ∷ []) 8 (λ _. 0) (λ _. gave (v, (0, x) ∷ []))
   gives_at slots id v x named (inl ok) s k wide at small = let f = k.each id v at in
       let hand = hand_as k.log v.base k.lock k.gone id v.has Value ok.0 f.hand in
       let out : s.homes ≡ none ∷ [] = k.homes ∙ ap (homes_of next t k.log k.gone) hand.0 in
@@ -504,8 +541,8 @@ module _ {T S R : Type 0} (next : T → S → T × R) (t : T) where
         w,
         gives,
         tt,
-        moved s k id v w at (λ n. n) refl (set s.words 1 0) (set s.homes 0 (some x)) k.log free k.gone k.others
-            (ap (λ ws. set ws 1 0) k.words)
+        moved s k id v w at (λ n. n) refl (set s.words 8 0) (set s.homes 0 (some x)) k.log free k.gone k.others
+            (ap (λ ws. set ws 8 0) k.words)
             (ap (λ hs. set hs 0 (some x)) out ∙ ap (λ (z : Held T S). some z ∷ []) (ok.1
             ∙ (λ i. held.Value (after next t (hand.1 i)))) ∙ ap (λ (b : Bool). some (resting next t k.log b) ∷ [])
             (sym hand.2)) k.short k.legal (stays s k id)
@@ -535,8 +572,8 @@ module _ {T S R : Type 0} (next : T → S → T × R) (t : T) where
         w,
         gives,
         tt,
-        moved s k id v w at (λ n. n) refl (set s.words 1 0) (set s.homes 0 (some x)) k.log free true k.others
-            (ap (λ ws. set ws 1 0) k.words)
+        moved s k id v w at (λ n. n) refl (set s.words 8 0) (set s.homes 0 (some x)) k.log free true k.others
+            (ap (λ ws. set ws 8 0) k.words)
             (ap (λ hs. set hs 0 (some x)) out ∙ ap (λ (z : Held T S). some z ∷ []) ok.1) k.short k.legal (stays s k id)
             record {
               lost = λ _. refl;
@@ -558,11 +595,11 @@ module _ {T S R : Type 0} (next : T → S → T × R) (t : T) where
       )
 
   pub gives_slot : (slots id : ℕ) (me : Us T S R) (x : Held T S) → me.0.named ≡ true → me.1 ≡ (0, x) ∷ []
-      → Ready next t me.0 x → Allows (Kept next t) slots id me 1 (λ _. 0) (λ _. gave me)
+      → Ready next t me.0 x → Allows (Kept next t) slots id me 8 (λ _. 0) (λ _. gave me)
   gives_slot slots id me x named e ok = subst (λ (c : List (ℕ × Held T S)). Allows (Kept next t) slots id (
     me.0,
     c,
-  ) 1 (λ _. 0) (λ _. gave (me.0, c))) (sym e) (gives_at slots id me.0 x named ok)
+  ) 8 (λ _. 0) (λ _. gave (me.0, c))) (sym e) (gives_at slots id me.0 x named ok)
 
   abbrev first_owner : ℕ → Owner
   first_owner _ = own 0
@@ -589,15 +626,16 @@ module _ {T S R : Type 0} (next : T → S → T × R) (t : T) where
       }
   first_each (suc j) u at = absurd (some-ne-none u (sym at))
 
-  pub starts : Kept next t (opening (0 ∷ 0 ∷ 0 ∷ 0 ∷ 0 ∷ 0 ∷ []) (held.Value t ∷ []) (first_view {S = S} {R = R} t))
-  starts = record {
+  pub starts : (others : List ℕ)
+      → Kept next t (opening (words_of 0 0 others) (held.Value t ∷ []) (first_view {S = S} {R = R} t))
+  starts others = record {
     log = [];
     lock = free;
     gone = false;
     owner = first_owner;
     kids = 0;
     joined = [];
-    others = 0 ∷ 0 ∷ 0 ∷ 0 ∷ [];
+    others = others;
     words = refl;
     homes = refl;
     short = omega arith;

@@ -1,9 +1,10 @@
 -- From what the steps of one call tell to what the call ensures.
-use Rattle.std.proofs.Common.{◌≡◌, ℕ, ◌^◌, ◌≤◌, ◌⊎◌, inl, inr, List, [], ◌∷◌, ◌++◌, length, sym, refl, ap, ◌∙◌, subst}
-use Rattle.std.proofs.Common.{arith}
+use Rattle.std.proofs.Common.{◌≡◌, ℕ, ◌+◌, ◌^◌, ◌<◌, ◌≤◌, ◌⊎◌, inl, inr, List, [], ◌∷◌, ◌++◌, length, sym, refl, ap, ◌∙◌}
+use Rattle.std.proofs.Common.{subst, arith, length-append}
 use Rattle.std.specs.Prelude.{true, false, Bool, Option, Some}
 use mathlib.Core.List.{IsPrefix}
 use mathlib.Core.Option.{some, some-injective}
+use mathlib.Core.Option as maybe
 use lib.ListN.{get_elem?}
 use Rattle.atomic_table.specs.Table.{Seen, Final, rest}
 use Rattle.atomic_table.specs.declared.shared.Seat.{Seat}
@@ -17,11 +18,12 @@ use Rattle.turn_gate.specs.declared.view.Has.TheVariants.{Nothing, Value, Mark}
 use Rattle.turn_gate.specs.declared.view.Held.{Held}
 use Rattle.turn_gate.specs.declared.view.Held.TheVariants as held
 use Rattle.turn_gate.specs.History.{after, IsLegal, places, pairs_of}
-use Rattle.turn_gate.specs.Table.{longer, Kept, resting, homes_of, first_view, Us, taking, giving, seeing, child}
+use Rattle.turn_gate.specs.Table.{longer, Kept, resting, homes_of, first_view, Us, asked, taking, asking, giving}
+use Rattle.turn_gate.specs.Table.{seeing, child}
 use Rattle.turn_gate.specs.Table.{together, lost_after, gave, compared, IsAfter, Took, entry_of, noting, noted, Ready}
-use Rattle.turn_gate.specs.Passes.{caller, IsFirst, FaultFits, Failed, Committed, IsChild, IsUnion, HasAll, IsWhole}
-use Rattle.turn_gate.specs.Passes.{own_pairs}
-use Rattle.turn_gate.specs.Places.{IsFreeAt, Holds}
+use Rattle.turn_gate.specs.Passes.{caller, IsFirst, FaultFits, Stood, Failed, Committed, IsChild, IsUnion, HasAll}
+use Rattle.turn_gate.specs.Passes.{IsWhole, IsAsked, own_pairs}
+use Rattle.turn_gate.specs.Places.{IsFreeAt, HasOut, Holds, HasMark}
 use Rattle.turn_gate.proofs.Histories.{after_more, one_begins, first_begins, longer_begins, prefix_refl, squeezed}
 use Rattle.turn_gate.proofs.Histories.{same_pairs, pairs_more, places_mine, same_front}
 use Rattle.turn_gate.proofs.Family.{alone, Alone}
@@ -41,26 +43,13 @@ module _ {T S R : Type 0} where
       → m' ≡ (giving w (lost_after x w.lost), [])
   given m m' w x e g = g x (ap (λ z. z.1) e) ∙ ap (λ (z : Us T S R). (giving z.0 (lost_after x z.0.lost), [])) e
 
+  -- where no step was done, no more was seen
+  pub heard_still : (v w : View T S R) (e : GateFault) (n : ℕ) → Failed v e w → n ≡ length v.seen → n ≡ length w.seen
+  heard_still v w e n f h = h ∙ ap (λ (l : List (Entry S R)). length l) (sym f.stood.seen)
+
   pub put_in : (m1 m2 : Us T S R) (w : View T S R) (c : List (ℕ × Held T S)) (t : T) → m1 ≡ (w, c)
       → m2 ≡ (m1.0, (0, held.Value t) ∷ []) → m2 ≡ (w, (0, held.Value t) ∷ [])
   put_in m1 m2 w c t e put = put ∙ ap (λ (z : Us T S R). (z.0, (0, held.Value t) ∷ [])) e
-
-  pub spent : (v : View T S R) (n : ℕ) (m : Us T S R) → m ≡ (giving (seeing v n) v.lost, []) → v.lost ≡ false
-      → n ≡ 2 ^ 62 → Failed v fault.Spent m.0
-  spent v n m e lost full = subst (λ (z : Us T S R). Failed v fault.Spent z.0) (sym e) record {
-    stood =
-        record { same = record { name = refl; kids = refl; joined = refl }; seen = refl; mine = refl };
-    why = (full, lost, lost);
-  }
-
-  -- the step found no memory, after so many steps were seen
-  pub starved : (v : View T S R) (n : ℕ) (m : Us T S R) → m ≡ (giving (seeing v n) true, []) → v.floor ≤ n
-      → Failed v fault.NoMemory m.0
-  starved v n m e low = subst (λ (z : Us T S R). Failed v fault.NoMemory z.0) (sym e) record {
-    stood =
-        record { same = record { name = refl; kids = refl; joined = refl }; seen = refl; mine = refl };
-    why = (low, refl);
-  }
 
   -- the slot held the mark
   pub was_gone : (v : View T S R) (base : List (Entry S R)) (a : Option S) (m : Us T S R)
@@ -170,48 +159,175 @@ module _ {T S R : Type 0} (next : T → S → T × R) (t : T) where
       → (m2 ≡ (noting next t v s, c)) × IsLegal next t m2.0.seen × (m2.0.mine ≡ places v.name m2.0.seen)
   told m1 m2 v c s e opened ask n = subst (λ (z : Us T S R). noted next z m2) e n t s opened ask
 
-  pub next_value : (v : View T S R) (x x' : T) (s : S) (r : R) → x ≡ after next t v.base → (x', r) ≡ next x s
+  next_value : (v : View T S R) (x x' : T) (s : S) (r : R) → x ≡ after next t v.base → (x', r) ≡ next x s
       → x' ≡ after next t (v.base ++ entry_of next t v s ∷ [])
   next_value v x x' s r is did = ap (λ z. z.0) did ∙ ap (λ (z : T). (next z s).0) is
       ∙ sym (after_more next t v.base (entry_of next t v s))
 
-  pub committed : (v : View T S R) (n : ℕ) (x x' : T) (s : S) (r : R) (m2 m : Us T S R)
-      → m2.0 ≡ noting next t (seeing v n) s → IsLegal next t m2.0.seen → m2.0.mine ≡ places v.name m2.0.seen
-      → m ≡ (giving (noting next t (seeing v n) s) v.lost, []) → x ≡ after next t v.base → (x', r) ≡ next x s
-      → IsPrefix v.seen v.base → v.floor ≤ length v.base → v.lost ≡ false
-      → length (v.base ++ entry_of next t v s ∷ []) ≤ 2 ^ 62 → Committed next t v s r m.0
-  committed v n x x' s r m2 m e2 legal mine e is did begins low lost short =
+  committed : (v w : View T S R) (x x' : T) (s : S) (r : R) → w ≡ noting next t v s → IsLegal next t w.seen
+      → w.mine ≡ places v.name w.seen → x ≡ after next t v.base → (x', r) ≡ next x s → IsPrefix v.seen v.base
+      → v.floor ≤ length v.base → v.lost ≡ false → length (v.base ++ entry_of next t v s ∷ []) ≤ 2 ^ 62
+      → Committed next t v s r w
+  committed v w x x' s r e legal mine is did begins low lost short =
       let reply : (next (after next t v.base) s).1 ≡ r = ap (λ (z : T). (next z s).1) (sym is)
       ∙ sym (ap (λ z. z.1) did) in
-      subst (λ (z : Us T S R). Committed next t v s r z.0) (sym e) record {
+      subst (λ (z : View T S R). Committed next t v s r z) (sym e) record {
         same = record { name = refl; kids = refl; joined = refl };
         before = v.base;
         begins = begins;
         beyond = low;
         ends = ap (λ (q : R). v.base ++ record { name = v.name; step = s; reply = q } ∷ []) reply;
         added = refl;
-        mine = subst (λ (z : View T S R). z.mine ≡ places v.name z.seen) e2 mine;
-        legal = subst (λ (z : View T S R). IsLegal next t z.seen) e2 legal;
+        mine = subst (λ (z : View T S R). z.mine ≡ places v.name z.seen) e mine;
+        legal = subst (λ (z : View T S R). IsLegal next t z.seen) e legal;
         floor = refl;
         short = short;
         kept = (lost, lost);
       }
 
+  -- as many steps stand as a gate takes, and the value is still out
+  pub is_full : (m m' : Us T S R) (x : T) (n : ℕ) → HasOut next t m x → m' ≡ (seeing m.0 n, m.1)
+      → n ≡ length m.0.base → n ≡ 2 ^ 62 → Failed m.0 fault.Spent m'.0 × HasOut next t m' x
+  is_full m m' x n o e same full = let low : n ≤ length m.0.base = omega arith in
+      subst (λ (z : Us T S R). Failed m.0 fault.Spent z.0 × HasOut next t z x) (sym e) (
+        record {
+          stood = record { same = record { name = refl; kids = refl; joined = refl }; seen = refl; mine = refl };
+          why = (full, o.kept, o.kept);
+        },
+        record {
+          has = o.has;
+          slot = o.slot;
+          value = o.value;
+          named = o.named;
+          opened = o.opened;
+          begins = o.begins;
+          low = low;
+          kept = o.kept;
+        },
+      )
+
+  -- the step was noted, and the value that it left is out
+  pub is_noted : (m m' : Us T S R) (x x' : T) (s : S) (r : R) (n : ℕ) → HasOut next t m x
+      → (m' ≡ (noting next t m.0 s, m.1)) × IsLegal next t m'.0.seen × (m'.0.mine ≡ places m.0.name m'.0.seen)
+      → (x', r) ≡ next x s → n ≡ length m.0.base → n < 2 ^ 62
+      → Committed next t m.0 s r m'.0 × HasOut next t m' x' × (n + 1 ≡ length m'.0.seen)
+  is_noted m m' x x' s r n o k did same room =
+      let es : List (Entry S R) = m.0.base ++ entry_of next t m.0 s ∷ [] in
+      let long : length es ≡ length m.0.base + 1 = length-append m.0.base (entry_of next t m.0 s ∷ []) in
+      let low : length es ≤ length es = omega arith in (
+        committed m.0 m'.0 x x' s r (ap (λ z. z.0) k.0) k.1 k.2 o.value did o.begins o.low o.kept (omega arith),
+        subst (λ (z : Us T S R). HasOut next t z x') (sym k.0) record {
+          has = o.has;
+          slot = o.slot;
+          value = next_value m.0 x x' s r o.value did;
+          named = o.named;
+          opened = o.opened;
+          begins = prefix_refl es;
+          low = low;
+          kept = o.kept;
+        },
+        subst (λ (z : Us T S R). n + 1 ≡ length z.0.seen) (sym k.0) (omega (arith, same, long)),
+      )
+
+  -- the step found no memory, after so many steps were seen
+  pub is_lost : (m m' : Us T S R) (x : T) (n : ℕ) → HasOut next t m x → m' ≡ (seeing m.0 n, m.1) → m.0.floor ≤ n
+      → Stood m.0 m'.0 × (m.0.floor ≤ m'.0.floor) × HasMark next t m'
+  is_lost m m' x n o e low = subst (λ (z : Us T S R). Stood m.0 z.0 × (m.0.floor ≤ z.0.floor) × HasMark next t z)
+      (sym e) (
+        record { same = record { name = refl; kids = refl; joined = refl }; seen = refl; mine = refl },
+        low,
+        record { has = inl o.has; slot = o.slot; named = o.named; opened = o.opened },
+      )
+
+  -- the further step is announced
+  pub is_asked_next : (m m' : Us T S R) (x : T) (s : S) → HasOut next t m x → m' ≡ (asking m.0 (Some s), m.1)
+      → Holds next t m' x s
+  is_asked_next m m' x s o e = subst (λ (z : Us T S R). Holds next t z x s) (sym e) record {
+    out = record {
+      has = o.has;
+      slot = o.slot;
+      value = o.value;
+      named = o.named;
+      opened = o.opened;
+      begins = o.begins;
+      low = o.low;
+      kept = o.kept;
+    };
+    ask = refl;
+  }
+
+  -- the pass after the slot was given back
+  pub committed_given : (v w w' : View T S R) (s : S) (r : R) → Committed next t v s r w → w' ≡ giving w false
+      → Committed next t v s r w'
+  committed_given v w w' s r c e = subst (λ (z : View T S R). Committed next t v s r z) (sym e) record {
+    same = record { name = c.same.name; kids = c.same.kids; joined = c.same.joined };
+    before = c.before;
+    begins = c.begins;
+    beyond = c.beyond;
+    ends = c.ends;
+    added = c.added;
+    mine = c.mine;
+    legal = c.legal;
+    floor = c.floor;
+    short = c.short;
+    kept = (c.kept.0, refl);
+  }
+
+  pub committed_asked : (v w w' : View T S R) (s : S) (r : R) (a : Option S) → Committed next t v s r w
+      → w' ≡ asking w a → Committed next t v s r w'
+  committed_asked v w w' s r a c e = subst (λ (z : View T S R). Committed next t v s r z) (sym e) record {
+    same = record { name = c.same.name; kids = c.same.kids; joined = c.same.joined };
+    before = c.before;
+    begins = c.begins;
+    beyond = c.beyond;
+    ends = c.ends;
+    added = c.added;
+    mine = c.mine;
+    legal = c.legal;
+    floor = c.floor;
+    short = c.short;
+    kept = c.kept;
+  }
+
+  pub failed_given : (v w w' : View T S R) → Failed v fault.Spent w → w' ≡ giving w false → Failed v fault.Spent w'
+  failed_given v w w' f e = let s = f.stood.same in
+      subst (λ (z : View T S R). Failed v fault.Spent z) (sym e) record {
+        stood = record {
+          same = record { name = s.name; kids = s.kids; joined = s.joined };
+          seen = f.stood.seen;
+          mine = f.stood.mine;
+        };
+        why = (f.why.0, f.why.1, refl);
+      }
+
+  pub lost_given : (v w w' : View T S R) → Stood v w → v.floor ≤ w.floor → w' ≡ giving w true
+      → Failed v fault.NoMemory w'
+  lost_given v w w' f low e = let s = f.same in
+      subst (λ (z : View T S R). Failed v fault.NoMemory z) (sym e) record {
+        stood = record {
+          same = record { name = s.name; kids = s.kids; joined = s.joined };
+          seen = f.seen;
+          mine = f.mine;
+        };
+        why = (low, refl);
+      }
+
   abbrev pub Slotted : Us T S R → Held T S → Type 0
   Slotted m x = m.1 ≡ (0, x) ∷ rest m.1
 
-  abbrev TookOne : Us T S R → Us T S R → S → List (Entry S R) → Type 0
-  TookOne m m' s base = ((y : T) × (m' ≡ (taking m.0 Value base (Some s), (0, held.Value y) ∷ []))
+  abbrev TookOne : Us T S R → Us T S R → maybe.Option (Held T S) → List (Entry S R) → Type 0
+  TookOne m m' said base = ((y : T) × (m' ≡ (taking m.0 Value base (asked said), (0, held.Value y) ∷ []))
       × IsAfter next m.0.opening base y × (m.0.lost ≡ false)) ⊎ (m' ≡ (
-        taking m.0 Mark base (Some s),
+        taking m.0 Mark base (asked said),
         (0, held.Mark) ∷ [],
       ))
 
   -- the slot was taken, and so it holds something
-  pub took_slot : (m m' : Us T S R) (s : S) → Took next m (some (held.Ask s)) m' → (x : Held T S) × Slotted m' x
-  took_slot m m' s k = go k.3
+  pub took_slot : (m m' : Us T S R) (said : maybe.Option (Held T S)) → Took next m said m'
+      → (x : Held T S) × Slotted m' x
+  took_slot m m' said k = go k.3
     where
-      go : TookOne m m' s k.0 → (x : Held T S) × Slotted m' x
+      go : TookOne m m' said k.0 → (x : Held T S) × Slotted m' x
       go (inl e) = subst (λ (z : Us T S R). (x : Held T S) × Slotted z x) (sym e.1) (held.Value e.0, refl)
       go (inr e) = subst (λ (z : Us T S R). (x : Held T S) × Slotted z x) (sym e) (held.Mark, refl)
 
@@ -222,17 +338,17 @@ module _ {T S R : Type 0} (next : T → S → T × R) (t : T) where
   same_head : (x y : Held T S) (k l : List (ℕ × Held T S)) → (0, x) ∷ k ≡ (0, y) ∷ l → x ≡ y
   same_head x y k l e = ap (head_held x) e
 
-  abbrev pub TookValue : Us T S R → Us T S R → S → T → Type 0
-  TookValue m m' s x = (base : List (Entry S R)) × IsPrefix m.0.seen base × (m.0.floor ≤ length base)
-      × (m'.0 ≡ taking m.0 Value base (Some s)) × (rest m'.1 ≡ []) × IsAfter next m.0.opening base x
+  abbrev pub TookValue : Us T S R → Us T S R → maybe.Option (Held T S) → T → Type 0
+  TookValue m m' said x = (base : List (Entry S R)) × IsPrefix m.0.seen base × (m.0.floor ≤ length base)
+      × (m'.0 ≡ taking m.0 Value base (asked said)) × (rest m'.1 ≡ []) × IsAfter next m.0.opening base x
       × (m.0.lost ≡ false)
 
   -- where the value was in the slot
-  pub took_value : (m m' : Us T S R) (s : S) (x : T) → Took next m (some (held.Ask s)) m' → Slotted m' (held.Value x)
-      → TookValue m m' s x
-  took_value m m' s x k at = go k.3
+  pub took_value : (m m' : Us T S R) (said : maybe.Option (Held T S)) (x : T) → Took next m said m'
+      → Slotted m' (held.Value x) → TookValue m m' said x
+  took_value m m' said x k at = go k.3
     where
-      go : TookOne m m' s k.0 → TookValue m m' s x
+      go : TookOne m m' said k.0 → TookValue m m' said x
       go (inl e) = let same : held.Value x ≡ held.Value e.0 = same_head _ _ _ _ (sym at ∙ ap (λ z. z.1) e.1) in
           let one : x ≡ e.0 = cc in (
             k.0,
@@ -246,35 +362,92 @@ module _ {T S R : Type 0} (next : T → S → T × R) (t : T) where
       go (inr e) = let same : held.Value x ≡ held.Mark = same_head _ _ _ _ (sym at ∙ ap (λ z. z.1) e) in absurd (cc)
 
   -- where the mark was
-  pub took_mark : (m m' : Us T S R) (s : S) → Took next m (some (held.Ask s)) m' → Slotted m' held.Mark
-      → (base : List (Entry S R)) × (m' ≡ (taking m.0 Mark base (Some s), (0, held.Mark) ∷ []))
-  took_mark m m' s k at = go k.3
+  abbrev pub TookMark : Us T S R → Us T S R → maybe.Option (Held T S) → Type 0
+  TookMark m m' said = (base : List (Entry S R))
+      × (m' ≡ (taking m.0 Mark base (asked said), (0, held.Mark) ∷ []))
+
+  pub took_mark : (m m' : Us T S R) (said : maybe.Option (Held T S)) → Took next m said m' → Slotted m' held.Mark
+      → TookMark m m' said
+  took_mark m m' said k at = go k.3
     where
-      go : TookOne m m' s k.0 → (base : List (Entry S R)) × (m' ≡ (taking m.0 Mark base (Some s), (0, held.Mark) ∷ []))
+      go : TookOne m m' said k.0 → TookMark m m' said
       go (inl e) = let same : held.Mark ≡ held.Value e.0 = same_head _ _ _ _ (sym at ∙ ap (λ z. z.1) e.1) in absurd (cc)
       go (inr e) = (k.0, e)
 
-  pub not_asked : (m m' : Us T S R) (s a : S) → Took next m (some (held.Ask s)) m' → Slotted m' (held.Ask a) → ⊥
-  not_asked m m' s a k at = go k.3
+  pub not_asked : (m m' : Us T S R) (said : maybe.Option (Held T S)) (a : S) → Took next m said m'
+      → Slotted m' (held.Ask a) → ⊥
+  not_asked m m' said a k at = go k.3
     where
-      go : TookOne m m' s k.0 → ⊥
+      go : TookOne m m' said k.0 → ⊥
       go (inl e) = let same : held.Ask a ≡ held.Value e.0 = same_head _ _ _ _ (sym at ∙ ap (λ z. z.1) e.1) in cc
       go (inr e) = let same : held.Ask a ≡ held.Mark = same_head _ _ _ _ (sym at ∙ ap (λ z. z.1) e) in cc
 
   -- the pass after the value was taken out
-  pub holds_value : (p : Seat (Held T S) (View T S R)) (m m' : Us T S R) (s : S) (x : T) (k : TookValue m m' s x)
-      → p.me ≡ (m'.0, (0, held.Mark) ∷ rest m'.1) → m.0.named ≡ true → m.0.opening ≡ Some t → Holds next t p x s
-  holds_value p m m' s x k e named opened = let e' : p.me ≡ (taking m.0 Value k.0 (Some s), (0, held.Mark) ∷ []) = e
-      ∙ (λ i. (k.3 i, (0, held.Mark) ∷ k.4 i)) in let v = ap (λ (z : Us T S R). z.0) e' in record {
-        has = ap (λ z. z.has) v;
-        slot = ap (λ z. z.1) e';
-        value = k.5 t opened ∙ (λ i. after next t (sym v i).base);
-        ask = ap (λ z. z.ask) v;
-        named = ap (λ z. z.named) v ∙ named;
-        opened = ap (λ z. z.opening) v ∙ opened;
-        begins = subst (λ (z : View T S R). IsPrefix z.seen z.base) (sym v) k.1;
-        low = subst (λ (z : View T S R). z.floor ≤ length z.base) (sym v) k.2;
-        kept = ap (λ z. z.lost) v ∙ k.6;
+  pub out_value : (m m' m2 : Us T S R) (said : maybe.Option (Held T S)) (x : T) → TookValue m m' said x
+      → m2 ≡ (m'.0, (0, held.Mark) ∷ rest m'.1) → m.0.named ≡ true → m.0.opening ≡ Some t → HasOut next t m2 x
+  out_value m m' m2 said x k e named opened =
+      let e' : m2 ≡ (taking m.0 Value k.0 (asked said), (0, held.Mark) ∷ []) = e
+      ∙ (λ i. (k.3 i, (0, held.Mark) ∷ k.4 i)) in subst (λ (z : Us T S R). HasOut next t z x) (sym e') record {
+        has = refl;
+        slot = refl;
+        value = (k.5 t opened).0;
+        named = named;
+        opened = opened;
+        begins = k.1;
+        low = k.2;
+        kept = k.6;
+      }
+
+  pub holds_value : (m m' m2 : Us T S R) (s : S) (x : T) → TookValue m m' (some (held.Ask s)) x
+      → m2 ≡ (m'.0, (0, held.Mark) ∷ rest m'.1) → m.0.named ≡ true → m.0.opening ≡ Some t → Holds next t m2 x s
+  holds_value m m' m2 s x k e named opened = record {
+    out = out_value m m' m2 (some (held.Ask s)) x k e named opened;
+    ask = ap (λ (z : Us T S R). z.0.ask) e ∙ ap (λ (z : View T S R). z.ask) k.3;
+  }
+
+  -- what was seen stands where the value was taken out
+  pub seen_value : (m m' m2 : Us T S R) (said : maybe.Option (Held T S)) (x : T) (n : ℕ) → TookValue m m' said x
+      → m2 ≡ (m'.0, (0, held.Mark) ∷ rest m'.1) → n ≡ length m.0.seen → n ≡ length m2.0.seen
+  seen_value m m' m2 said x n k e h = h ∙ sym (ap (λ (z : Us T S R). length z.0.seen) e
+      ∙ ap (λ (z : View T S R). length z.seen) k.3)
+
+  -- the pass after the mark was found
+  pub mark_found : (m m' m2 : Us T S R) (said : maybe.Option (Held T S)) → TookMark m m' said
+      → m2 ≡ (m'.0, (0, held.Mark) ∷ rest m'.1) → m.0.named ≡ true → m.0.opening ≡ Some t → HasMark next t m2
+  mark_found m m' m2 said k e named opened =
+      let e' : m2 ≡ (taking m.0 Mark k.0 (asked said), (0, held.Mark) ∷ []) = e
+      ∙ (λ i. ((k.1 i).0, (0, held.Mark) ∷ rest (k.1 i).1)) in subst (λ (z : Us T S R). HasMark next t z) (sym e')
+      record { has = inr refl; slot = refl; named = named; opened = opened }
+
+  -- and was given back
+  pub mark_given : (m m' m2 m3 : Us T S R) (said : maybe.Option (Held T S)) → TookMark m m' said
+      → m2 ≡ (m'.0, (0, held.Mark) ∷ rest m'.1) → m3 ≡ (giving m2.0 true, []) → Failed m.0 fault.NoMemory m3.0
+  mark_given m m' m2 m3 said k e g = was_gone m.0 k.0 (asked said) m3
+      (g ∙ ap (λ (z : Us T S R). (giving z.0 true, [])) e ∙ ap (λ (z : Us T S R). (giving z.0 true, [])) k.1)
+
+  -- the value was asked
+  pub value_asked : (over : T → ℕ → Bool) (about : ℕ) (m m' m3 : Us T S R) (said : maybe.Option (Held T S)) (x : T)
+      → TookValue m m' said x → m.0.opening ≡ Some t → m3 ≡ (giving m'.0 false, [])
+      → IsAsked next t over m.0 about (over x about) m3.0
+  value_asked over about m m' m3 said x k opened e =
+      let e' : m3.0 ≡ giving (taking m.0 Value k.0 (asked said)) false = ap (λ (z : Us T S R). z.0) e
+      ∙ ap (λ (z : View T S R). giving z false) k.3 in let v = k.5 t opened in
+      subst (λ (z : View T S R). IsAsked next t over m.0 about (over x about) z) (sym e') record {
+        stood = record { same = record { name = refl; kids = refl; joined = refl }; seen = refl; mine = refl };
+        floor = refl;
+        told = inr (k.6, refl, (k.0, k.1, k.2, v.1, ap (λ (z : T). over z about) v.0));
+      }
+
+  pub mark_asked : (over : T → ℕ → Bool) (about : ℕ) (m m' m2 m3 : Us T S R) (said : maybe.Option (Held T S))
+      → TookMark m m' said → m2 ≡ (m'.0, (0, held.Mark) ∷ rest m'.1) → m3 ≡ (giving m2.0 true, [])
+      → IsAsked next t over m.0 about true m3.0
+  mark_asked over about m m' m2 m3 said k e g =
+      let e' : m3.0 ≡ giving (taking m.0 Mark k.0 (asked said)) true = ap (λ (z : Us T S R). z.0) (g
+      ∙ ap (λ (z : Us T S R). (giving z.0 true, [])) e ∙ ap (λ (z : Us T S R). (giving z.0 true, [])) k.1) in
+      subst (λ (z : View T S R). IsAsked next t over m.0 about true z) (sym e') record {
+        stood = record { same = record { name = refl; kids = refl; joined = refl }; seen = refl; mine = refl };
+        floor = refl;
+        told = inl (refl, refl);
       }
 
   -- a call on a pass that has taken the slot answers for the pass before
@@ -283,12 +456,12 @@ module _ {T S R : Type 0} (next : T → S → T × R) (t : T) where
   fault_before v v' w fault.Spent a b f = (f.0, sym b ∙ f.1, f.2)
   fault_before v v' w fault.NoMemory a b f = (subst (λ (n : ℕ). n ≤ w.floor) a f.0, f.1)
 
-  abbrev Like : View T S R → View T S R → Type 0
+  abbrev pub Like : View T S R → View T S R → Type 0
   Like v v' = (h : Has) × (base : List (Entry S R)) × (a : Option S) × (v' ≡ taking v h base a)
 
-  pub like : (m m' m2 : Us T S R) (s : S) (x : T) (k : TookValue m m' s x) → m2 ≡ (m'.0, (0, held.Mark) ∷ rest m'.1)
-      → Like m.0 m2.0
-  like m m' m2 s x k e = (Value, k.0, Some s, ap (λ z. z.0) e ∙ k.3)
+  pub like : (m m' m2 : Us T S R) (said : maybe.Option (Held T S)) (x : T) (k : TookValue m m' said x)
+      → m2 ≡ (m'.0, (0, held.Mark) ∷ rest m'.1) → Like m.0 m2.0
+  like m m' m2 said x k e = (Value, k.0, asked said, ap (λ z. z.0) e ∙ k.3)
 
   pub failed_before : (v v' w : View T S R) (e : GateFault) → Like v v' → Failed v' e w → Failed v e w
   failed_before v v' w e l f = let s = f.stood.same in let p = l.3 in record {

@@ -222,8 +222,8 @@ module _ {T S R : Type 0} (next : T → S → T × R) where
       one = entry_spot;
     }
 
-    lock_at : get_elem? s.words 1 ≡ some (lock_word k.lock)
-    lock_at = ap (λ ws. get_elem? ws 1) k.words
+    lock_at : get_elem? s.words 8 ≡ some (lock_word k.lock)
+    lock_at = ap (λ ws. get_elem? ws 8) k.words
 
     idle_of : (h : Has) (l : Lock) (log base : List (Entry S R)) (gone : Bool) (i : ℕ) → HasFits log l gone i base h
         → h ≢ Nothing → l ≡ by i
@@ -246,8 +246,8 @@ module _ {T S R : Type 0} (next : T → S → T × R) where
     none_is free e = refl
     none_is (by j) e = absurd (omega arith)
 
-    word_of : (l : Lock) → get_elem? s.words 1 ≡ some (lock_word l) → (get_elem? s.words 1 ≡ some 0)
-        ⊎ (get_elem? s.words 1 ≡ some 1)
+    word_of : (l : Lock) → get_elem? s.words 8 ≡ some (lock_word l) → (get_elem? s.words 8 ≡ some 0)
+        ⊎ (get_elem? s.words 8 ≡ some 1)
     word_of free e = inl e
     word_of (by j) e = inr e
 

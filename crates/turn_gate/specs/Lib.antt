@@ -5,4 +5,5 @@ pub mod Gates
 pub mod Rule
 pub mod Laws
 pub mod Table
+pub mod Rows
 pub mod Places

@@ -1,5 +1,5 @@
 -- What a clause says of a pass, by its view before a call and after it.
-use Rattle.std.specs.Prelude.{◌≡◌, ◌⊎◌, ℕ, ◌+◌, ◌<◌, ◌≤◌, true, false, ◌||◌, List, [], ◌∷◌, ◌++◌, length, max}
+use Rattle.std.specs.Prelude.{◌≡◌, ◌⊎◌, ℕ, ◌+◌, ◌<◌, ◌≤◌, Bool, true, false, ◌||◌, List, [], ◌∷◌, ◌++◌, length, max}
 use mathlib.Core.List.{IsPrefix}
 use mathlib.Core.Option.{some}
 use lib.ListN.{get_elem?}
@@ -9,7 +9,7 @@ use Rattle.turn_gate.specs.declared.view.Joined.{Joined}
 use Rattle.turn_gate.specs.declared.view.View.{View}
 use Rattle.turn_gate.specs.declared.gate.GateFault.{GateFault}
 use Rattle.turn_gate.specs.declared.gate.GateFault.TheVariants as fault
-use Rattle.turn_gate.specs.History.{IsLegal, places, pairs_of}
+use Rattle.turn_gate.specs.History.{after, IsLegal, places, pairs_of}
 
 module _ {T S R : Type 0} where
   -- the caller's own steps and their replies, in order
@@ -119,3 +119,12 @@ module _ {T S R : Type 0} (next : T → S → T × R) (t : T) where
     pub floor : w.floor ≡ length w.seen
     pub short : w.floor ≤ most_steps
     pub kept : (v.lost ≡ false) × (w.lost ≡ false)
+
+  -- no step was added to what it has seen. Where the value wasn't given up, the answer is that of the value which some
+  -- legal history leaves that begins with what it has seen
+  pub record IsAsked (over : T → ℕ → Bool) (v : View T S R) (about : ℕ) (answer : Bool) (w : View T S R) : Type 0 where
+    pub stood : Stood v w
+    pub floor : w.floor ≡ v.floor
+    pub told : ((w.lost ≡ true) × (answer ≡ true))
+        ⊎ ((v.lost ≡ false) × (w.lost ≡ false) × ((es : List (Entry S R)) × IsPrefix v.seen es
+        × (v.floor ≤ length es) × IsLegal next t es × (answer ≡ over (after next t es) about)))

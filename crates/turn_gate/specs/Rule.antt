@@ -1,5 +1,5 @@
 -- The rule of a gate in six parts: what holds of its table between any two steps on it.
--- Word 0 counts the steps and word 1 is the lock. Slot 0 holds the value, or the mark that the value was given up.
+-- Word 0 counts the steps and word 8 is the lock. Slot 0 holds the value, or the mark that the value was given up.
 -- The other words serve to wake callers, and the rule says nothing of them.
 use Rattle.std.specs.Prelude.{◌≡◌, ◌≢◌, ◌⊎◌, ℕ, ◌≤◌, true, false, List, [], ◌∷◌, length}
 use mathlib.Core.Option.{none, some}
@@ -30,17 +30,17 @@ module _ {T S R : Type 0} where
   abbrev pub IsFirstAt : List (View T S R) → ℕ → View T S R → Type 0
   IsFirstAt views i v = (get_elem? views i ≡ some v) × (v.named ≡ true) × (v.name ≡ 0)
 
-  -- word 1 is 1 where exactly one view has something of the slot, and 0 where none has. The slot is at home exactly
-  -- where word 1 is 0
+  -- word 8 is 1 where exactly one view has something of the slot, and 0 where none has. The slot is at home exactly
+  -- where word 8 is 0
   pub record IsInCustody (s : State (Held T S) (View T S R)) : Type 0 where
-    pub lock : (get_elem? s.words 1 ≡ some 0) ⊎ (get_elem? s.words 1 ≡ some 1)
-    pub taken : get_elem? s.words 1 ≡ some 1 → (i : ℕ) × (v : View T S R) × (get_elem? s.views i ≡ some v)
+    pub lock : (get_elem? s.words 8 ≡ some 0) ⊎ (get_elem? s.words 8 ≡ some 1)
+    pub taken : get_elem? s.words 8 ≡ some 1 → (i : ℕ) × (v : View T S R) × (get_elem? s.views i ≡ some v)
         × (v.has ≢ Nothing)
     pub by_one : (i : ℕ) (v : View T S R) → get_elem? s.views i ≡ some v → v.has ≢ Nothing
-        → (get_elem? s.words 1 ≡ some 1) × ((j : ℕ) (u : View T S R) → get_elem? s.views j ≡ some u → u.has ≢ Nothing
+        → (get_elem? s.words 8 ≡ some 1) × ((j : ℕ) (u : View T S R) → get_elem? s.views j ≡ some u → u.has ≢ Nothing
         → j ≡ i)
-    pub home : get_elem? s.words 1 ≡ some 0 → (x : Held T S) × (s.homes ≡ some x ∷ [])
-    pub away : get_elem? s.words 1 ≡ some 1 → s.homes ≡ none ∷ []
+    pub home : get_elem? s.words 8 ≡ some 0 → (x : Held T S) × (s.homes ≡ some x ∷ [])
+    pub away : get_elem? s.words 8 ≡ some 1 → s.homes ≡ none ∷ []
 
   -- one view has the name 0, and of those with a name it alone has kids or joined passes. Each name from 0 to its
   -- kids stands at one

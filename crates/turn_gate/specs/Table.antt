@@ -1,5 +1,5 @@
 -- The rule of a gate as its proof carries it, and what each of its steps tells. For proofs alone.
--- Word 0 is the length of the history and word 1 the lock. Slot 0 is at home where the lock is free.
+-- Word 0 is the length of the history and word 8 the lock. Slot 0 is at home where the lock is free.
 -- Of the other words, by which callers wake one another, the rule says nothing.
 use Rattle.std.specs.Prelude.{◌≡◌, ◌≢◌, ◌⊎◌, ℕ, ◌+◌, ◌<◌, ◌≤◌, Bool, true, false, ◌||◌, List, [], ◌∷◌, ◌++◌}
 use Rattle.std.specs.Prelude.{length, drop, Option, Some, None, max}
@@ -26,6 +26,11 @@ pub data Lock : Type 0 where
 abbrev pub lock_word : Lock → ℕ
 lock_word free = 0
 lock_word (by j) = 1
+
+-- the words: the length of the history and the lock each begin a line of the processor's memory, and what fills the
+-- first line up is never touched
+abbrev pub words_of : ℕ → ℕ → List ℕ → List ℕ
+words_of n lock others = n ∷ 0 ∷ 0 ∷ 0 ∷ 0 ∷ 0 ∷ 0 ∷ 0 ∷ lock ∷ others
 
 -- where a name stands: as the name of the view with this number, or at this place among the joined
 pub data Owner : Type 0 where
@@ -119,7 +124,7 @@ module _ {T S R : Type 0} (next : T → S → T × R) where
     pub kids : ℕ
     pub joined : List (Joined S R)
     pub others : List ℕ
-    pub words : s.words ≡ length log ∷ lock_word lock ∷ others
+    pub words : s.words ≡ words_of (length log) (lock_word lock) others
     pub homes : s.homes ≡ homes_of t log gone lock
     pub short : length log ≤ most_steps
     pub legal : IsLegal next t log
@@ -149,6 +154,9 @@ module _ {T S : Type 0} where
 module _ {T S R : Type 0} where
   abbrev pub taking : View T S R → Has → List (Entry S R) → Option S → View T S R
   taking v has base ask = record v { has = has; base = base; ask = ask }
+
+  abbrev pub asking : View T S R → Option S → View T S R
+  asking v ask = record v { ask = ask }
 
   abbrev pub giving : View T S R → Bool → View T S R
   giving v lost = record v { has = Nothing; lost = lost; base = []; ask = None }
@@ -206,6 +214,10 @@ module _ {T S R : Type 0} where
   abbrev pub gave : Us T S R → Us T S R → Type 0
   gave m m' = (x : Held T S) → m.1 ≡ (0, x) ∷ [] → m' ≡ (giving m.0 (lost_after x m.0.lost), [])
 
+  -- another step is to be done
+  abbrev pub again : Step (Held T S) → Us T S R → Us T S R → Type 0
+  again st m m' = m' ≡ (asking m.0 (asked st.said), m.1)
+
   -- so many steps stand
   abbrev pub looked : Us T S R → ℕ → Us T S R → Type 0
   looked m n m' = (m' ≡ (seeing m.0 n, m.1)) × (m.0.floor ≤ n) × (length m.0.seen ≤ n) × (n ≤ most_steps)
@@ -218,9 +230,9 @@ module _ {T S R : Type 0} where
       → j.mine ≡ places j.name log)) × (m.0.named ≡ true → m.0.mine ≡ places m.0.name m.0.seen)
 
 module _ {T S R : Type 0} (next : T → S → T × R) where
-  -- the value is what these entries leave of the value that the gate was opened with
+  -- the entries are legal, and the value is what they leave of the value that the gate was opened with
   abbrev pub IsAfter : Option T → List (Entry S R) → T → Type 0
-  IsAfter opening es y = (t : T) → opening ≡ Some t → y ≡ after next t es
+  IsAfter opening es y = (t : T) → opening ≡ Some t → (y ≡ after next t es) × IsLegal next t es
 
   -- the slot was taken, with what it held
   abbrev pub Took : Us T S R → maybe.Option (Held T S) → Us T S R → Type 0

@@ -1,18 +1,20 @@
 //! The calls of a gate.
 ghost use Rattle.std.specs.Prelude.{◌≡◌, ◌≢◌, ◌≤◌, ◌++◌, ◌∷◌, [], true, false, length, IfOk};
-ghost use Rattle.std.specs.Prelude.{IfErr, IsOk, MatchOption, MatchResult};
+ghost use Rattle.std.specs.Prelude.{IfErr, IsOk, MatchOption, MatchResult, ◌<◌, ◌-◌, List, map};
+ghost use Rattle.std.specs.Prelude.{vec_capacity, vec_len};
 ghost use Rattle.turn_gate.specs.History.{after, IsLegal};
 ghost use Rattle.turn_gate.specs.Passes.{IsFirst, Stood, Failed, Committed, HasOneMore, IsChild};
-ghost use Rattle.turn_gate.specs.Passes.{IsUnion, HasAll, IsWhole, own_pairs};
+ghost use Rattle.turn_gate.specs.Passes.{IsUnion, HasAll, IsWhole, IsSame, IsAsked, own_pairs};
+ghost use Rattle.turn_gate.specs.Rows.{IsRow, IsCutRow, AreCommitted, AreCutShort};
 ghost use Rattle.turn_gate.specs.Gates.{opening_of, view, IsPassOf};
 
-use crate::gate::{Gate, GateFault, MOST, Pass};
-use crate::replayed::{NoMemory, Replayed};
+use crate::gate::{Gate, GateFault, Pass};
+use crate::replayed::{Course, NoMemory, Replayed};
 use std::alloc::Global;
 use std::sync::Wait;
 
 impl<T: Replayed> Gate<T> {
-    /// A gate that holds `t`, and its first pass.
+    /// A gate that holds `t`, and its first pass, which rests at place 0.
     ///
     /// `seats` is for how many callers room to wait may be taken. This gate takes none, since its
     /// callers wait on words of the gate, and any number of passes may be split from the first.
@@ -27,7 +29,7 @@ impl<T: Replayed> Gate<T> {
                 gate,
                 Pass {
                     seat,
-                    floor: 0,
+                    place: 0,
                     heard: 0,
                 },
             )),
@@ -55,19 +57,48 @@ impl<T: Replayed> Gate<T> {
             (λ r. own_pairs (view pass.new) ≡ own_pairs (view pass.old) ++ (s, r) ∷ [])
             (λ e. own_pairs (view pass.new) ≡ own_pairs (view pass.old)) }
     {
-        // Read before the step, so that no later news are missed.
-        pass.heard = self.news();
-        match self.commit_at(rt, &mut pass.seat, s) {
-            Ok((reply, n)) => {
-                pass.floor = n;
-                Ok(reply)
-            }
-            Err(GateFault::Spent) => {
-                pass.floor = MOST;
-                Err(GateFault::Spent)
-            }
-            Err(GateFault::NoMemory) => Err(GateFault::NoMemory),
-        }
+        self.commit_at(rt, &mut pass.seat, s, &mut pass.heard)
+    }
+
+    /// Does a step and those that go on behind it, all in one hold of the value: as many as there
+    /// is room for in `replies`, to which their replies are added.
+    ///
+    /// Each further step is the course's answer to the reply before. No other caller's step stands
+    /// between them. Where a step isn't done those before it stand.
+    pub fn commit_row<R: Wait, C: Course<T>>(
+        &self,
+        rt: &R,
+        pass: &mut Pass<T>,
+        s: T::Step,
+        course: &C,
+        replies: &mut Vec<T::Reply>,
+    ) -> Result<(), GateFault>
+        requires gate { IsPassOf self.now pass.old }
+        requires room { vec_len replies.old < vec_capacity replies.old }
+        ensures gate { IsPassOf self.now pass.new }
+        ensures capacity { vec_capacity replies.new ≡ vec_capacity replies.old }
+        ensures row { (ps : List (T.Step × T.Reply)) × MatchResult result
+            (λ _. IsRow (C.further course.now) (vec_capacity replies.old - vec_len replies.old) s ps
+            × AreCommitted T.next (opening_of self.now) (view pass.old) ps (view pass.new))
+            (λ e. IsCutRow (C.further course.now) (vec_capacity replies.old - vec_len replies.old)
+            s ps × AreCutShort T.next (opening_of self.now) (view pass.old) ps e (view pass.new))
+            × (replies.new.items ≡ replies.old.items ++ map (λ p. p.1) ps)
+            × (own_pairs (view pass.new) ≡ own_pairs (view pass.old) ++ ps) }
+        ensures same { IsSame (view pass.old) (view pass.new) }
+    {
+        self.row_at(rt, &mut pass.seat, s, course, replies, &mut pass.heard)
+    }
+
+    /// Whether what goes by this number is over, as the value says that stands now
+    /// ([`Replayed::is_over`]), or the value was given up. It does no step, and nobody is called.
+    pub fn ask<R: Wait>(&self, rt: &R, pass: &mut Pass<T>, about: u32) -> bool
+        requires gate { IsPassOf self.now pass.old }
+        ensures gate { IsPassOf self.now pass.new }
+        ensures asked { IsAsked T.next (opening_of self.now) T.over (view pass.old) about result
+            (view pass.new) }
+        ensures own { own_pairs (view pass.new) ≡ own_pairs (view pass.old) }
+    {
+        self.ask_at(rt, &mut pass.seat, about)
     }
 
     /// How many steps stand now, at least. It never waits.
@@ -80,25 +111,33 @@ impl<T: Replayed> Gate<T> {
         ensures same { Stood (view pass.old) (view pass.new)
             × ((view pass.new).lost ≡ (view pass.old).lost) }
     {
-        let n = self.seen_at(&mut pass.seat);
-        pass.floor = n;
-        n
+        self.seen_at(&mut pass.seat)
     }
 
-    /// Sleeps until behind the pass's last step there was one of another pass whose reply isn't
-    /// quiet ([`Replayed::is_quiet`]), or the gate is at its end. It may end sooner.
+    /// Sleeps until the place at which the pass rests was called for a step behind those that the
+    /// pass has seen, or the gate is at its end. It may end sooner.
+    ///
+    /// A step calls its own place ([`Replayed::called_by`]) and those at which it leaves work
+    /// ([`Replayed::work`]).
     pub fn rest<R: Wait>(&self, rt: &R, pass: &Pass<T>)
         requires gate { IsPassOf self.now pass.now }
     {
-        self.rest_at(rt, pass.heard);
+        self.rest_at(rt, pass.place, pass.heard);
     }
 
-    /// A new pass, for another caller, which has seen as much as the first one.
+    /// Whether the value was given up. No clause speaks of it: who needs it for a promise commits.
+    pub fn is_lost(&self) -> bool {
+        self.was_given_up()
+    }
+
+    /// A new pass, for another caller, which has seen as much as the first one and rests at this
+    /// place.
     ///
     /// It takes no memory and always succeeds.
-    pub fn split(&self, pass: &mut Pass<T>) -> Result<Pass<T>, NoMemory>
+    pub fn split(&self, pass: &mut Pass<T>, place: usize) -> Result<Pass<T>, NoMemory>
         requires gate { IsPassOf self.now pass.old }
         requires first { (view pass.old).name ≡ 0 }
+        requires place { place < 64 }
         ensures always { IsOk result }
         ensures gate { IsPassOf self.now pass.new × IfOk result (λ r. IsPassOf self.now r) }
         ensures same { HasOneMore (view pass.old) (view pass.new) }
@@ -107,7 +146,7 @@ impl<T: Replayed> Gate<T> {
         let seat = self.split_at(&mut pass.seat);
         Ok(Pass {
             seat,
-            floor: pass.floor,
+            place,
             heard: pass.heard,
         })
     }
@@ -120,11 +159,9 @@ impl<T: Replayed> Gate<T> {
         ensures gate { IsPassOf self.now pass.new }
         ensures both { IsUnion (view pass.old) (view other) (view pass.new) }
     {
-        let Pass { seat, floor, .. } = other;
+        let Pass { seat, heard, .. } = other;
         self.join_at(&mut pass.seat, seat);
-        if pass.floor < floor {
-            pass.floor = floor;
-        }
+        pass.heard = pass.heard.max(heard);
     }
 
     /// The value that all steps left, or none where a step found no memory.

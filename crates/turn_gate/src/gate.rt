@@ -1,11 +1,11 @@
 //! The gate and its passes, and its calls as the table sees them.
 ghost use Rattle.std.specs.Prelude.{◌≡◌, ℕ, ◌≤◌, ◌<◌, ◌^◌, [], ◌∷◌, true, false, ◌≢◌, length};
-ghost use Rattle.std.specs.Prelude.{IfOk, MatchResult, MatchOption};
+ghost use Rattle.std.specs.Prelude.{IfOk, MatchResult, MatchOption, Some};
 ghost use Rattle.turn_gate.specs.declared.view.Has.TheVariants.{Nothing};
 ghost use Rattle.turn_gate.specs.History.{places};
 
-use crate::plays::{Compare, Family, Give, Law, Look, Note, Take, Touch, Visit};
-use crate::replayed::{NoMemory, Replayed};
+use crate::plays::{Again, Compare, Family, Give, Law, Look, Note, Take, Touch, Visit};
+use crate::replayed::{NoMemory, PLACES, Replayed};
 use crate::view::{Held, View};
 use atomic_table::{Seat, Table};
 use crossbeam_utils::Backoff;
@@ -28,32 +28,40 @@ pub enum GateFault {
 /// The most steps that a gate takes.
 pub const MOST: u64 = 1 << 62;
 
+// How many words are a line of the processor's memory, which one thread at a time writes. Each of
+// these words begins one.
+const LINE: usize = 8;
+
 // How many steps stand.
 const COUNT: usize = 0;
 
 // 1 while a pass has the slot, and else 0.
-const LOCK: usize = 1;
+const LOCK: usize = 8;
 
 // How many callers sleep until the lock is free.
-const WAITERS: usize = 2;
-
-// How many callers sleep until a further step stands.
-const RESTERS: usize = 3;
-
-// How many steps weren't quiet, or found that the gate is at its end: those who rest look again.
-const NEWS: usize = 4;
+const WAITERS: usize = 16;
 
 // 1 once the value was given up.
-const ENDED: usize = 5;
+const ENDED: usize = 24;
+
+// From this word on each place has a line, which begins with how many steps stood when the place was
+// called last.
+const CALLS: usize = 32;
+
+// From this word on, in the same lines, those who rest at each place are counted.
+const RESTERS: usize = 33;
+
+// How many words there are.
+const WORDS: usize = 544;
 
 /// A value that callers change in steps, each through a pass of its own.
 ///
-/// It is shared by reference between threads. Of its words the first two are under a rule; by the
-/// others callers wake one another, and no clause speaks of them.
+/// It is shared by reference between threads. Of its words two are under a rule, how many steps stand
+/// and the lock; by the others callers wake one another, and no clause speaks of them.
 #[derive(Drop)]
 pub struct Gate<T: Replayed> {
     pub(crate) table: Table<Held<T, T::Step>, View<T, T::Step, T::Reply>, Snapshot<T>, Law, Global>,
-    ghost sized: { (table.shared.table_id.words ≡ 6) × (table.shared.table_id.slots ≡ 1) },
+    ghost sized: { (table.shared.table_id.words ≡ 544) × (table.shared.table_id.slots ≡ 1) },
 }
 
 // What a pass is to the table.
@@ -68,21 +76,44 @@ pub(crate) type Place<T> = Seat<
 #[derive(Drop)]
 pub struct Pass<T: Replayed> {
     pub(crate) seat: Seat<Held<T, T::Step>, View<T, T::Step, T::Reply>>,
-    pub(crate) floor: u64,
-    // What the news were before the pass's last step.
+    // Where the caller rests.
+    pub(crate) place: usize,
+    // How many steps the pass has seen: what it has heard of.
     pub(crate) heard: u64,
+    ghost placed: { place < 64 },
     ghost empty: { seat.me.1 ≡ [] },
     ghost idle: { seat.me.0.has ≡ Nothing },
     ghost named: { seat.me.0.named ≡ true },
-    ghost low: { floor ≤ seat.me.0.floor },
     pub ghost own: { seat.me.0.mine ≡ places seat.me.0.name seat.me.0.seen },
+    pub ghost hears: { heard ≡ length seat.me.0.seen },
+}
+
+// What became of a step that was to be noted.
+pub(crate) enum Noted<T, R> {
+    // It left this value with this reply, and so many steps stand now.
+    Done(T, R, u64),
+    // As many steps stand as a gate takes.
+    Full(T),
+    // It found no memory.
+    Lost,
+}
+
+// This place is called too, where there is one.
+pub(crate) fn add_place(called: &mut [bool; PLACES], place: Option<usize>) {
+    if let Some(place) = place
+        && place < PLACES
+    {
+        called[place] = true;
+    }
 }
 
 impl<T: Replayed> Gate<T> {
     ghost use Rattle.turn_gate.specs.Passes.{IsFirst, Stood, Failed, Committed, IsChild, IsUnion};
     ghost use Rattle.turn_gate.specs.Passes.{HasAll, IsWhole};
-    ghost use Rattle.turn_gate.specs.Places.{place_view, IsFreeAt, Holds};
-    ghost use Rattle.turn_gate.specs.Table.{Took, Ready, gave, parent};
+    ghost use Rattle.turn_gate.specs.Passes.{IsAsked};
+    ghost use Rattle.turn_gate.specs.Places.{place_view, IsFreeAt, HasOut, Holds, HasMark};
+    ghost use Rattle.turn_gate.specs.Places.{HasNoted};
+    ghost use Rattle.turn_gate.specs.Table.{Took, Ready, gave, giving, asking, parent};
     ghost use Rattle.turn_gate.specs.History.{after, IsLegal};
     ghost use Rattle.turn_gate.specs.declared.view.Held.TheVariants.{Value, Mark, Ask};
     ghost use mathlib.Core.Option.{some};
@@ -113,62 +144,88 @@ impl<T: Replayed> Gate<T> {
         self.table.shared.fetch_sub::<Touch>(pass, WAITERS, 1);
     }
 
-    // There is something new: those who rest wake, if any do.
-    fn tell(&self, pass: &mut Place<T>)
+    // Those who rest at this place and have heard of fewer steps than these are to look again: they
+    // wake, if any do.
+    fn call(&self, pass: &mut Place<T>, place: usize, steps: u64)
+        requires gate { pass.old.table_id ≡ self.now.table.shared.table_id }
+        requires place { place < 64 }
+        ensures gate { (pass.new.table_id ≡ pass.old.table_id) × (pass.new.id ≡ pass.old.id) }
+        ensures same { pass.new.me ≡ pass.old.me }
+    {
+        self.table
+            .shared
+            .fetch_max::<Touch>(pass, place * LINE + CALLS, steps);
+        if self.table.shared.peek(place * LINE + RESTERS) != 0 {
+            self.table.shared.wake_all(place * LINE + CALLS);
+        }
+    }
+
+    // Calls these places, where so many steps stand.
+    fn tell(&self, pass: &mut Place<T>, called: &[bool; PLACES], steps: u64)
         requires gate { pass.old.table_id ≡ self.now.table.shared.table_id }
         ensures gate { pass.new.table_id ≡ pass.old.table_id }
         ensures same { pass.new.me ≡ pass.old.me }
     {
-        self.table.shared.fetch_add::<Touch>(pass, NEWS, 1);
-        if self.table.shared.peek(RESTERS) != 0 {
-            self.table.shared.wake_all(NEWS);
+        for place in 0..PLACES {
+            if called[place] {
+                self.call(pass, place, steps);
+            }
         }
     }
 
-    // What the news are now.
-    pub(crate) fn news(&self) -> u64 {
-        self.table.shared.peek(NEWS)
+    // How many steps stood when this place was called last.
+    fn called(&self, place: usize) -> u64
+        requires { place < 64 }
+    {
+        self.table.shared.peek(place * LINE + CALLS)
     }
 
-    // Sleeps until the news are others than these, or the value was given up.
-    pub(crate) fn rest_at<R: Wait>(&self, rt: &R, heard: u64) {
+    // Whether the value was given up.
+    pub(crate) fn was_given_up(&self) -> bool {
+        self.table.shared.peek(ENDED) != 0
+    }
+
+    // Sleeps until this place was called for a step behind those that were heard of, or the value was
+    // given up.
+    pub(crate) fn rest_at<R: Wait>(&self, rt: &R, place: usize, heard: u64)
+        requires { place < 64 }
+    {
         let (_count, mut seat) = self.table.shared.load_new_seat::<Visit>(COUNT);
-        self.table.shared.fetch_add::<Touch>(&mut seat, RESTERS, 1);
+        self.table
+            .shared
+            .fetch_add::<Touch>(&mut seat, place * LINE + RESTERS, 1);
         for _ in rt.forever() {
-            if self.news() != heard || self.table.shared.peek(ENDED) != 0 {
+            let called = self.called(place);
+            if called > heard || self.was_given_up() {
                 break;
             }
             self.table
                 .shared
-                .park(rt, NEWS, (heard & 0xffff_ffff) as u32);
+                .park(rt, place * LINE + CALLS, (called & 0xffff_ffff) as u32);
         }
-        self.table.shared.fetch_sub::<Touch>(&mut seat, RESTERS, 1);
+        self.table
+            .shared
+            .fetch_sub::<Touch>(&mut seat, place * LINE + RESTERS, 1);
     }
 
-    // Takes the slot, and leaves in the view which step is to be done.
-    fn take<R: Wait>(&self, rt: &R, pass: &mut Place<T>, s: T::Step) -> T::Step
+    // Takes the slot, and leaves in the view which step is to be done, where one is announced.
+    fn seize<R: Wait>(&self, rt: &R, pass: &mut Place<T>, ask: &Held<T, T::Step>)
         requires gate { (pass.old.table_id ≡ self.now.table.shared.table_id)
             × (pass.old.me.1 ≡ []) × ((place_view pass.old).named ≡ true) }
         ensures gate { (pass.new.table_id ≡ pass.old.table_id) × (pass.new.id ≡ pass.old.id) }
-        ensures same { result ≡ s }
-        ensures took { Took T.next pass.old.me (some (Ask s)) pass.new.me }
+        ensures took { Took T.next pass.old.me (some ask.now) pass.new.me }
     {
         let backoff = Backoff::new();
-        let ask: Held<T, T::Step> = Held::Ask(s);
         for _ in rt.forever() {
             // A look first: who only looks takes the word from nobody.
             if self.table.shared.peek(LOCK) == 0
                 && self
                     .table
                     .shared
-                    .compare_exchange_with::<Take>(pass, LOCK, 0, 1, &ask)
+                    .compare_exchange_with::<Take>(pass, LOCK, 0, 1, ask)
                     == 0
             {
-                return match ask {
-                    Held::Ask(s) => s,
-                    Held::Value(_t) => unreachable!(),
-                    Held::Mark => unreachable!(),
-                };
+                return;
             }
             if backoff.is_completed() {
                 self.wait(rt, pass);
@@ -179,8 +236,43 @@ impl<T: Replayed> Gate<T> {
         unreachable!()
     }
 
-    // Gives the slot back with what is in it, and tells it where it isn't quiet.
-    fn give(&self, pass: &mut Place<T>, quiet: bool)
+    // Takes the slot, and leaves in the view which step is to be done.
+    pub(crate) fn take<R: Wait>(&self, rt: &R, pass: &mut Place<T>, s: T::Step) -> T::Step
+        requires gate { (pass.old.table_id ≡ self.now.table.shared.table_id)
+            × (pass.old.me.1 ≡ []) × ((place_view pass.old).named ≡ true) }
+        ensures gate { (pass.new.table_id ≡ pass.old.table_id) × (pass.new.id ≡ pass.old.id) }
+        ensures same { result ≡ s }
+        ensures took { Took T.next pass.old.me (some (Ask s)) pass.new.me }
+    {
+        let ask: Held<T, T::Step> = Held::Ask(s);
+        self.seize(rt, pass, &ask);
+        match ask {
+            Held::Ask(s) => s,
+            Held::Value(_t) => unreachable!(),
+            Held::Mark => unreachable!(),
+        }
+    }
+
+    // Leaves in the view which step is to be done next. The pass has the slot, and keeps it.
+    pub(crate) fn announce(&self, pass: &mut Place<T>, s: T::Step) -> T::Step
+        requires gate { pass.old.table_id ≡ self.now.table.shared.table_id }
+        ensures gate { (pass.new.table_id ≡ pass.old.table_id) × (pass.new.id ≡ pass.old.id) }
+        ensures same { result ≡ s }
+        ensures asked { pass.new.me ≡ (asking (place_view pass.old) (Some s), pass.old.me.1) }
+    {
+        let ask: Held<T, T::Step> = Held::Ask(s);
+        self.table
+            .shared
+            .compare_exchange_with::<Again>(pass, LOCK, 1, 1, &ask);
+        match ask {
+            Held::Ask(s) => s,
+            Held::Value(_t) => unreachable!(),
+            Held::Mark => unreachable!(),
+        }
+    }
+
+    // Gives the slot back with what is in it.
+    fn release(&self, pass: &mut Place<T>)
         requires gate { pass.old.table_id ≡ self.now.table.shared.table_id }
         requires ready { ((place_view pass.old).named ≡ true)
             × ((x : _) × (pass.old.me.1 ≡ (0, x) ∷ [])
@@ -192,9 +284,19 @@ impl<T: Replayed> Gate<T> {
         if self.table.shared.peek(WAITERS) != 0 {
             self.table.shared.wake_one(LOCK);
         }
-        if !quiet {
-            self.tell(pass);
-        }
+    }
+
+    // Gives the slot back with what is in it, and calls these places, where so many steps stand.
+    fn give(&self, pass: &mut Place<T>, called: &[bool; PLACES], steps: u64)
+        requires gate { pass.old.table_id ≡ self.now.table.shared.table_id }
+        requires ready { ((place_view pass.old).named ≡ true)
+            × ((x : _) × (pass.old.me.1 ≡ (0, x) ∷ [])
+            × Ready T.next self.now.table.shared.key.value (place_view pass.old) x) }
+        ensures gate { pass.new.table_id ≡ pass.old.table_id }
+        ensures gave { gave pass.old.me pass.new.me }
+    {
+        self.release(pass);
+        self.tell(pass, called, steps);
     }
 
     // Puts the value into the slot, which holds the mark.
@@ -211,34 +313,87 @@ impl<T: Replayed> Gate<T> {
         }
     }
 
-    // Does the step with the value that was taken out, and gives the slot back.
-    fn advance(&self, pass: &mut Place<T>, t: T, s: T::Step) -> Result<(T::Reply, u64), GateFault>
+    // Puts the value back, gives the slot back, and calls these places, where so many steps stand.
+    pub(crate) fn put_back(&self, pass: &mut Place<T>, t: T, called: &[bool; PLACES], steps: u64)
         requires gate { pass.old.table_id ≡ self.now.table.shared.table_id }
-        requires holds { Holds T.next self.now.table.shared.key.value pass.old t s }
+        requires out { HasOut T.next self.now.table.shared.key.value pass.old.me t }
         ensures gate { (pass.new.table_id ≡ pass.old.table_id)
             × IsFreeAt self.now.table.shared.key.value pass.new }
-        ensures reply { MatchResult result (λ r. Committed T.next self.now.table.shared.key.value
-            (place_view pass.old) s r.0 (place_view pass.new)
-            × (r.1 ≡ (place_view pass.new).floor)) (λ e. Failed (place_view pass.old) e
-            (place_view pass.new)) }
+        ensures same { pass.new.me ≡ (giving (place_view pass.old) false, []) }
+    {
+        self.put(pass, t);
+        self.give(pass, called, steps);
+    }
+
+    // Gives the slot back, in which the mark stays, and calls all places.
+    pub(crate) fn give_up(&self, pass: &mut Place<T>)
+        requires gate { pass.old.table_id ≡ self.now.table.shared.table_id }
+        requires mark { HasMark T.next self.now.table.shared.key.value pass.old.me }
+        ensures gate { (pass.new.table_id ≡ pass.old.table_id)
+            × IsFreeAt self.now.table.shared.key.value pass.new }
+        ensures lost { pass.new.me ≡ (giving (place_view pass.old) true, []) }
+    {
+        self.give(pass, &[true; PLACES], u64::MAX);
+    }
+
+    // Does the step with the value that was taken out, and notes it.
+    pub(crate) fn note(&self, pass: &mut Place<T>, t: T, s: T::Step) -> Noted<T, T::Reply>
+        requires gate { pass.old.table_id ≡ self.now.table.shared.table_id }
+        requires holds { Holds T.next self.now.table.shared.key.value pass.old.me t s }
+        ensures gate { pass.new.table_id ≡ pass.old.table_id }
+        ensures noted { HasNoted T.next self.now.table.shared.key.value pass.old.me s result
+            pass.new.me }
     {
         let n = self.table.shared.load::<Look>(pass, COUNT);
         if n >= MOST {
-            self.put(pass, t);
-            self.give(pass, false);
-            return Err(GateFault::Spent);
+            return Noted::Full(t);
         }
         match t.step(s) {
             Ok((t, reply)) => {
-                let quiet = T::is_quiet(&reply);
                 self.table.shared.fetch_add::<Note>(pass, COUNT, 1);
-                self.put(pass, t);
-                self.give(pass, quiet);
-                Ok((reply, n + 1))
+                Noted::Done(t, reply, n + 1)
             }
             Err(NoMemory) => {
                 self.table.shared.store::<Touch>(pass, ENDED, 1);
-                self.give(pass, false);
+                Noted::Lost
+            }
+        }
+    }
+
+    // Does the step with the value that was taken out, and gives the slot back.
+    fn advance(
+        &self,
+        pass: &mut Place<T>,
+        t: T,
+        s: T::Step,
+        heard: &mut u64,
+    ) -> Result<T::Reply, GateFault>
+        requires gate { pass.old.table_id ≡ self.now.table.shared.table_id }
+        requires holds { Holds T.next self.now.table.shared.key.value pass.old.me t s }
+        requires heard { heard.old ≡ length (place_view pass.old).seen }
+        ensures gate { (pass.new.table_id ≡ pass.old.table_id)
+            × IsFreeAt self.now.table.shared.key.value pass.new }
+        ensures reply { MatchResult result
+            (λ r. Committed T.next self.now.table.shared.key.value (place_view pass.old) s r
+            (place_view pass.new))
+            (λ e. Failed (place_view pass.old) e (place_view pass.new)) }
+        ensures heard { heard.new ≡ length (place_view pass.new).seen }
+    {
+        let asked = T::called_by(&s);
+        match self.note(pass, t, s) {
+            Noted::Done(t, reply, steps) => {
+                *heard = steps;
+                let mut called = t.work();
+                add_place(&mut called, asked);
+                self.put_back(pass, t, &called, steps);
+                Ok(reply)
+            }
+            Noted::Full(t) => {
+                self.put_back(pass, t, &[true; PLACES], u64::MAX);
+                Err(GateFault::Spent)
+            }
+            Noted::Lost => {
+                self.give_up(pass);
                 Err(GateFault::NoMemory)
             }
         }
@@ -250,22 +405,50 @@ impl<T: Replayed> Gate<T> {
         rt: &R,
         pass: &mut Place<T>,
         s: T::Step,
-    ) -> Result<(T::Reply, u64), GateFault>
+        heard: &mut u64,
+    ) -> Result<T::Reply, GateFault>
+        requires gate { (pass.old.table_id ≡ self.now.table.shared.table_id)
+            × IsFreeAt self.now.table.shared.key.value pass.old }
+        requires heard { heard.old ≡ length (place_view pass.old).seen }
+        ensures gate { (pass.new.table_id ≡ pass.old.table_id)
+            × IsFreeAt self.now.table.shared.key.value pass.new }
+        ensures reply { MatchResult result
+            (λ r. Committed T.next self.now.table.shared.key.value (place_view pass.old) s r
+            (place_view pass.new))
+            (λ e. Failed (place_view pass.old) e (place_view pass.new)) }
+        ensures heard { heard.new ≡ length (place_view pass.new).seen }
+    {
+        let s = self.take(rt, pass, s);
+        match self.table.shared.exchange(pass, 0, Held::Mark) {
+            Held::Value(t) => self.advance(pass, t, s, heard),
+            Held::Mark => {
+                self.give_up(pass);
+                Err(GateFault::NoMemory)
+            }
+            Held::Ask(_s) => unreachable!(),
+        }
+    }
+
+    // Asks the value whether what goes by this number is over. One that was given up answers so.
+    pub(crate) fn ask_at<R: Wait>(&self, rt: &R, pass: &mut Place<T>, about: u32) -> bool
         requires gate { (pass.old.table_id ≡ self.now.table.shared.table_id)
             × IsFreeAt self.now.table.shared.key.value pass.old }
         ensures gate { (pass.new.table_id ≡ pass.old.table_id)
             × IsFreeAt self.now.table.shared.key.value pass.new }
-        ensures reply { MatchResult result (λ r. Committed T.next self.now.table.shared.key.value
-            (place_view pass.old) s r.0 (place_view pass.new)
-            × (r.1 ≡ (place_view pass.new).floor)) (λ e. Failed (place_view pass.old) e
-            (place_view pass.new)) }
+        ensures asked { IsAsked T.next self.now.table.shared.key.value T.over
+            (place_view pass.old) about result (place_view pass.new) }
     {
-        let s = self.take(rt, pass, s);
+        self.seize(rt, pass, &Held::Mark);
         match self.table.shared.exchange(pass, 0, Held::Mark) {
-            Held::Value(t) => self.advance(pass, t, s),
+            Held::Value(t) => {
+                let over = t.is_over(about);
+                self.put(pass, t);
+                self.release(pass);
+                over
+            }
             Held::Mark => {
-                self.give(pass, false);
-                Err(GateFault::NoMemory)
+                self.release(pass);
+                true
             }
             Held::Ask(_s) => unreachable!(),
         }
@@ -283,7 +466,7 @@ impl<T: Replayed> Gate<T> {
         let Ok(()) = slots.push(Held::Value(t)) else {
             return Err(NoMemory);
         };
-        match Table::new(alloc, &[0, 0, 0, 0, 0, 0], slots, &opening) {
+        match Table::new(alloc, &[0; WORDS], slots, &opening) {
             Ok((table, pass)) => Ok((Gate { table }, pass)),
             Err(_refused) => Err(NoMemory),
         }

@@ -24,6 +24,15 @@ impl<T: Replayed> Play<Held<T, T::Step>, View<T, T::Step, T::Reply>> for Take {
     ghost then = { took T.next };
 }
 
+/// The next step is announced, and the slot stays with the pass.
+pub struct Again;
+
+impl<T: Replayed> Play<Held<T, T::Step>, View<T, T::Step, T::Reply>> for Again {
+    ghost use Rattle.turn_gate.specs.Table.{again};
+
+    ghost then = { λ st m r w. again st m w };
+}
+
 /// The step is noted.
 pub struct Note;
 

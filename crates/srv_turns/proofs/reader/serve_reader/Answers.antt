@@ -1,6 +1,7 @@
 use Rattle.std.proofs.Common.{◌≡◌, ℕ, [], ◌++◌, length, refl, sym, ◌∙◌, subst, arith, IfNone, length-take}
 use Rattle.std.proofs.Common.{length-append, length-drop}
 use Rattle.rl_stream.specs.Streams.{StreamState}
+use Rattle.srv_turns.specs.Reading.{AreTaken}
 use Rattle.srv_turns.specs.Keeping.{IsReading, ReadsOn}
 use Rattle.srv_turns.proofs.Ending.{not_at_end}
 use Rattle.srv_turns.proofs.Taking.{none_taken, both_taken, ended_left}
@@ -28,7 +29,7 @@ loop-init g c =
             (begins c.args.connection before),
       );
       lasting = omega arith;
-      room = omega (arith, c.in-Ok.ensures.len);
+      room = c.in-Ok.ensures;
     }
 
 pub returns-in-Some-packets-clause-read : goal.returns-in-Some-packets-clause-read
@@ -49,14 +50,26 @@ returns-in-Some-take-clause-read g c =
     let reading : IsReading k d.0 st before mid =
     subst (ReadsOn k d.0 st before mid (g.T.Turns.spent c.packets.new.turns)) c.in_default-packets.is
     (c.packets.ensures.reads d.0 before d.3) in
+    let told : AreTaken d.0 (g.R.Source.left c.args.link.now) (g.R.Source.left c.settle.new.link)
+    (g.R.Source.given c.args.link.now) (g.R.Source.given c.settle.new.link) =
+    subst (λ n. AreTaken d.0 (g.R.Source.left c.args.link.now) (g.R.Source.left c.settle.new.link)
+    (g.R.Source.given c.args.link.now) n) (sym c.settle.ensures.counted)
+    (subst (λ o. AreTaken d.0 (g.R.Source.left c.args.link.now) o (g.R.Source.given c.args.link.now)
+    (g.R.Source.given c.loop.link)) (sym c.settle.ensures.content) d.1) in
     let t = c.in-Some-take.ensures.reads d.0 before reading (d.2 ∙ sym c.packets.ensures.taken) in
-    (d.0 ++ t.0, both_taken _ _ _ _ _ _ d.0 t.0 d.1 t.1, t.3)
+    (d.0 ++ t.0, both_taken _ _ _ _ _ _ d.0 t.0 told t.1, t.3)
 
 pub returns-in-Some-take-clause-at_end : goal.returns-in-Some-take-clause-at_end
 returns-in-Some-take-clause-at_end g c = λ at.
     let d = c.loop.invariant.reading in
+    let told : AreTaken d.0 (g.R.Source.left c.args.link.now) (g.R.Source.left c.settle.new.link)
+    (g.R.Source.given c.args.link.now) (g.R.Source.given c.settle.new.link) =
+    subst (λ n. AreTaken d.0 (g.R.Source.left c.args.link.now) (g.R.Source.left c.settle.new.link)
+    (g.R.Source.given c.args.link.now) n) (sym c.settle.ensures.counted)
+    (subst (λ o. AreTaken d.0 (g.R.Source.left c.args.link.now) o (g.R.Source.given c.args.link.now)
+    (g.R.Source.given c.loop.link)) (sym c.settle.ensures.content) d.1) in
     let e = c.in-Some-take.ensures.at_end at in
-    (e.0, ended_left _ _ _ d.0 d.1.told e.1)
+    (e.0, ended_left _ _ _ d.0 told.told e.1)
 
 pub loop-preserved : goal.loop-preserved
 loop-preserved g c =
@@ -69,17 +82,23 @@ loop-preserved g c =
     let reading : IsReading k d.0 st before mid =
     subst (ReadsOn k d.0 st before mid (g.T.Turns.spent c.packets.new.turns)) c.in_default-packets.is
     (c.packets.ensures.reads d.0 before d.3) in
+    let told : AreTaken d.0 (g.R.Source.left c.args.link.now) (g.R.Source.left c.settle.new.link)
+    (g.R.Source.given c.args.link.now) (g.R.Source.given c.settle.new.link) =
+    subst (λ n. AreTaken d.0 (g.R.Source.left c.args.link.now) (g.R.Source.left c.settle.new.link)
+    (g.R.Source.given c.args.link.now) n) (sym c.settle.ensures.counted)
+    (subst (λ o. AreTaken d.0 (g.R.Source.left c.args.link.now) o (g.R.Source.given c.args.link.now)
+    (g.R.Source.given c.loop.link)) (sym c.settle.ensures.content) d.1) in
     let t = c.take.ensures.reads d.0 before reading (d.2 ∙ sym c.packets.ensures.taken) in
     record {
       can = tt;
       finite = tt;
       reading = (
         d.0 ++ t.0,
-        both_taken _ _ _ _ _ _ d.0 t.0 d.1 t.1,
+        both_taken _ _ _ _ _ _ d.0 t.0 told t.1,
         subst (λ o. IfNone o (length (d.0 ++ t.0) ≡ c.take.new.received.taken)) c.in_default-take.is t.2,
         subst (ReadsOn k (d.0 ++ t.0) c.take.new.received.stream before now (g.T.Turns.spent c.take.new.turns))
             c.in_default-take.is t.3,
       );
-      lasting = omega (arith, c.loop.invariant.lasting, c.take.ensures.lasting);
+      lasting = omega (arith, c.loop.invariant.lasting, c.settle.ensures.count, c.take.ensures.lasting);
       room = omega (arith, length-take {A = ℕ}, length-append {A = ℕ}, length-drop {A = ℕ}, c.deref_mut.ensures.len);
     }

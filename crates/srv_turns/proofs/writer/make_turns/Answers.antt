@@ -1,31 +1,37 @@
-use Rattle.std.proofs.Common.{[], ◌∷◌, ◌++◌, subst}
+use Rattle.std.proofs.Common.{◌++◌, subst}
 use Rattle.srv_turns.specs.Gathering.{IsGathered}
 use Rattle.srv_turns.proofs.Writing.{turned_both, pauses, goes_on_with}
 use Rattle.srv_turns.proofs.writer.make_turns.Goals as goal
 
-pub returns-in-Some-after_turn : goal.returns-in-Some-after_turn
-returns-in-Some-after_turn g c =
+pub returns-in-Some-make_row : goal.returns-in-Some-make_row
+returns-in-Some-make_row g c =
     let d = c.loop.invariant.done in
-    let r = c.in-Ok.reply in (
-      d.0 ++ r ∷ [],
-      turned_both c.args.connection d.0 (r ∷ []) _ _ _ d.3 c.in-Ok.ensures.added,
-      pauses d.0 r c.loop.gathered.items _ d.1 d.2 _ c.in-Some-after_turn.pause c.in-Some-after_turn.ensures,
+    let m = c.in-Some-make_row.ensures in (
+      d.0 ++ m.0,
+      turned_both c.args.connection d.0 m.0 _ _ _ d.3 m.1,
+      pauses d.0 m.0 c.loop.gathered.items _ d.1 d.2 _ c.in-Some-make_row.pause m.2,
     )
 
 pub loop-preserved : goal.loop-preserved
 loop-preserved g c =
     let d = c.loop.invariant.done in
-    let r = c.in-Ok.reply in
+    let m = c.make_row.ensures in
     let old = c.loop.gathered.items in
-    let new = c.after_turn.new.gathered.items in
-    let on = goes_on_with d.0 r old new d.1 d.2 (subst (IsGathered r old new) c.in_default.is c.after_turn.ensures) in
+    let new = c.make_row.new.gathered.items in
+    let spent = g.T.Turns.spent c.make_row.new.turns in
+    let on = goes_on_with d.0 m.0 old new d.1 d.2 spent (subst (IsGathered m.0 old new spent) c.in_default.is m.2) in
     record {
       can = tt;
       finite = tt;
-      done = (
-        d.0 ++ r ∷ [],
-        on.0,
-        on.1,
-        turned_both c.args.connection d.0 (r ∷ []) _ _ _ d.3 c.in-Ok.ensures.added,
-      );
+      done = (d.0 ++ m.0, on.0, on.1, turned_both c.args.connection d.0 m.0 _ _ _ d.3 m.1);
     }
+
+pub returns-then-len-ge-PIECE : goal.returns-then-len-ge-PIECE
+returns-then-len-ge-PIECE g c =
+    let d = c.loop.invariant.done in
+    let m = c.make_row.ensures in
+    let old = c.loop.gathered.items in
+    let new = c.make_row.new.gathered.items in
+    let spent = g.T.Turns.spent c.make_row.new.turns in
+    let on = goes_on_with d.0 m.0 old new d.1 d.2 spent (subst (IsGathered m.0 old new spent) c.in_default.is m.2) in
+    (d.0 ++ m.0, turned_both c.args.connection d.0 m.0 _ _ _ d.3 m.1, (on.0, on.1))

@@ -1,7 +1,7 @@
 use Rattle.turn_gate.specs.Gates.{view}
-use Rattle.turn_gate.proofs.Passing.{one_pair_more}
+use Rattle.turn_gate.proofs.Going.{owns_one}
 use Rattle.turn_gate.proofs.gate.Gate.commit.Goals as goal
 
-pub returns-in-Ok-clause-own : goal.returns-in-Ok-clause-own
-returns-in-Ok-clause-own g c = one_pair_more g.T.Replayed.next _
-    (view c.args.pass.now) c.args.s c.in-Ok.reply _ c.args.pass.now.own c.in-Ok.ensures.reply.0
+pub returns-clause-own : goal.returns-clause-own
+returns-clause-own g c = (owns_one g.T.Replayed.next c.args.self.now.table.shared.key.value (view c.args.pass.now)
+    c.commit_at.new.pass.me.0 c.args.s c.commit_at.result c.args.pass.now.own c.commit_at.ensures.reply).0

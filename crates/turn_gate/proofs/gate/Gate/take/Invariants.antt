@@ -1,7 +1,0 @@
-use Rattle.std.proofs.Common.{◌≡◌}
-use Rattle.turn_gate.specs.declared.view.Held.TheVariants as held
-use Rattle.turn_gate.proofs.gate.Gate.take.Given as goal
-
-abbrev pub invariant-loop : goal.invariant-loop
-invariant-loop g l = (l.pass.table_id ≡ l.initial.pass.table_id) × (l.pass.id ≡ l.initial.pass.id)
-    × (l.pass.me ≡ l.initial.pass.me) × (l.ask ≡ held.Ask l.fn.s)
