@@ -1,12 +1,11 @@
 -- What is left of a list, by its first one.
-use Rattle.std.proofs.Common.{◌≡◌, ◌+◌, ◌<◌, ℕ, zero, suc, List, [], ◌∷◌, length, get_or, drop, map, Bool, true}
+use Rattle.std.proofs.Common.{◌≡◌, ◌+◌, ◌<◌, ℕ, List, [], ◌∷◌, length, get_or, drop, map, Bool, true}
 use Rattle.std.proofs.Common.{false, ◌&&◌}
 use Rattle.std.proofs.Common.{◌==◌, refl, sym, ap, ◌∙◌, arith, Some}
 use Rattle.std.proofs.lemmas.List.{at_drop_more}
 use Rattle.std.proofs.Math.Seq.{drop-length}
 use Rattle.std.proofs.lemmas.Bool.Decides.{nat_tests}
-use Rattle.std.specs.Prelude.{if◌then◌else◌, Option}
-use Rattle.std.specs.Str.{bytes_eq}
+use Rattle.std.specs.Prelude.{Option}
 use Rattle.std.specs.Ordering.{eq_by_cmp, ordering_then, is_eq}
 use Rattle.std.specs.declared.cmp.Ordering.{Ordering}
 use Rattle.std.specs.declared.cmp.Ordering.TheVariants.{Less, Equal, Greater}
@@ -16,15 +15,11 @@ use Rattle.pv_value.specs.Order.{order, orders}
 use Rattle.pv_value.specs.declared.Entry.{Entry}
 use Rattle.ps_schema.specs.Patterns.{PlainPattern, then_pattern, patterns, PlainFields, then_field}
 use Rattle.ps_schema.specs.View.{listed_fields}
-use Rattle.ps_schema.specs.Names.{pattern_under}
-use Rattle.ps_schema.specs.Lemmas.Ends.{same_name}
 use Rattle.ps_schema.specs.Conforms.{are_none, have_all, matches}
 use Rattle.pv_words.specs.Parts.{value_under}
 use Rattle.ps_check.specs.Subjects.{held}
 use Rattle.ps_check.proofs.Inside.{have_is}
 use Rattle.ps_schema.specs.declared.Field.{Field}
-use Rattle.ps_schema.specs.declared.Definition.{Definition}
-use Rattle.ps_check.specs.Verdicts.{IsPlace, name_of}
 
 pub values_drop : (xs : List Plain) (i : ℕ) (x : Plain) → i < length xs → x ≡ get_or xs i x
     → plains (drop i xs) ≡ then_more x (plains (drop (i + 1) xs))
@@ -42,27 +37,6 @@ entries_drop es i e h is =
 pub fields_drop : (fs : List Field) (i : ℕ) (f : Field) → i < length fs → f ≡ get_or fs i f
     → listed_fields (drop i fs) ≡ then_field f.key f.pattern (listed_fields (drop (i + 1) fs))
 fields_drop fs i f h is = at_drop_more listed_fields fs i f h ∙ rw (← is) refl
-
--- ---- definitions
-
-name_at : (ds : List Definition) (i : ℕ) (d : Definition) → i < length ds → d ≡ get_or ds i d
-    → name_of ds i ≡ d.name
-name_at [] i d h e = absurd (omega arith)
-name_at (c ∷ cs) zero d h e = ap (λ (x : Definition). x.name) (sym e)
-name_at (c ∷ cs) (suc i) d h e = name_at cs i d (omega arith) e
-
-pub under_drop : (ds : List Definition) (a : List ℕ) (i : ℕ) (d : Definition) → i < length ds → d ≡ get_or ds i d
-    → pattern_under (drop i ds) a
-    ≡ (if bytes_eq d.name a then Some d.pattern else pattern_under (drop (i + 1) ds) a)
-under_drop ds a i d h is =
-    at_drop_more (λ (cs : List Definition). pattern_under cs a) ds i d h ∙ rw (← is) refl
-
-pub found_at : (ds : List Definition) (a : List ℕ) (i : ℕ) (d : Definition) → i < length ds → d ≡ get_or ds i d
-    → bytes_eq d.name a ≡ true → pattern_under (drop i ds) a ≡ pattern_under ds a → IsPlace ds a i d.pattern
-found_at ds a i d h is e u = record {
-  named = name_at ds i d h is ∙ same_name d.name a e;
-  under = sym u ∙ under_drop ds a i d h is ∙ rw e refl;
-}
 
 -- ---- no items
 

@@ -1,51 +1,61 @@
 -- What was found of names stays right.
-use Rattle.std.proofs.Common.{◌≡◌, ℕ, zero, suc, Bool, true, false, List, [], ◌∷◌, refl, sym, ap, subst, ◌∙◌, get_or}
-use Rattle.std.proofs.Common.{slice_set}
+use Rattle.std.proofs.Common.{◌≡◌, ℕ, Bool, true, false, List, [], Option, Some, None, Result, Ok, Err, cond, refl}
+use Rattle.std.proofs.Common.{sym, ap, ◌∙◌}
+use Rattle.std.specs.Prelude.{OnOk, OnErr}
+use Rattle.std.specs.Ordering.{is_eq}
+use Rattle.std.specs.declared.cmp.Ordering.{Ordering}
+use Rattle.std.specs.declared.cmp.Ordering.TheVariants.{Less, Equal, Greater}
+use Rattle.std.specs.Map.{lookup}
+use Rattle.std.specs.BTreeMap as tree
+use Rattle.std.specs.BTreeMap.{BTreeMap, is_at}
+use Rattle.std.proofs.lemmas.Map.Lookups.{exact_unsigned, exact_pairs}
 use Rattle.pv_value.specs.Plain.{Plain}
+use Rattle.pv_value.specs.Lemmas.OrderLaws.{order_same}
 use Rattle.ps_schema.specs.Patterns.{PlainPattern}
-use Rattle.ps_schema.specs.Conforms.{conforms}
+use Rattle.ps_schema.specs.Names.{pattern_under}
+use Rattle.ps_schema.specs.Schemas.{IsSchema}
+use Rattle.ps_schema.specs.Conforms.{conforms, matches_defined}
 use Rattle.ps_schema.specs.declared.Definition.{Definition}
-use Rattle.ps_check.specs.declared.verdicts.Verdict.{Verdict}
-use Rattle.ps_check.specs.declared.verdicts.Verdict.TheVariants as v
-use Rattle.ps_check.specs.Verdicts.{verdict, Tells, name_of, IsPlace, AreRight}
+use Rattle.ps_check.specs.Verdicts.{place_order, Tells}
+use Rattle.ps_check.proofs.Meanings.{has_meaning}
 
-abbrev AllTell : (ℕ → Bool) → List Verdict → Type 0
-AllTell f xs = (i : ℕ) → Tells (get_or xs i v.Open) (f i)
+-- an empty table tells nothing
+pub none_told : (found : ℕ → Plain → Bool) (table : BTreeMap (ℕ × Plain) Bool) → table.entries ≡ []
+    → Tells found table
+none_told found table e i v b is =
+    let none : None ≡ Some b = sym (ap (λ es. lookup (is_at (place_order (i, v))) es) e) ∙ is in absurd cc
 
-set_tells : (f : ℕ → Bool) (xs : List Verdict) (i : ℕ) (w : Verdict) → AllTell f xs → Tells w (f i)
-    → AllTell f (slice_set xs i w)
-set_tells f [] i w h e j = h j
-set_tells f (x ∷ xs) zero w h e zero = e
-set_tells f (x ∷ xs) zero w h e (suc j) = h (suc j)
-set_tells f (x ∷ xs) (suc i) w h e zero = h zero
-set_tells f (x ∷ xs) (suc i) w h e (suc j) =
-    set_tells (λ n. f (suc n)) xs i w (λ n. h (suc n)) e j
+equal_is : (o : Ordering) → is_eq o ≡ true → o ≡ Equal
+equal_is Less e = cc
+equal_is Equal e = refl
+equal_is Greater e = cc
 
-verdict_tells : (b : Bool) → Tells (verdict b) b
-verdict_tells true = refl
-verdict_tells false = refl
+place_same : (j k : ℕ × Plain) → is_at (place_order j) k ≡ true → j ≡ k
+place_same j k e = exact_pairs _ _ exact_unsigned order_same j k (equal_is (place_order j k) e)
 
-pub note_right : (ds : List Definition) (x : Plain) (found : List Verdict) (a : List ℕ) (i : ℕ) (p : PlainPattern)
-    (b : Bool)
-    → AreRight ds x found → IsPlace ds a i p → b ≡ conforms ds a x → AreRight ds x (slice_set found i (verdict b))
-note_right ds x found a i p b h at e =
-    set_tells (λ n. conforms ds (name_of ds n) x) found i (verdict b) h
-    (subst (λ (c : Bool). Tells (verdict b) c) (e ∙ ap (λ (n : List ℕ). conforms ds n x) (sym at.named))
-    (verdict_tells b))
+-- nor does one more verdict that is so tell what isn't
+pub more_told : (found : ℕ → Plain → Bool) (m n : BTreeMap (ℕ × Plain) Bool) (i : ℕ) (v : Plain) (b : Bool)
+    → tree.Updates place_order m n (i, v) (Some b) → Tells found m → b ≡ found i v → Tells found n
+more_told found m n i v b u h e j w c is =
+    by (is_at (place_order (i, v)) (j, w)) refl (sym (u.0 (j, w)) ∙ is)
+  where
+    by : (t : Bool) → is_at (place_order (i, v)) (j, w) ≡ t
+        → cond t (Some b) (tree.get place_order m (j, w)) ≡ Some c → c ≡ found j w
+    by true at k =
+        let told : c ≡ b = cc in
+        told ∙ e ∙ ap (λ (p : ℕ × Plain). found p.0 p.1) (place_same (i, v) (j, w) at)
+    by false at k = h j w c k
 
--- nothing was found yet
-abbrev pub are_open : List Verdict → Bool
-are_open [] = true
-are_open (v.Open ∷ xs) = are_open xs
-are_open (x ∷ xs) = false
+-- with room for it or without
+pub still_told : {A B : Type 0} (r : Result A B) (found : ℕ → Plain → Bool) (m n : BTreeMap (ℕ × Plain) Bool) (i : ℕ)
+    (v : Plain) (b : Bool) → OnOk r (tree.Updates place_order m n (i, v) (Some b)) → OnErr r (tree.IsUnchanged m n)
+    → Tells found m → b ≡ found i v → Tells found n
+still_told (Ok x) found m n i v b u k h e = more_told found m n i v b u h e
+still_told (Err y) found m n i v b u k h e = λ j w c is.
+    h j w c (sym (ap (λ es. lookup (is_at (place_order (j, w))) es) k) ∙ is)
 
-pub open_at : (xs : List Verdict) → are_open xs ≡ true → (i : ℕ) → get_or xs i v.Open ≡ v.Open
-open_at [] e i = refl
-open_at (v.Open ∷ xs) e zero = refl
-open_at (v.Open ∷ xs) e (suc i) = open_at xs e i
-open_at (x ∷ xs) e i = absurd cc
-
-pub open_right : (ds : List Definition) (x : Plain) (found : List Verdict) → ((i : ℕ) → get_or found i v.Open ≡ v.Open)
-    → AreRight ds x found
-open_right ds x found h i =
-    subst (λ (w : Verdict). Tells w (conforms ds (name_of ds i) x)) (sym (h i)) tt
+-- a value conforms to a name just where it matches what the name stands for
+pub name_means : (ds : List Definition) → IsSchema ds → (a : List ℕ) (v : Plain) (o : Option PlainPattern)
+    → pattern_under ds a ≡ o → matches_defined (conforms ds) o v ≡ conforms ds a v
+name_means ds s a v o u =
+    sym (has_meaning ds s a v ∙ ap (λ (x : Option PlainPattern). matches_defined (conforms ds) x v) u)

@@ -1,15 +1,20 @@
 -- What is held against a pattern, and what is inside.
 use Rattle.std.specs.Prelude.{ℕ, Bool, false, Option, Some, None, if◌then◌else◌}
 use Rattle.pv_value.specs.Plain.{Plain, record_of, sequence}
-use Rattle.pv_value.specs.Plain.{set_of, dictionary, embedded, Plains, PlainPairs, plains}
+use Rattle.pv_value.specs.Plain.{set_of, dictionary, embedded, Plains, PlainPairs, no_more}
 use Rattle.pv_value.specs.Weight.{node_count, node_counts, pair_node_counts}
 use Rattle.ps_schema.specs.Conforms.{is_value}
 use Rattle.ps_check.specs.declared.subjects.Subject.{Subject}
 use Rattle.ps_check.specs.declared.subjects.Subject.TheVariants.{Whole, Fields}
 
+-- the sequence of a record's fields; no other value has any
+abbrev pub in_fields : Plain → Plain
+in_fields (record_of l fs) = sequence fs
+in_fields v = sequence no_more
+
 abbrev pub seen : Subject → Plain
 seen (Whole v) = v.now
-seen (Fields xs) = sequence (plains xs.now)
+seen (Fields v) = in_fields v.now
 
 -- what is inside an embedded value
 abbrev pub inside_of : Plain → Option Plain

@@ -1,33 +1,26 @@
--- What was found of the names of a schema at one value.
-use Rattle.std.specs.Prelude.{◌≡◌, ℕ, zero, suc, Bool, true, false, List, [], ◌∷◌, Some, get_or}
+-- What was found of the names of a schema, at values.
+use Rattle.std.specs.Prelude.{◌≡◌, ℕ, Bool, List, Some}
+use Rattle.std.specs.Ordering.{ordering_then, nat_cmp}
+use Rattle.std.specs.declared.cmp.Ordering.{Ordering}
+use Rattle.std.specs.BTreeMap as tree
+use Rattle.std.specs.BTreeMap.{BTreeMap}
 use Rattle.pv_value.specs.Plain.{Plain}
-use Rattle.ps_schema.specs.Patterns.{PlainPattern}
-use Rattle.ps_schema.specs.Names.{pattern_under}
+use Rattle.pv_value.specs.Order.{order}
 use Rattle.ps_schema.specs.Conforms.{conforms}
+use Rattle.ps_schema.specs.Places.{name_of}
 use Rattle.ps_schema.specs.declared.Definition.{Definition}
-use Rattle.ps_check.specs.declared.verdicts.Verdict.{Verdict}
-use Rattle.ps_check.specs.declared.verdicts.Verdict.TheVariants as v
+use Rattle.ps_check.specs.Subjects.{in_fields}
+use Rattle.ps_check.specs.declared.verdicts.Verdicts.{Verdicts}
 
-abbrev pub verdict : Bool → Verdict
-verdict true = v.Conforms
-verdict false = v.Differs
+-- the order of places and values
+abbrev pub place_order : ℕ × Plain → ℕ × Plain → Ordering
+place_order j k = ordering_then (nat_cmp j.0 k.0) (order j.1 k.1)
 
-abbrev pub Tells : Verdict → Bool → Type 0
-Tells v.Open b = Unit {0}
-Tells v.Conforms b = b ≡ true
-Tells v.Differs b = b ≡ false
-
--- the name of the definition at this place
-abbrev pub name_of : List Definition → ℕ → List ℕ
-name_of [] i = []
-name_of (d ∷ ds) zero = d.name
-name_of (d ∷ ds) (suc i) = name_of ds i
-
--- the definition of the name is at this place, with this pattern
-pub record IsPlace (ds : List Definition) (a : List ℕ) (i : ℕ) (p : PlainPattern) : Type 0 where
-  pub named : name_of ds i ≡ a
-  pub under : pattern_under ds a ≡ Some p
+-- what the table has at a place and a value is so
+abbrev pub Tells : (ℕ → Plain → Bool) → BTreeMap (ℕ × Plain) Bool → Type 0
+Tells found table = (i : ℕ) (v : Plain) (b : Bool) → tree.get place_order table (i, v) ≡ Some b → b ≡ found i v
 
 -- what was found is so
-abbrev pub AreRight : List Definition → Plain → List Verdict → Type 0
-AreRight ds x found = (i : ℕ) → Tells (get_or found i v.Open) (conforms ds (name_of ds i) x)
+pub record AreRight (ds : List Definition) (found : Verdicts) : Type 0 where
+  pub wholes : Tells (λ i v. conforms ds (name_of ds i) v) found.wholes
+  pub fields : Tells (λ i v. conforms ds (name_of ds i) (in_fields v)) found.fields

@@ -13,113 +13,120 @@ ghost use Rattle.ps_check.specs.Verdicts.{AreRight};
 
 use crate::finding::place_of;
 use crate::subjects::Subject;
-use crate::verdicts::{Verdict, note, noted, unjudged};
-use ps_schema::{Definition, Field, Form, Pattern, Schema};
+use crate::verdicts::Verdicts;
+use ps_schema::{Field, Form, Pattern, Schema};
 use pv_value::{Entries, Value};
 use pv_words::value_under;
 
 /// Whether the value conforms to what the name stands for.
 ///
-/// It takes no memory but the stack's. It goes as deep as the value nests and, at each value, over
-/// as many names as lead to one another there and into patterns as deep as they nest; at each value
-/// it keeps what it found of names, in 128 bytes.
+/// Each value inside and each name are judged at most once, however many patterns ask and in how
+/// many ways they lead there: what was found is kept for the whole call, and equal values share it.
+/// Nothing is kept of a name for which patterns ask at one place alone, since that place leads to
+/// each value inside but once, nor of one that stands for `any` or for a kind of atoms. Finding
+/// what was kept takes comparisons by the logarithm of how much was kept, each of values to their
+/// first difference, and equal ones to their end.
 ///
-/// Each time that it looks at a value it judges each of the schema's first 128 names at most once
-/// there, however often patterns ask for it: a chain such as `A = B & B . B = C & C .` takes time
-/// by its length. A name behind these is judged each time that it is asked for. A value inside is
-/// looked at anew for each compound pattern that looks into what it stands in, and nothing of that
-/// is kept: at worst the time is multiplied at each level by the number of such patterns, as with
-/// `A = [A ...] & [A ...] .`, where it doubles.
+/// Memory is taken where the schema takes its own, for each verdict that is kept. Where there is
+/// none, the answer is the same, and what couldn't be kept is judged each time that it is asked
+/// for.
+///
+/// It goes as deep as the value nests and, at each value, over as many names as lead to one another
+/// there and into patterns as deep as they nest.
 pub fn conforms(schema: &Schema, name: &[u8], value: &Value) -> bool
     requires { knows schema.now name.now ≡ true }
     ensures same { result ≡ conforms schema.now name.now value.now }
     ensures meaning { (named : List ℕ → Plain → Bool) → IsMeaning schema.now named
         → result ≡ named name.now value.now }
 {
-    let mut found = unjudged();
-    judge_name(
-        schema.definitions(),
-        name,
-        Subject::Whole(value),
-        &mut found,
-    )
+    let _ = schema.definitions();
+    let mut found = Verdicts::new(schema.alloc());
+    judge_name(schema, name, Subject::Whole(value), &mut found)
 }
 
-/// Whether what is there matches the pattern, of whose names nothing was found.
+/// Whether something is there, and matches the pattern.
 #[cycle(judge)]
-fn meets(defs: &[Definition], pattern: &Pattern, subject: Option<Subject>) -> bool
-    requires { IsSchema defs.now }
-    ensures { result
-        ≡ held (matches (conforms defs.now) pattern.now) (option_map seen subject.entry) }
+fn meets(schema: &Schema, pattern: &Pattern, subject: Option<Subject>, found: &mut Verdicts) -> bool
+    requires schema { IsSchema schema.now }
+    requires right { AreRight schema.now found.old }
+    ensures same { result
+        ≡ held (matches (conforms schema.now) pattern.now) (option_map seen subject.entry) }
+    ensures right { AreRight schema.now found.new }
 {
     let Some(subject) = subject else {
         return false;
     };
-    let mut found = unjudged();
-    judge(defs, pattern, subject, &mut found)
+    judge(schema, pattern, subject, found)
 }
 
 /// Whether the value matches the pattern. What is found of names is noted.
 #[cycle(judge)]
-fn judge(defs: &[Definition], pattern: &Pattern, subject: Subject, found: &mut [Verdict]) -> bool
-    requires schema { IsSchema defs.now }
-    requires right { AreRight defs.now (seen subject) found.old }
-    ensures same { result ≡ matches (conforms defs.now) pattern.now (seen subject.entry) }
-    ensures right { AreRight defs.now (seen subject.entry) found.new }
+fn judge(schema: &Schema, pattern: &Pattern, subject: Subject, found: &mut Verdicts) -> bool
+    requires schema { IsSchema schema.now }
+    requires right { AreRight schema.now found.old }
+    ensures same { result ≡ matches (conforms schema.now) pattern.now (seen subject.entry) }
+    ensures right { AreRight schema.now found.new }
 {
     match &pattern.form {
         Form::Any => true,
         Form::OfKind(kind) => subject.is_of_kind(*kind),
         Form::Literal(value) => subject.is(value),
-        Form::Name(name) => judge_name(defs, name.as_bytes(), subject, found),
-        Form::Embedded(inside) => meets(defs, inside, subject.inside()),
-        Form::Record(label, fields) => is_empty(behind(defs, fields, subject.fields_under(label))),
+        Form::Name(name) => judge_name(schema, name.as_bytes(), subject, found),
+        Form::Embedded(inside) => meets(schema, inside, subject.inside(), found),
+        Form::Record(label, fields) => is_empty(behind(
+            schema,
+            fields,
+            subject.fields_under(label),
+            found,
+        )),
         Form::RecordOf(label, fields) => {
-            meets(defs, label, subject.label()) && meets(defs, fields, subject.fields())
+            meets(schema, label, subject.label(), found)
+                && meets(schema, fields, subject.fields(), found)
         }
-        Form::Tuple(items) => is_empty(behind(defs, items, subject.items())),
+        Form::Tuple(items) => is_empty(behind(schema, items, subject.items(), found)),
         Form::TupleWithRest(items, rest) => {
-            all_meet(defs, rest, behind(defs, items, subject.items()))
+            let others = behind(schema, items, subject.items(), found);
+            all_meet(schema, rest, others, found)
         }
-        Form::SetOf(element) => all_meet(defs, element, subject.elements()),
-        Form::DictOf(key, value) => entries_meet(defs, key, value, subject.entries()),
-        Form::Dict(fields) => fields_meet(defs, fields, subject.entries()),
-        Form::OneOf(patterns) => judge_one(defs, patterns, subject, found),
-        Form::AllOf(patterns) => judge_each(defs, patterns, subject, found),
+        Form::SetOf(element) => all_meet(schema, element, subject.elements(), found),
+        Form::DictOf(key, value) => entries_meet(schema, key, value, subject.entries(), found),
+        Form::Dict(fields) => fields_meet(schema, fields, subject.entries(), found),
+        Form::OneOf(patterns) => judge_one(schema, patterns, subject, found),
+        Form::AllOf(patterns) => judge_each(schema, patterns, subject, found),
     }
 }
 
 #[cycle(judge)]
-fn judge_name(defs: &[Definition], name: &[u8], subject: Subject, found: &mut [Verdict]) -> bool
-    requires schema { IsSchema defs.now }
-    requires right { AreRight defs.now (seen subject) found.old }
-    ensures same { result ≡ conforms defs.now name.now (seen subject.entry) }
-    ensures right { AreRight defs.now (seen subject.entry) found.new }
+fn judge_name(schema: &Schema, name: &[u8], subject: Subject, found: &mut Verdicts) -> bool
+    requires schema { IsSchema schema.now }
+    requires right { AreRight schema.now found.old }
+    ensures same { result ≡ conforms schema.now name.now (seen subject.entry) }
+    ensures right { AreRight schema.now found.new }
 {
-    let Some((at, pattern)) = place_of(defs, name) else {
+    let Some((at, pattern)) = place_of(schema, name) else {
         return false;
     };
-    match noted(found, at) {
-        Verdict::Conforms => true,
-        Verdict::Differs => false,
-        Verdict::Open => {
-            let conforms = judge(defs, pattern, subject, found);
-            note(found, at, conforms);
-            conforms
-        }
+    if !schema.is_asked_again(at) {
+        return judge(schema, pattern, subject, found);
     }
+    if let Some(verdict) = found.of(at, subject) {
+        return verdict;
+    }
+    let verdict = judge(schema, pattern, subject, found);
+    found.note(at, subject, verdict);
+    verdict
 }
 
 #[cycle(judge)]
-fn judge_one(defs: &[Definition], all: &[Pattern], subject: Subject, found: &mut [Verdict]) -> bool
-    requires schema { IsSchema defs.now }
-    requires right { AreRight defs.now (seen subject) found.old }
+fn judge_one(schema: &Schema, all: &[Pattern], subject: Subject, found: &mut Verdicts) -> bool
+    requires schema { IsSchema schema.now }
+    requires right { AreRight schema.now found.old }
     ensures same { result
-        ≡ matches_one (conforms defs.now) (patterns all.now) (seen subject.entry) }
-    ensures right { AreRight defs.now (seen subject.entry) found.new }
+        ≡ matches_one (conforms schema.now) (patterns all.now) (seen subject.entry) }
+    ensures right { AreRight schema.now found.new }
 {
     for pattern in all {
-        if judge(defs, pattern, subject, found) {
+        if judge(schema, pattern, subject, found) {
             return true;
         }
     }
@@ -127,15 +134,15 @@ fn judge_one(defs: &[Definition], all: &[Pattern], subject: Subject, found: &mut
 }
 
 #[cycle(judge)]
-fn judge_each(defs: &[Definition], all: &[Pattern], subject: Subject, found: &mut [Verdict]) -> bool
-    requires schema { IsSchema defs.now }
-    requires right { AreRight defs.now (seen subject) found.old }
+fn judge_each(schema: &Schema, all: &[Pattern], subject: Subject, found: &mut Verdicts) -> bool
+    requires schema { IsSchema schema.now }
+    requires right { AreRight schema.now found.old }
     ensures same { result
-        ≡ matches_each (conforms defs.now) (patterns all.now) (seen subject.entry) }
-    ensures right { AreRight defs.now (seen subject.entry) found.new }
+        ≡ matches_each (conforms schema.now) (patterns all.now) (seen subject.entry) }
+    ensures right { AreRight schema.now found.new }
 {
     for pattern in all {
-        if !judge(defs, pattern, subject, found) {
+        if !judge(schema, pattern, subject, found) {
             return false;
         }
     }
@@ -145,21 +152,24 @@ fn judge_each(defs: &[Definition], all: &[Pattern], subject: Subject, found: &mu
 /// The values behind the first ones, where there are so many and they match in turn.
 #[cycle(judge)]
 fn behind<'a>(
-    defs: &[Definition],
+    schema: &Schema,
     firsts: &[Pattern],
     values: Option<&'a [Value]>,
+    found: &mut Verdicts,
 ) -> Option<&'a [Value]>
-    requires { IsSchema defs.now }
+    requires schema { IsSchema schema.now }
+    requires right { AreRight schema.now found.old }
     ensures rest { (others : Plains → Bool) → held others (option_map (λ xs. plains xs.now) result)
-        ≡ held (begin_with (conforms defs.now) (patterns firsts.now) others)
+        ≡ held (begin_with (conforms schema.now) (patterns firsts.now) others)
         (option_map (λ xs. plains xs.now) values.entry) }
     ensures fewer { items_counted (option_map (λ xs. plains xs.now) result)
         ≤ items_counted (option_map (λ xs. plains xs.now) values.entry) }
+    ensures right { AreRight schema.now found.new }
 {
     let mut left = values?;
     for pattern in firsts {
         let (value, rest) = left.split_first()?;
-        if !meets(defs, pattern, Some(Subject::Whole(value))) {
+        if !meets(schema, pattern, Some(Subject::Whole(value)), found) {
             return None;
         }
         left = rest;
@@ -169,16 +179,23 @@ fn behind<'a>(
 
 /// Whether the values are there and match all.
 #[cycle(judge)]
-fn all_meet(defs: &[Definition], pattern: &Pattern, values: Option<&[Value]>) -> bool
-    requires { IsSchema defs.now }
-    ensures { result ≡ held (are_all (matches (conforms defs.now) pattern.now))
+fn all_meet(
+    schema: &Schema,
+    pattern: &Pattern,
+    values: Option<&[Value]>,
+    found: &mut Verdicts,
+) -> bool
+    requires schema { IsSchema schema.now }
+    requires right { AreRight schema.now found.old }
+    ensures same { result ≡ held (are_all (matches (conforms schema.now) pattern.now))
         (option_map (λ xs. plains xs.now) values.entry) }
+    ensures right { AreRight schema.now found.new }
 {
     let Some(values) = values else {
         return false;
     };
     for value in values {
-        if !meets(defs, pattern, Some(Subject::Whole(value))) {
+        if !meets(schema, pattern, Some(Subject::Whole(value)), found) {
             return false;
         }
     }
@@ -188,23 +205,26 @@ fn all_meet(defs: &[Definition], pattern: &Pattern, values: Option<&[Value]>) ->
 /// Whether the entries are there, and all their keys and their values match.
 #[cycle(judge)]
 fn entries_meet(
-    defs: &[Definition],
+    schema: &Schema,
     key: &Pattern,
     value: &Pattern,
     entries: Option<&Entries>,
+    found: &mut Verdicts,
 ) -> bool
-    requires { IsSchema defs.now }
-    ensures { result ≡ held (are_all_pairs (matches (conforms defs.now) key.now)
-        (matches (conforms defs.now) value.now)) (option_map (λ es. pairs es.now) entries.entry) }
+    requires schema { IsSchema schema.now }
+    requires right { AreRight schema.now found.old }
+    ensures same { result ≡ held (are_all_pairs (matches (conforms schema.now) key.now)
+        (matches (conforms schema.now) value.now)) (option_map (λ es. pairs es.now) entries.entry) }
+    ensures right { AreRight schema.now found.new }
 {
     let Some(entries) = entries else {
         return false;
     };
     for entry in entries.as_slice() {
-        if !meets(defs, key, Some(Subject::Whole(&entry.key))) {
+        if !meets(schema, key, Some(Subject::Whole(&entry.key)), found) {
             return false;
         }
-        if !meets(defs, value, Some(Subject::Whole(&entry.value))) {
+        if !meets(schema, value, Some(Subject::Whole(&entry.value)), found) {
             return false;
         }
     }
@@ -213,10 +233,17 @@ fn entries_meet(
 
 /// Whether the entries are there, and each of these keys with a value that matches.
 #[cycle(judge)]
-fn fields_meet(defs: &[Definition], fields: &[Field], entries: Option<&Entries>) -> bool
-    requires { IsSchema defs.now }
-    ensures { result ≡ held (have_all (conforms defs.now) (listed_fields fields.now))
+fn fields_meet(
+    schema: &Schema,
+    fields: &[Field],
+    entries: Option<&Entries>,
+    found: &mut Verdicts,
+) -> bool
+    requires schema { IsSchema schema.now }
+    requires right { AreRight schema.now found.old }
+    ensures same { result ≡ held (have_all (conforms schema.now) (listed_fields fields.now))
         (option_map (λ es. pairs es.now) entries.entry) }
+    ensures right { AreRight schema.now found.new }
 {
     let Some(entries) = entries else {
         return false;
@@ -225,7 +252,7 @@ fn fields_meet(defs: &[Definition], fields: &[Field], entries: Option<&Entries>)
         let Some(value) = value_under(entries, &field.key) else {
             return false;
         };
-        if !meets(defs, &field.pattern, Some(Subject::Whole(value))) {
+        if !meets(schema, &field.pattern, Some(Subject::Whole(value)), found) {
             return false;
         }
     }

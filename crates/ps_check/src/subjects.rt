@@ -1,11 +1,11 @@
 //! What is held against a pattern.
 ghost use Rattle.std.specs.Prelude.{◌≡◌, option_map};
 ghost use Rattle.std.specs.Ordering.{eq_by_cmp};
-ghost use Rattle.pv_value.specs.Plain.{plains, pairs};
+ghost use Rattle.pv_value.specs.Plain.{plains, pairs, sequence};
 ghost use Rattle.pv_value.specs.Order.{orders};
 ghost use Rattle.ps_schema.specs.Conforms.{is_of_kind, is_value};
 ghost use Rattle.ps_check.specs.Subjects.{seen, inside_of, label_of, fields_of, fields_under};
-ghost use Rattle.ps_check.specs.Subjects.{items_of, elements_of, entries_of};
+ghost use Rattle.ps_check.specs.Subjects.{in_fields, items_of, elements_of, entries_of};
 
 use ps_schema::Kind;
 use pv_value::{Entries, Node, Value};
@@ -14,7 +14,8 @@ use pv_value::{Entries, Node, Value};
 #[derive(Clone, Copy)]
 pub(crate) enum Subject<'a> {
     Whole(&'a Value),
-    Fields(&'a [Value]),
+    /// By the record.
+    Fields(&'a Value),
 }
 
 impl<'a> Subject<'a> {
@@ -40,8 +41,8 @@ impl<'a> Subject<'a> {
     {
         match self {
             Subject::Whole(value) => value == literal,
-            Subject::Fields(fields) => match &literal.node {
-                Node::Seq(items) => are_same(fields, items.as_slice()),
+            Subject::Fields(record) => match &literal.node {
+                Node::Seq(items) => are_same(fields_in(record), items.as_slice()),
                 _ => false,
             },
         }
@@ -81,7 +82,7 @@ impl<'a> Subject<'a> {
             return None;
         };
         match &value.node {
-            Node::Rec(rec) => Some(Subject::Fields(&rec.fields)),
+            Node::Rec(_) => Some(Subject::Fields(value)),
             _ => None,
         }
     }
@@ -110,7 +111,7 @@ impl<'a> Subject<'a> {
     {
         let value = match self {
             Subject::Whole(value) => value,
-            Subject::Fields(fields) => return Some(fields),
+            Subject::Fields(record) => return Some(fields_in(record)),
         };
         match &value.node {
             Node::Seq(items) => Some(items.as_slice()),
@@ -142,6 +143,16 @@ impl<'a> Subject<'a> {
             Node::Dict(entries) => Some(entries),
             _ => None,
         }
+    }
+}
+
+/// The fields of a record; no other value has any.
+fn fields_in(value: &Value) -> &[Value]
+    ensures { sequence (plains result.now) ≡ in_fields value.now }
+{
+    match &value.node {
+        Node::Rec(rec) => &rec.fields,
+        _ => &[],
     }
 }
 

@@ -1,1 +1,3 @@
+mod Climbs
+mod Indexes
 pub mod Visits

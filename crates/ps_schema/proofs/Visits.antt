@@ -28,11 +28,11 @@ right_side false b h = h
 
 -- ---- one more name
 
-or_no : (t : Bool) → (t || false) ≡ t
+pub or_no : (t : Bool) → (t || false) ≡ t
 or_no true = refl
 or_no false = refl
 
-or_first : (t u v : Bool) → (t || (u || v)) ≡ ((t || u) || v)
+pub or_first : (t u v : Bool) → (t || (u || v)) ≡ ((t || u) || v)
 or_first true u v = refl
 or_first false u v = refl
 
@@ -113,7 +113,7 @@ sees_both ds f g bs cs es u v = record {
   fewer = omega (arith, u.fewer, v.fewer);
 }
 
-asks_push : (ps : List PlainPattern) (p : PlainPattern) (b : List ℕ)
+pub asks_push : (ps : List PlainPattern) (p : PlainPattern) (b : List ℕ)
     → (one_asks (patterns ps) b || asks p b) ≡ one_asks (patterns (ps ++ p ∷ [])) b
 asks_push [] p b = sym (or_no (asks p b))
 asks_push (q ∷ ps) p b =
@@ -147,7 +147,7 @@ sees_none_behind ds a bs u =
 
 -- ---- what a whole walk tells
 
-leads_known : (ds : List Definition) (a b : List ℕ) → leads ds a b ≡ true → knows ds a ≡ true
+pub leads_known : (ds : List Definition) (a b : List ℕ) → leads ds a b ≡ true → knows ds a ≡ true
 leads_known ds a b l = by (pattern_under ds a) refl
   where
     by : (o : Option PlainPattern) → pattern_under ds a ≡ o → knows ds a ≡ true

@@ -1,6 +1,8 @@
 pub mod Lemmas
 pub mod Patterns
+pub mod Places
 pub mod Conforms
+pub mod Rising
 pub mod Laws
 pub mod Names
 pub mod Schemas

@@ -6,18 +6,24 @@
 //! by the type: `IsSchema` of `specs/Schemas.antt`.
 #![tactic(auto)]
 
+mod asked;
 mod faults;
+mod indexed;
 mod laws;
 mod making;
 mod missing;
 mod names;
+mod ranks;
+mod rising;
 mod ways;
 
 ghost use Rattle.std.specs.Prelude.{◌≡◌};
 
 pub use faults::SchemaFault;
+use indexed::Indexed;
 pub use laws::{one_verdict, ways_end};
 use pv_value::{Text, Value};
+use std::alloc::Global;
 use std::marker::Model;
 
 /// What a value must be like (Preserves Schema, section "Patterns").
@@ -98,7 +104,10 @@ pub struct Defs {
 /// Definitions of which each name has one, which are closed under their names and guarded.
 #[derive(Drop)]
 pub struct Schema {
-    defs: Vec<Definition>,
+    alloc: Global,
+    defs: Indexed,
+    /// For each definition, in their order, whether verdicts on it are worth keeping.
+    asked_again: Vec<bool>,
 }
 
 impl Model for Pattern {
@@ -145,9 +154,9 @@ impl Model for Schema {
 
     ghost coded = { coded_list definition_code };
 
-    ghost view = { λ a. a.defs.items };
+    ghost view = { λ a. a.defs };
 
-    ghost invariant = { λ a. IsSchema a.defs.items };
+    ghost invariant = { λ a. IsSchema a.defs };
 }
 
 impl Defs {

@@ -1,36 +1,42 @@
 //! Schemas, made of definitions.
-ghost use Rattle.std.specs.Prelude.{◌≡◌, IfOk, IfErr, OnOk};
+ghost use Rattle.std.specs.Prelude.{◌≡◌, None, IfOk, IfErr, OnOk};
+ghost use Rattle.ps_schema.specs.Names.{named_twice};
 ghost use Rattle.ps_schema.specs.Schemas.{IsSchema, IsRefused};
 
+use crate::asked::asked_again;
+use crate::indexed::Indexed;
 use crate::missing::first_missing;
-use crate::names::named_twice;
 use crate::ways::first_back;
-use crate::{Definition, Defs, Schema, SchemaFault};
+use crate::{Defs, Schema, SchemaFault};
 use std::alloc::Global;
 
 impl Schema {
     /// The schema of these definitions. It goes into patterns as deep as they nest, and over names
-    /// without recursion. The time grows with the square of the number of definitions, and with its
-    /// cube where most of them lead to one another at one value.
+    /// without recursion. The time is that of looking up, by halves, each name that stands in them
+    /// a few times. To refuse a name that leads back to itself takes one walk more, over all names
+    /// to which it leads, in time that grows with the square of their number.
     pub fn new(alloc: Global, defs: Defs) -> Result<Schema, SchemaFault>
         ensures ok { IfOk result (λ s. s ≡ defs) }
         ensures schema { IfOk result IsSchema }
         ensures err { IfErr result (IsRefused defs) }
     {
-        let defs = defs.list;
+        let defs = Indexed::new(alloc, defs.list)?;
         check(alloc, &defs)?;
-        Ok(Schema { defs })
+        let asked_again = asked_again(alloc, defs.all())?;
+        Ok(Schema {
+            alloc,
+            defs,
+            asked_again,
+        })
     }
 }
 
-/// Whether the definitions are a schema.
-fn check(alloc: Global, defs: &[Definition]) -> Result<(), SchemaFault>
+/// Whether definitions, of which each name has one, are a schema.
+fn check(alloc: Global, defs: &Indexed) -> Result<(), SchemaFault>
+    requires { named_twice defs.now ≡ None }
     ensures ok { OnOk result (IsSchema defs.now) }
     ensures err { IfErr result (IsRefused defs.now) }
 {
-    if let Some(name) = named_twice(defs) {
-        return Err(SchemaFault::NameTwice(String::from_str(alloc, name.as_str())?));
-    }
     if let Some(name) = first_missing(defs) {
         return Err(SchemaFault::NoSuchName(String::from_str(alloc, name.as_str())?));
     }

@@ -5,15 +5,15 @@ ghost use Rattle.ps_schema.specs.View.{listed_fields};
 ghost use Rattle.ps_schema.specs.Names.{missing, missing_in_all, missing_in_fields, missing_from};
 ghost use Rattle.ps_schema.specs.Names.{first_of, knows};
 
-use crate::names::knows;
-use crate::{Definition, Field, Form, Pattern};
+use crate::indexed::Indexed;
+use crate::{Field, Form, Pattern};
 use pv_value::Text;
 
 /// The first name in the patterns of definitions that has no definition among all.
-pub(crate) fn first_missing(defs: &[Definition]) -> Option<&Text>
+pub(crate) fn first_missing(defs: &Indexed) -> Option<&Text>
     ensures { option_copied result ≡ missing_from defs.now defs.now }
 {
-    for definition in defs {
+    for definition in defs.all() {
         if let Some(name) = missing(defs, &definition.pattern) {
             return Some(name);
         }
@@ -22,7 +22,7 @@ pub(crate) fn first_missing(defs: &[Definition]) -> Option<&Text>
 }
 
 #[cycle(missing)]
-fn missing<'a>(defs: &[Definition], pattern: &'a Pattern) -> Option<&'a Text>
+fn missing<'a>(defs: &Indexed, pattern: &'a Pattern) -> Option<&'a Text>
     ensures { option_copied result ≡ missing defs.now pattern.now }
 {
     match &pattern.form {
@@ -41,10 +41,10 @@ fn missing<'a>(defs: &[Definition], pattern: &'a Pattern) -> Option<&'a Text>
     }
 }
 
-fn unless_known<'a>(defs: &[Definition], name: &'a Text) -> Option<&'a Text>
+fn unless_known<'a>(defs: &Indexed, name: &'a Text) -> Option<&'a Text>
     ensures { option_copied result ≡ (if knows defs.now name.now then None else Some name.now) }
 {
-    if knows(defs, name.as_bytes()) {
+    if defs.knows(name.as_bytes()) {
         None
     } else {
         Some(name)
@@ -52,11 +52,7 @@ fn unless_known<'a>(defs: &[Definition], name: &'a Text) -> Option<&'a Text>
 }
 
 #[cycle(missing)]
-fn missing_in_both<'a>(
-    defs: &[Definition],
-    first: &'a Pattern,
-    second: &'a Pattern,
-) -> Option<&'a Text>
+fn missing_in_both<'a>(defs: &Indexed, first: &'a Pattern, second: &'a Pattern) -> Option<&'a Text>
     ensures { option_copied result
         ≡ first_of (missing defs.now first.now) (missing defs.now second.now) }
 {
@@ -67,11 +63,7 @@ fn missing_in_both<'a>(
 }
 
 #[cycle(missing)]
-fn missing_in_items<'a>(
-    defs: &[Definition],
-    items: &'a [Pattern],
-    rest: &'a Pattern,
-) -> Option<&'a Text>
+fn missing_in_items<'a>(defs: &Indexed, items: &'a [Pattern], rest: &'a Pattern) -> Option<&'a Text>
     ensures { option_copied result
         ≡ first_of (missing_in_all defs.now (patterns items.now)) (missing defs.now rest.now) }
 {
@@ -82,7 +74,7 @@ fn missing_in_items<'a>(
 }
 
 #[cycle(missing)]
-fn missing_in_all<'a>(defs: &[Definition], all: &'a [Pattern]) -> Option<&'a Text>
+fn missing_in_all<'a>(defs: &Indexed, all: &'a [Pattern]) -> Option<&'a Text>
     ensures { option_copied result ≡ missing_in_all defs.now (patterns all.now) }
 {
     for pattern in all {
@@ -94,7 +86,7 @@ fn missing_in_all<'a>(defs: &[Definition], all: &'a [Pattern]) -> Option<&'a Tex
 }
 
 #[cycle(missing)]
-fn missing_in_fields<'a>(defs: &[Definition], fields: &'a [Field]) -> Option<&'a Text>
+fn missing_in_fields<'a>(defs: &Indexed, fields: &'a [Field]) -> Option<&'a Text>
     ensures { option_copied result ≡ missing_in_fields defs.now (listed_fields fields.now) }
 {
     for field in fields {

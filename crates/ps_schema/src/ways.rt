@@ -6,17 +6,25 @@ ghost use Rattle.ps_schema.specs.Patterns.{patterns};
 ghost use Rattle.ps_schema.specs.Schemas.{asks, one_asks, leads, LeadsBack, IsFirstBack};
 ghost use Rattle.ps_schema.specs.Seen.{among, Sees, NoneBack};
 
-use crate::names::{knows, pattern_under};
-use crate::{Definition, Form, Pattern};
+use crate::indexed::Indexed;
+use crate::ranks::ranks;
+use crate::rising::{never_fall, rises};
+use crate::{Form, Pattern};
 use pv_value::{NoMemory, Text};
 use std::alloc::Global;
 
-/// The name of the first definition that leads back to itself.
-pub(crate) fn first_back(alloc: Global, defs: &[Definition]) -> Result<Option<&Text>, NoMemory>
+/// The name of the first definition that leads back to itself. Walks begin only at names
+/// behind which ranks don't rise, so at none that doesn't lead back.
+pub(crate) fn first_back(alloc: Global, defs: &Indexed) -> Result<Option<&Text>, NoMemory>
     ensures { IfOk result (λ o. MatchOption o (NoneBack defs.now defs.now)
         (λ a. IsFirstBack defs.now defs.now a.now)) }
 {
-    for definition in defs {
+    let ranks = ranks(alloc, defs)?;
+    let ranked = never_fall(defs, &ranks);
+    for definition in defs.all() {
+        if ranked && rises(defs, &ranks, &definition.name, 1) {
+            continue;
+        }
         if leads_back(alloc, defs, &definition.name)? {
             return Ok(Some(&definition.name));
         }
@@ -24,8 +32,9 @@ pub(crate) fn first_back(alloc: Global, defs: &[Definition]) -> Result<Option<&T
     Ok(None)
 }
 
-/// Whether the name leads back to itself. It looks at each name once.
-fn leads_back(alloc: Global, defs: &[Definition], name: &Text) -> Result<bool, NoMemory>
+/// Whether the name leads back to itself. It looks behind each name once, and compares each name
+/// that it meets with all that were seen.
+fn leads_back(alloc: Global, defs: &Indexed, name: &Text) -> Result<bool, NoMemory>
     ensures { IfOk result (λ b. Decides b (LeadsBack defs.now name.now)) }
 {
     let mut seen = Vec::new(alloc);
@@ -40,11 +49,11 @@ fn leads_back(alloc: Global, defs: &[Definition], name: &Text) -> Result<bool, N
 }
 
 /// Adds the names to which a name leads at once.
-fn see_behind(defs: &[Definition], name: &Text, seen: &mut Vec<Text>) -> Result<(), NoMemory>
+fn see_behind(defs: &Indexed, name: &Text, seen: &mut Vec<Text>) -> Result<(), NoMemory>
     ensures { OnOk result
         (Sees defs.now (leads defs.now name.now) seen.old.items seen.new.items) }
 {
-    match pattern_under(defs, name.as_bytes()) {
+    match defs.pattern(name.as_bytes()) {
         Some(pattern) => see(defs, pattern, seen),
         None => Ok(()),
     }
@@ -52,7 +61,7 @@ fn see_behind(defs: &[Definition], name: &Text, seen: &mut Vec<Text>) -> Result<
 
 /// Adds the names for which the pattern asks at the same value.
 #[cycle(see)]
-fn see(defs: &[Definition], pattern: &Pattern, seen: &mut Vec<Text>) -> Result<(), NoMemory>
+fn see(defs: &Indexed, pattern: &Pattern, seen: &mut Vec<Text>) -> Result<(), NoMemory>
     ensures { OnOk result (Sees defs.now (asks pattern.now) seen.old.items seen.new.items) }
 {
     match &pattern.form {
@@ -64,7 +73,7 @@ fn see(defs: &[Definition], pattern: &Pattern, seen: &mut Vec<Text>) -> Result<(
 }
 
 #[cycle(see)]
-fn see_all(defs: &[Definition], all: &[Pattern], seen: &mut Vec<Text>) -> Result<(), NoMemory>
+fn see_all(defs: &Indexed, all: &[Pattern], seen: &mut Vec<Text>) -> Result<(), NoMemory>
     ensures { OnOk result
         (Sees defs.now (one_asks (patterns all.now)) seen.old.items seen.new.items) }
 {
@@ -75,13 +84,13 @@ fn see_all(defs: &[Definition], all: &[Pattern], seen: &mut Vec<Text>) -> Result
 }
 
 /// Adds the name, where it has a definition and was not seen.
-fn see_name(defs: &[Definition], name: &Text, seen: &mut Vec<Text>) -> Result<(), NoMemory>
+fn see_name(defs: &Indexed, name: &Text, seen: &mut Vec<Text>) -> Result<(), NoMemory>
     ensures { OnOk result (Sees defs.now (bytes_eq name.now) seen.old.items seen.new.items) }
 {
     if is_among(seen, name) {
         return Ok(());
     }
-    if !knows(defs, name.as_bytes()) {
+    if !defs.knows(name.as_bytes()) {
         return Ok(());
     }
     seen.push(name.copy()?)?;

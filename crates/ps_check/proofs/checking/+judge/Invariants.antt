@@ -14,84 +14,91 @@ use Rattle.ps_check.proofs.checking.+judge.Given as goal
 
 abbrev pub decreases-meets : goal.decreases-meets
 decreases-meets l =
-    rank l.defs.now (counted (option_map seen l.subject)) (above l.defs.now l.pattern.now)
+    rank l.schema.now (counted (option_map seen l.subject)) (above l.schema.now l.pattern.now)
     (8 * measure l.pattern.now + 4)
 
 abbrev pub decreases-judge : goal.decreases-judge
 decreases-judge l =
-    rank l.defs.now (node_count (seen l.subject)) (above l.defs.now l.pattern.now) (8 * measure l.pattern.now + 3)
+    rank l.schema.now (node_count (seen l.subject)) (above l.schema.now l.pattern.now) (8 * measure l.pattern.now + 3)
 
 abbrev pub decreases-judge_name : goal.decreases-judge_name
 decreases-judge_name l =
-    rank l.defs.now (node_count (seen l.subject)) (suc (above_name l.defs.now l.name.now)) 1
+    rank l.schema.now (node_count (seen l.subject)) (suc (above_name l.schema.now l.name.now)) 1
 
 abbrev pub decreases-judge_one : goal.decreases-judge_one
 decreases-judge_one l =
-    rank l.defs.now (node_count (seen l.subject)) (above_all l.defs.now (patterns l.all.now))
+    rank l.schema.now (node_count (seen l.subject)) (above_all l.schema.now (patterns l.all.now))
     (8 * measure_all (patterns l.all.now))
 
 abbrev pub decreases-judge_each : goal.decreases-judge_each
 decreases-judge_each l =
-    rank l.defs.now (node_count (seen l.subject)) (above_all l.defs.now (patterns l.all.now))
+    rank l.schema.now (node_count (seen l.subject)) (above_all l.schema.now (patterns l.all.now))
     (8 * measure_all (patterns l.all.now))
 
 abbrev pub decreases-behind : goal.decreases-behind
 decreases-behind l =
-    rank l.defs.now (items_counted (option_map (λ xs. plains xs.now) l.values)) (length l.defs.now + 2)
+    rank l.schema.now (items_counted (option_map (λ xs. plains xs.now) l.values)) (length l.schema.now + 2)
     (8 * measure_all (patterns l.firsts.now) + 5)
 
 abbrev pub decreases-all_meet : goal.decreases-all_meet
 decreases-all_meet l =
-    rank l.defs.now (items_counted (option_map (λ xs. plains xs.now) l.values)) (length l.defs.now + 2)
+    rank l.schema.now (items_counted (option_map (λ xs. plains xs.now) l.values)) (length l.schema.now + 2)
     (8 * measure l.pattern.now + 6)
 
 abbrev pub decreases-entries_meet : goal.decreases-entries_meet
 decreases-entries_meet l =
-    rank l.defs.now (entries_counted (option_map (λ es. pairs es.now) l.entries)) (length l.defs.now + 2)
+    rank l.schema.now (entries_counted (option_map (λ es. pairs es.now) l.entries)) (length l.schema.now + 2)
     (8 * (measure l.key.now + measure l.value.now) + 6)
 
 abbrev pub decreases-fields_meet : goal.decreases-fields_meet
 decreases-fields_meet l =
-    rank l.defs.now (entries_counted (option_map (λ es. pairs es.now) l.entries)) (length l.defs.now + 2)
+    rank l.schema.now (entries_counted (option_map (λ es. pairs es.now) l.entries)) (length l.schema.now + 2)
     (8 * measure_fields (listed_fields l.fields.now) + 5)
 
 -- ---- those that are left decide what all decide
 
 abbrev pub invariant-judge_one-loop-pattern : goal.invariant-judge_one-loop-pattern
 invariant-judge_one-loop-pattern l = record {
-  left : matches_one (conforms l.defs) (patterns (drop l.pattern-index l.all)) (seen l.subject)
-      ≡ matches_one (conforms l.defs) (patterns l.all) (seen l.subject);
-  right : AreRight l.defs (seen l.subject) l.found;
+  left : matches_one (conforms l.schema) (patterns (drop l.pattern-index l.all)) (seen l.subject)
+      ≡ matches_one (conforms l.schema) (patterns l.all) (seen l.subject);
+  right : AreRight l.schema l.found;
 }
 
 abbrev pub invariant-judge_each-loop-pattern : goal.invariant-judge_each-loop-pattern
 invariant-judge_each-loop-pattern l = record {
-  left : matches_each (conforms l.defs) (patterns (drop l.pattern-index l.all)) (seen l.subject)
-      ≡ matches_each (conforms l.defs) (patterns l.all) (seen l.subject);
-  right : AreRight l.defs (seen l.subject) l.found;
+  left : matches_each (conforms l.schema) (patterns (drop l.pattern-index l.all)) (seen l.subject)
+      ≡ matches_each (conforms l.schema) (patterns l.all) (seen l.subject);
+  right : AreRight l.schema l.found;
 }
 
 abbrev pub invariant-behind-loop-pattern : goal.invariant-behind-loop-pattern
 invariant-behind-loop-pattern l = record {
   rest : (others : Plains → Bool)
-      → begin_with (conforms l.defs) (patterns (drop l.pattern-index l.firsts)) others (plains l.left)
-      ≡ begin_with (conforms l.defs) (patterns l.firsts) others (plains l.initial.left);
+      → begin_with (conforms l.schema) (patterns (drop l.pattern-index l.firsts)) others (plains l.left)
+      ≡ begin_with (conforms l.schema) (patterns l.firsts) others (plains l.initial.left);
   fewer : node_counts (plains l.left) ≤ node_counts (plains l.initial.left);
+  right : AreRight l.schema l.found;
 }
 
 abbrev pub invariant-all_meet-loop-value : goal.invariant-all_meet-loop-value
-invariant-all_meet-loop-value l =
-    are_all (matches (conforms l.defs) l.pattern) (plains (drop l.value-index l.values))
-    ≡ are_all (matches (conforms l.defs) l.pattern) (plains l.values)
+invariant-all_meet-loop-value l = record {
+  left : are_all (matches (conforms l.schema) l.pattern) (plains (drop l.value-index l.values))
+      ≡ are_all (matches (conforms l.schema) l.pattern) (plains l.values);
+  right : AreRight l.schema l.found;
+}
 
 abbrev pub invariant-entries_meet-loop-entry : goal.invariant-entries_meet-loop-entry
-invariant-entries_meet-loop-entry l =
-    are_all_pairs (matches (conforms l.defs) l.key) (matches (conforms l.defs) l.value)
-    (pairs (map key_and_value (drop l.entry-index l.entry-items)))
-    ≡ are_all_pairs (matches (conforms l.defs) l.key) (matches (conforms l.defs) l.value)
-    (pairs (map key_and_value l.entry-items))
+invariant-entries_meet-loop-entry l = record {
+  left : are_all_pairs (matches (conforms l.schema) l.key) (matches (conforms l.schema) l.value)
+      (pairs (map key_and_value (drop l.entry-index l.entry-items)))
+      ≡ are_all_pairs (matches (conforms l.schema) l.key) (matches (conforms l.schema) l.value)
+      (pairs (map key_and_value l.entry-items));
+  right : AreRight l.schema l.found;
+}
 
 abbrev pub invariant-fields_meet-loop-field : goal.invariant-fields_meet-loop-field
-invariant-fields_meet-loop-field l =
-    have_all (conforms l.defs) (listed_fields (drop l.field-index l.fields)) (pairs l.entries)
-    ≡ have_all (conforms l.defs) (listed_fields l.fields) (pairs l.entries)
+invariant-fields_meet-loop-field l = record {
+  left : have_all (conforms l.schema) (listed_fields (drop l.field-index l.fields)) (pairs l.entries)
+      ≡ have_all (conforms l.schema) (listed_fields l.fields) (pairs l.entries);
+  right : AreRight l.schema l.found;
+}
