@@ -1,5 +1,5 @@
 -- What is reckoned of a template is the weight and the depth of what it gives.
-use Rattle.std.proofs.Common.{◌≡◌, ℕ, zero, suc, ◌+◌, ◌-◌, ◌^◌, ◌≤◌, min, max, List, [], ◌∷◌, ◌++◌, length, map, Bool}
+use Rattle.std.proofs.Common.{◌≡◌, ℕ, zero, suc, ◌+◌, ◌≤◌, max, List, [], ◌∷◌, ◌++◌, length, Bool}
 use Rattle.std.proofs.Common.{true, false}
 use Rattle.std.proofs.Common.{Option, Some, None, option_map, option_and_then, cond, ◌==◌, ◌&&◌, leb, refl, sym, ap}
 use Rattle.std.proofs.Common.{◌∙◌, arith}
@@ -22,36 +22,21 @@ use Rattle.sr_pass.specs.Filling.{all_filled}
 use Rattle.sr_pass.specs.Passing.{fits, if_fits}
 use Rattle.pv_words.specs.Lemmas.Found.{If}
 use Rattle.std.proofs.Common.{◌<◌, get_or}
-use Rattle.sr_pass.specs.Sizes.{Size, weights_of, depths_of}
-use Rattle.sr_pass.specs.Sizes.{in_place, filled_weight, filled_weights, filled_depth, filled_depths}
+use Rattle.sr_pass.specs.Sizes.{weight_at, depth_at, filled_weight, filled_weights, filled_depth, filled_depths}
 
-abbrev most_weight : ℕ
-most_weight = 18446744073709551615
-
-abbrev most_depth : ℕ
-most_depth = 4294967295
-
--- the numbers are those of a value, of a list, each as far as its type goes
+-- the numbers are those of a value, of a list
 abbrev Sized : ℕ → ℕ → Plain → Type 0
-Sized w d v = (min w most_weight ≡ min (size_with 48 v) most_weight) × (min d most_depth ≡ min (depth v) most_depth)
+Sized w d v = (w ≡ size_with 48 v) × (d ≡ depth v)
 
 abbrev AllSized : ℕ → ℕ → Plains → Type 0
-AllSized w d xs = (min w most_weight ≡ min (sizes_with 48 xs) most_weight) × (min d most_depth
-    ≡ min (deepest xs) most_depth)
-
-abbrev pub light : List Plain → List ℕ
-light bs = map (λ v. min (weight v) (2 ^ 64 - 1)) bs
-
-abbrev pub shallow : List Plain → List ℕ
-shallow bs = map (λ v. min (depth v) (2 ^ 32 - 1)) bs
+AllSized w d xs = (w ≡ sizes_with 48 xs) × (d ≡ deepest xs)
 
 -- ---- bindings and compounds
 
-binding_sized : (bs : List Plain) (n : ℕ) → If (slice_get bs n)
-    (Sized (in_place (light bs) n) (in_place (shallow bs) n))
+binding_sized : (bs : List Plain) (n : ℕ) → If (slice_get bs n) (Sized (weight_at bs n) (depth_at bs n))
 unfolding weight
 binding_sized [] n = tt
-binding_sized (b ∷ bs) zero = (omega arith, omega arith)
+binding_sized (b ∷ bs) zero = (refl, refl)
 binding_sized (b ∷ bs) (suc n) = binding_sized bs n
 
 constant_sized : (v : Plain) → Sized (weight v) (depth v) v
@@ -163,88 +148,72 @@ first_sized v w d e (Some x) (Some xs) h k =
 
 mutual
   pub sized : (t : Template) (bs : List Plain)
-      → If (filled t bs) (Sized (filled_weight t (light bs)) (filled_depth t (shallow bs)))
+      → If (filled t bs) (Sized (filled_weight t bs) (filled_depth t bs))
   sized (attenuate t cs) bs = by (listed_caveats cs) (caveats_back cs) (filled t bs) (sized t bs)
     where
       by : (ds : List Caveat) → caveats ds ≡ cs → (o : Option Plain)
-          → If o (Sized (filled_weight t (light bs)) (filled_depth t (shallow bs)))
+          → If o (Sized (filled_weight t bs) (filled_depth t bs))
           → If (option_and_then (reference_with ds) o)
-          (Sized (filled_weight t (light bs) + sizes_with 48 (caveat_values cs))
-          (max (filled_depth t (shallow bs)) (suc (suc (deepest (caveat_values cs))))))
+          (Sized (filled_weight t bs + sizes_with 48 (caveat_values cs))
+          (max (filled_depth t bs) (suc (suc (deepest (caveat_values cs))))))
       by ds is o h =
-          rw (← is) (reference_sized (filled_weight t (light bs)) (filled_depth t (shallow bs)) ds o h)
+          rw (← is) (reference_sized (filled_weight t bs) (filled_depth t bs) ds o h)
   sized (binding n) bs = binding_sized bs n
   sized (constant v) bs = constant_sized v
   sized (record_from l ts) bs =
-      record_sized l (filled_weights ts (light bs)) (filled_depths ts (shallow bs)) (all_filled ts bs) (all_sized ts bs)
+      record_sized l (filled_weights ts bs) (filled_depths ts bs) (all_filled ts bs) (all_sized ts bs)
   sized (sequence_from ts) bs =
-      sequence_sized (filled_weights ts (light bs)) (filled_depths ts (shallow bs)) (all_filled ts bs) (all_sized ts bs)
+      sequence_sized (filled_weights ts bs) (filled_depths ts bs) (all_filled ts bs) (all_sized ts bs)
   sized (dictionary_of ks ts) bs =
-      dictionary_sized ks (filled_weights ts (light bs)) (filled_depths ts (shallow bs)) (all_filled ts bs)
+      dictionary_sized ks (filled_weights ts bs) (filled_depths ts bs) (all_filled ts bs)
       (all_sized ts bs)
 
   pub all_sized : (ts : Templates) (bs : List Plain)
-      → If (all_filled ts bs) (λ xs. AllSized (filled_weights ts (light bs)) (filled_depths ts (shallow bs))
+      → If (all_filled ts bs) (λ xs. AllSized (filled_weights ts bs) (filled_depths ts bs)
       (plains xs))
   all_sized no_templates bs = (refl, refl)
   all_sized (then_template t ts) bs =
-      first_sized (filled_weight t (light bs)) (filled_weights ts (light bs)) (filled_depth t (shallow bs))
-      (filled_depths ts (shallow bs)) (filled t bs) (all_filled ts bs) (sized t bs) (all_sized ts bs)
+      first_sized (filled_weight t bs) (filled_weights ts bs) (filled_depth t bs)
+      (filled_depths ts bs) (filled t bs) (all_filled ts bs) (sized t bs) (all_sized ts bs)
 
 -- ---- what is too large is not made, and what is made fits
 
-by_size : (v : Plain) (w d : ℕ) → Sized w d v
-    → (leb (min w most_weight) value_weight && leb (min d most_depth) value_depth) ≡ fits v
+by_size : (v : Plain) (w d : ℕ) → Sized w d v → (leb w value_weight && leb d value_depth) ≡ fits v
 unfolding weight
-by_size v w d h =
-    let hw = h.0 in let hd = h.1 in
-    (λ i. leb (hw i) value_weight && leb (hd i) value_depth)
-    ∙ (λ i. lighter (size_with 48 v) i && shallower (depth v) i)
-  where
-    lighter : (n : ℕ) → leb (min n most_weight) value_weight ≡ leb n value_weight
-    lighter n = grind (arith, nat_tests)
+by_size v w d h = λ i. leb (h.0 i) value_weight && leb (h.1 i) value_depth
 
-    shallower : (n : ℕ) → leb (min n most_depth) value_depth ≡ leb n value_depth
-    shallower n = grind (arith, nat_tests)
-
-pub made_fits : (t : Template) (bs : List Plain) (w d : ℕ)
-    → w ≡ min (filled_weight t (light bs)) most_weight → d ≡ min (filled_depth t (shallow bs)) most_depth
-    → (leb w value_weight && leb d value_depth) ≡ true → filled t bs ≡ option_and_then if_fits (filled t bs)
-made_fits t bs w d ew ed small = by (filled t bs) (sized t bs)
+pub made_fits : (t : Template) (bs : List Plain)
+    → (leb (filled_weight t bs) value_weight && leb (filled_depth t bs) value_depth) ≡ true
+    → filled t bs ≡ option_and_then if_fits (filled t bs)
+made_fits t bs small = by (filled t bs) (sized t bs)
   where
-    by : (o : Option Plain) → If o (Sized (filled_weight t (light bs)) (filled_depth t (shallow bs)))
-        → o ≡ option_and_then if_fits o
+    by : (o : Option Plain) → If o (Sized (filled_weight t bs) (filled_depth t bs)) → o ≡ option_and_then if_fits o
     by None h = refl
     by (Some v) h =
-        let e : fits v ≡ true =
-        sym (by_size v (filled_weight t (light bs)) (filled_depth t (shallow bs)) h)
-        ∙ (λ i. leb (sym ew i) value_weight && leb (sym ed i) value_depth) ∙ small in
+        let e : fits v ≡ true = sym (by_size v (filled_weight t bs) (filled_depth t bs) h) ∙ small in
         ap (λ b. cond {A = Option Plain} b (Some v) None) (sym e)
 
-pub large_refused : (t : Template) (bs : List Plain) (w d : ℕ)
-    → w ≡ min (filled_weight t (light bs)) most_weight → d ≡ min (filled_depth t (shallow bs)) most_depth
-    → (leb w value_weight && leb d value_depth) ≡ false → None ≡ option_and_then if_fits (filled t bs)
-large_refused t bs w d ew ed large = by (filled t bs) (sized t bs)
+pub large_refused : (t : Template) (bs : List Plain)
+    → (leb (filled_weight t bs) value_weight && leb (filled_depth t bs) value_depth) ≡ false
+    → None ≡ option_and_then if_fits (filled t bs)
+large_refused t bs large = by (filled t bs) (sized t bs)
   where
-    by : (o : Option Plain) → If o (Sized (filled_weight t (light bs)) (filled_depth t (shallow bs)))
+    by : (o : Option Plain) → If o (Sized (filled_weight t bs) (filled_depth t bs))
         → None ≡ option_and_then if_fits o
     by None h = refl
     by (Some v) h =
-        let e : fits v ≡ false =
-        sym (by_size v (filled_weight t (light bs)) (filled_depth t (shallow bs)) h)
-        ∙ (λ i. leb (sym ew i) value_weight && leb (sym ed i) value_depth) ∙ large in
+        let e : fits v ≡ false = sym (by_size v (filled_weight t bs) (filled_depth t bs) h) ∙ large in
         ap (λ b. cond {A = Option Plain} b (Some v) None) (sym e)
 
--- ---- sizes at places
+-- ---- what stands at a place
 
-pub place_there : (ss : List Size) (i : ℕ) (s : Size) → i < length ss → s ≡ get_or ss i s
-    → (in_place (weights_of ss) i ≡ s.weight) × (in_place (depths_of ss) i ≡ s.depth)
-place_there [] i s h e = absurd (omega arith)
-place_there (r ∷ rs) zero s h e = (ap (λ (x : Size). x.weight) (sym e), ap (λ (x : Size). x.depth) (sym e))
-place_there (r ∷ rs) (suc i) s h e = place_there rs i s (omega arith) e
+pub there_sized : (bs : List Plain) (n : ℕ) (b : Plain) → n < length bs → b ≡ get_or bs n b
+    → (weight_at bs n ≡ weight b) × (depth_at bs n ≡ depth b)
+there_sized [] n b h e = absurd (omega arith)
+there_sized (a ∷ rest) zero b h e = (ap weight (sym e), ap depth (sym e))
+there_sized (a ∷ rest) (suc n) b h e = there_sized rest n b (omega arith) e
 
-pub place_none : (ss : List Size) (i : ℕ) → length ss ≤ i
-    → (in_place (weights_of ss) i ≡ 0) × (in_place (depths_of ss) i ≡ 0)
-place_none [] i h = (refl, refl)
-place_none (r ∷ rs) zero h = absurd (omega arith)
-place_none (r ∷ rs) (suc i) h = place_none rs i (omega arith)
+pub none_sized : (bs : List Plain) (n : ℕ) → length bs ≤ n → (weight_at bs n ≡ 0) × (depth_at bs n ≡ 0)
+none_sized [] n h = (refl, refl)
+none_sized (a ∷ rest) zero h = absurd (omega arith)
+none_sized (a ∷ rest) (suc n) h = none_sized rest n (omega arith)

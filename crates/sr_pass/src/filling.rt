@@ -1,59 +1,22 @@
 //! What templates make of the values that were bound.
 //!
-//! How much the value weighs that a template gives, and how deep it nests, is reckoned first, from
-//! the sizes of what was bound: only what is within the bounds of a value is made.
-ghost use Rattle.std.specs.Prelude.{◌≡◌, ◌-◌, ◌+◌, ◌^◌, min, max, IfOk, map, option_map, vec_items};
-ghost use Rattle.std.specs.Prelude.{slice_get, option_and_then, nat_le, ◌&&◌, ℕ, length, ◌++◌};
-ghost use Rattle.pv_value.specs.View.{key_and_value};
+//! How large the value is that a template gives is reckoned first: only what is within the bounds
+//! of a value is made.
+ghost use Rattle.std.specs.Prelude.{◌≡◌, ◌++◌, IfOk, option_map, vec_items, slice_get};
+ghost use Rattle.std.specs.Prelude.{option_and_then, length};
 ghost use Rattle.pv_value.specs.Plain.{plains, sequence, record_of};
-ghost use Rattle.pv_value.specs.Weight.{weight, sizes_with};
-ghost use Rattle.pv_value.specs.Depth.{depth, deepest};
-ghost use Rattle.sr_caveat.specs.Limits.{value_weight, value_depth};
 ghost use Rattle.sr_caveat.specs.Caps.{attenuated};
-ghost use Rattle.sr_caveat.specs.Patterns.{caveats};
-ghost use Rattle.sr_caveat.specs.Spelled.{caveat_values};
 ghost use Rattle.sr_caveat.specs.View.{listed_templates, keys_of};
 ghost use Rattle.sr_pass.specs.Filling.{filled, all_filled, reference_with, dictionary_under};
 ghost use Rattle.sr_pass.specs.Filling.{if_reference};
-ghost use Rattle.sr_pass.specs.Passing.{fits, if_fits};
-ghost use Rattle.sr_pass.specs.Sizes.{in_place, filled_weight, filled_weights, filled_depth};
-ghost use Rattle.sr_pass.specs.Sizes.{filled_depths, weights_of, depths_of, IsSizeOf, AreSizesOf};
+ghost use Rattle.sr_pass.specs.Passing.{if_fits};
 
-use pv_value::{Entries, Entry, Items, NoMemory, Node, Value, depth, weight};
+use crate::sizes::gives_small;
+use pv_value::{Entries, Items, NoMemory, Node, Value, weight};
 use sr_caveat::{
-    Cap, Caveat, REFERENCE_CAVEATS, REFERENCE_WEIGHT, TemplateForm, Tmpl, VALUE_DEPTH,
-    VALUE_WEIGHT, caveat_values, dictionary_with,
+    Cap, Caveat, REFERENCE_CAVEATS, REFERENCE_WEIGHT, TemplateForm, Tmpl, dictionary_with,
 };
 use std::alloc::Global;
-
-/// How much a value weighs and how deep it nests. Both stop at the end of their types.
-#[derive(Clone, Copy, Debug, Drop)]
-pub(crate) struct Size {
-    weight: u64,
-    depth: u32,
-}
-
-/// Whether the value is within the bounds of what passes a caveat.
-pub(crate) fn fits(value: &Value) -> bool
-    ensures { result ≡ fits value.now }
-{
-    is_small(size_of(value))
-}
-
-fn is_small(size: Size) -> bool
-    ensures { result ≡ (nat_le size.weight value_weight && nat_le size.depth value_depth) }
-{
-    size.weight <= VALUE_WEIGHT && size.depth <= VALUE_DEPTH
-}
-
-fn size_of(value: &Value) -> Size
-    ensures { IsSizeOf result (weight value.now) (depth value.now) }
-{
-    Size {
-        weight: weight(value),
-        depth: depth(value),
-    }
-}
 
 /// What the template makes of the bindings, where it is within the bounds.
 pub(crate) fn made(
@@ -64,146 +27,10 @@ pub(crate) fn made(
     ensures { IfOk result (λ v. v
         ≡ option_and_then if_fits (filled template.now bindings.now)) }
 {
-    let sizes = sizes_of(alloc, bindings)?;
-    if !is_small(reckoned(alloc, template, &sizes)?) {
+    if !gives_small(alloc, template, bindings)? {
         return Ok(None);
     }
     fill(alloc, template, bindings)
-}
-
-fn sizes_of(alloc: Global, values: &[Value]) -> Result<Vec<Size>, NoMemory>
-    ensures { IfOk result (λ ss. AreSizesOf ss.items values.now) }
-{
-    let mut sizes = Vec::new(alloc);
-    for value in values {
-        sizes.push(size_of(value))?;
-    }
-    Ok(sizes)
-}
-
-/// The size of what the template gives, where it gives something, by the sizes of the bindings.
-#[cycle(reckoned)]
-fn reckoned(alloc: Global, template: &Tmpl, sizes: &[Size]) -> Result<Size, NoMemory>
-    ensures { IfOk result (λ s. IsSizeOf s (filled_weight template.now (weights_of sizes.now))
-        (filled_depth template.now (depths_of sizes.now))) }
-{
-    match &template.form {
-        TemplateForm::Attenuate(inside, caveats) => {
-            let size = reckoned(alloc, inside, sizes)?;
-            with_caveats(alloc, size, caveats)
-        }
-        TemplateForm::Ref(n) => Ok(size_at(sizes, *n)),
-        TemplateForm::Lit(value) => Ok(size_of(value)),
-        TemplateForm::Rec(label, templates) => {
-            let parts = all_reckoned(alloc, templates, sizes)?;
-            Ok(around(beside(size_of(label), parts)))
-        }
-        TemplateForm::Arr(templates) => Ok(around(all_reckoned(alloc, templates, sizes)?)),
-        TemplateForm::Dict(keys, templates) => {
-            let parts = all_reckoned(alloc, templates, sizes)?;
-            Ok(around(beside(size_of_keys(keys.as_slice()), parts)))
-        }
-    }
-}
-
-#[cycle(reckoned)]
-fn all_reckoned(alloc: Global, templates: &[Tmpl], sizes: &[Size]) -> Result<Size, NoMemory>
-    ensures { IfOk result (λ s. IsSizeOf s
-        (filled_weights (listed_templates templates.now) (weights_of sizes.now))
-        (filled_depths (listed_templates templates.now) (depths_of sizes.now))) }
-{
-    let mut total = nothing();
-    for template in templates {
-        total = beside(total, reckoned(alloc, template, sizes)?);
-    }
-    Ok(total)
-}
-
-fn nothing() -> Size
-    ensures { IsSizeOf result 0 0 }
-{
-    Size {
-        weight: 0,
-        depth: 0,
-    }
-}
-
-/// The size of two lists of values together.
-fn beside(a: Size, b: Size) -> Size
-    ensures weight { result.weight ≡ min (a.weight + b.weight) (2 ^ 64 - 1) }
-    ensures depth { result.depth ≡ max a.depth b.depth }
-{
-    Size {
-        weight: a.weight.saturating_add(b.weight),
-        depth: a.depth.max(b.depth),
-    }
-}
-
-/// The size of a compound of values of this size.
-fn around(inside: Size) -> Size
-    ensures weight { result.weight ≡ min (inside.weight + 50) (2 ^ 64 - 1) }
-    ensures depth { result.depth ≡ min (inside.depth + 1) (2 ^ 32 - 1) }
-{
-    Size {
-        weight: inside.weight.saturating_add(50),
-        depth: inside.depth.saturating_add(1),
-    }
-}
-
-fn size_at(sizes: &[Size], place: u64) -> Size
-    ensures { IsSizeOf result (in_place (weights_of sizes.now) place)
-        (in_place (depths_of sizes.now) place) }
-{
-    match sizes.get(place as usize) {
-        Some(size) => as_told(*size),
-        None => nothing(),
-    }
-}
-
-/// A size is as far as its types go.
-fn as_told(size: Size) -> Size
-    ensures same { result ≡ size }
-    ensures told { IsSizeOf result size.weight size.depth }
-{
-    size
-}
-
-fn size_of_all(values: &[Value]) -> Size
-    ensures { IsSizeOf result (sizes_with 48 (plains values.now)) (deepest (plains values.now)) }
-{
-    let mut total = nothing();
-    for value in values {
-        total = beside(total, size_of(value));
-    }
-    total
-}
-
-fn size_of_keys(entries: &[Entry]) -> Size
-    ensures { IsSizeOf result (sizes_with 48 (keys_of (map key_and_value entries.now)))
-        (deepest (keys_of (map key_and_value entries.now))) }
-{
-    let mut total = nothing();
-    for e in entries {
-        total = beside(total, size_of(&e.key));
-    }
-    total
-}
-
-/// The size of a reference with these caveats behind its own.
-#[inline(never)]
-fn with_caveats(alloc: Global, size: Size, list: &[Caveat]) -> Result<Size, NoMemory>
-    ensures weight { IfOk result (λ s. s.weight
-        ≡ min (size.weight + sizes_with 48 (caveat_values (caveats list.now))) (2 ^ 64 - 1)) }
-    ensures depth { IfOk result (λ s. s.depth
-        ≡ max size.depth (min (deepest (caveat_values (caveats list.now)) + 2) (2 ^ 32 - 1))) }
-{
-    let values = caveat_values(alloc, list)?;
-    let inside = size_of_all(&values);
-    let depth = inside.depth.saturating_add(2);
-    Ok(Size {
-        weight: size.weight.saturating_add(inside.weight),
-        depth: size.depth.max(depth),
-    })
 }
 
 /// What the template makes of the bindings.

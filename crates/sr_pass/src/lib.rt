@@ -13,6 +13,7 @@ mod filling;
 mod laws;
 mod matching;
 mod passing;
+mod sizes;
 
 pub use laws::{attenuating_narrows, bindings_are_binds, newest_comes_first, unknown_is_refused};
 pub use matching::{bindings, matches};

@@ -5,8 +5,9 @@ ghost use Rattle.sr_pass.specs.Binding.{bound};
 ghost use Rattle.sr_pass.specs.Filling.{filled};
 ghost use Rattle.sr_pass.specs.Passing.{passed, applied, if_fits, rewritten};
 
-use crate::filling::{fits, made};
+use crate::filling::made;
 use crate::matching::{bindings, matches};
+use crate::sizes::fits;
 use pv_value::{NoMemory, Value};
 use sr_caveat::{CPat, Caveat, Rewrite, Rule, Tmpl};
 use std::alloc::Global;

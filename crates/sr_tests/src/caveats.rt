@@ -1,7 +1,7 @@
 //! Caveats and references: what no row of `dsd_rows` shows.
 
 use pv_text::read_text;
-use pv_value::Value;
+use pv_value::{Items, Value, push_bytes};
 use sr_caveat::{Cap, Caveat, parse_caveat};
 use sr_pass::{NoNames, pass};
 use std::alloc::Global;
@@ -52,6 +52,54 @@ fn is_reference(alloc: Global, text: &str) -> Result<bool, Fail> {
         Some(cap) => Ok(cap.to_value(alloc)? == value(alloc, text)?),
         None => Ok(false),
     }
+}
+
+/// The caveat that binds the whole value three hundred times and makes of it what the template
+/// gives.
+fn many_bindings(alloc: Global, template: &str) -> Result<Caveat, Fail> {
+    let mut text = Vec::new(alloc);
+    push_bytes(&mut text, b"<rewrite <and [")?;
+    for _ in 0..300 {
+        push_bytes(&mut text, b"<bind <_>> ")?;
+    }
+    push_bytes(&mut text, b"]> ")?;
+    push_bytes(&mut text, template.as_bytes())?;
+    push_bytes(&mut text, b">")?;
+    let (written, _) = read_text(alloc, &text)?;
+    Ok(parse_caveat(alloc, &written, true)?)
+}
+
+/// A sequence of twenty thousand sevens. Each weighs 51, and all together 1,020,050.
+fn sevens(alloc: Global) -> Result<Value, Fail> {
+    let mut items = Vec::new(alloc);
+    for _ in 0..20_000 {
+        items.push(Value::integer(7))?;
+    }
+    Ok(Value::sequence(Items::from_vec(alloc, items)?))
+}
+
+/// Whether the sevens, bound three hundred times, come out of the template as they were.
+fn gives_the_sevens(alloc: Global, template: &str) -> Result<bool, Fail> {
+    let caveat = many_bindings(alloc, template)?;
+    let sent = sevens(alloc)?;
+    match pass(alloc, &[caveat], &sent, &NoNames)? {
+        Some(given) => Ok(given == sent),
+        None => Ok(false),
+    }
+}
+
+/// Whether nothing comes out of the template for the sevens, bound three hundred times.
+fn refuses_the_sevens(alloc: Global, template: &str) -> Result<bool, Fail> {
+    let caveat = many_bindings(alloc, template)?;
+    let sent = sevens(alloc)?;
+    Ok(pass(alloc, &[caveat], &sent, &NoNames)?.is_none())
+}
+
+#[test]
+fn only_what_a_template_names_counts(rt: HostRuntime) -> Result<(), Fail> {
+    assert!(rt; gives_the_sevens(rt.alloc(), "<ref 299>")?);
+    assert!(rt; refuses_the_sevens(rt.alloc(), "<arr [<ref 0> <ref 1>]>")?);
+    Ok(())
 }
 
 #[test]
