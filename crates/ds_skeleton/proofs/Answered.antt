@@ -8,3 +8,7 @@ then_ok (Err e) f a = tt
 pub then_if : {X E : Type 0} {A B : X → Type 0} (r : Result X E) → ((x : X) → A x → B x) → IfOk r A → IfOk r B
 then_if (Ok x) f a = f x a
 then_if (Err e) f a = tt
+
+pub then_two : {X E A B C : Type 0} (r : Result X E) → (A → B → C) → OnOk r A → OnOk r B → OnOk r C
+then_two (Ok x) f a b = f a b
+then_two (Err e) f a b = tt

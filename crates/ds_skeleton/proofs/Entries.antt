@@ -36,7 +36,7 @@ count-insert_entry {K} {X} cmp h k x (p ∷ ps) e = by (cmp k p.0) refl e (λ n.
     by Greater is none i = swap (cond (h p) 1 0) (cond (h (k, x)) 1 0) (count h (insert_entry cmp ps k x)) (count h ps)
         (i none)
 
-some_is : {X : Type 0} (a b : X) → Some a ≡ Some b → a ≡ b
+pub some_is : {X : Type 0} (a b : X) → Some a ≡ Some b → a ≡ b
 some_is a b e = cc
 
 pub count-remove_entry : {K X : Type 0} (test : K → Bool) (h : K × X → Bool) (x : X) (b : Bool) (es : List (K × X))

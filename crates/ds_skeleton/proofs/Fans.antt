@@ -1,11 +1,10 @@
 -- To whom a message goes: the observations that the index finds are those that capture something of it.
 use Rattle.std.proofs.Common.{◌≡◌, ℕ, ◌+◌, List, [], ◌∷◌, ◌++◌, map, Bool, true, false, ◌&&◌, ◌||◌}
-use Rattle.std.proofs.Common.{Option, Some, None, refl, ap, sym, ◌∙◌, subst, arith}
+use Rattle.std.proofs.Common.{Option, Some, None, option_and_then, refl, ap, sym, ◌∙◌, arith}
 use Rattle.std.specs.List.{list_any, flat_map, AllByRecursion}
 use Rattle.std.specs.List.Sorted.{IsStrictlySortedBy}
 use Rattle.std.specs.Ordering.{ordering_then}
 use Rattle.std.specs.declared.cmp.Ordering.TheVariants.{Less}
-use Rattle.std.specs.BTreeMap as tree
 use Rattle.std.specs.BTreeMap.{BTreeMap}
 use Rattle.std.proofs.lemmas.Map.Lookups.{btree_set_from_contains}
 use Rattle.pv_value.specs.Plain.{Plain, sequence, plains, listed}
@@ -28,13 +27,15 @@ use Rattle.ds_space.specs.Lemmas.Lists.{in_order, ascending_any}
 use Rattle.ds_skeleton.specs.Places.{Place, Parts, same_entry, same_outline, same_place, place_of, is_placed, stand}
 use Rattle.ds_skeleton.specs.Places.{stands}
 use Rattle.ds_skeleton.specs.Places.{is_found, catches, catches_by}
-use Rattle.ds_skeleton.specs.Leaves.{Leaf, observed_at, leaf_of}
-use Rattle.ds_skeleton.specs.Indexes.{IsIndexOf, is_kept, met, met_by}
+use Rattle.ds_skeleton.specs.Leaves.{Leaf, leaf_at, observed_at}
+use Rattle.ds_skeleton.specs.Shapes.{Shape, shape_at, is_kept, leaf_of, AreInOrder}
+use Rattle.ds_skeleton.specs.Indexes.{IsIndexOf, met, met_by}
 use Rattle.ds_skeleton.specs.Laws.{is_captures}
 use Rattle.ds_skeleton.specs.Keys.{fanned_of, weight_of_entries}
 use Rattle.ds_skeleton.proofs.Exact.{any_with}
+use Rattle.ds_skeleton.proofs.Found.{any_found, none_found}
 use Rattle.ds_skeleton.proofs.Kept.{covered}
-use Rattle.ds_skeleton.proofs.Same.{both_eq, exact_entry, outline_is, outline_self, place_parts}
+use Rattle.ds_skeleton.proofs.Same.{both_eq, exact_entry, outline_is}
 use Rattle.ds_skeleton.proofs.Wanted.{caught}
 
 -- ---- the keys that the index finds
@@ -43,25 +44,20 @@ and_false : (b : Bool) → (b && false) ≡ false
 and_false true = refl
 and_false false = refl
 
-unmet : (leaves : BTreeMap Entry Leaf) (m : Plain) (q : Entry) (s : Outline)
-    → ((p : Place) → p.outline ≡ s → observed_at (leaf_of leaves p) q.key ≡ false) → met leaves m q s ≡ false
-unmet leaves m q s h = by (stand s m)
+unmet : (m : Plain) (q : Entry) (s : Shape) → ((k : Plain) → observed_at (leaf_at s.leaves k) q.key ≡ false)
+    → met m q s ≡ false
+unmet m q s h = by (stand s.outline m)
   where
-    by : (e : Option Parts) → met_by leaves s e q ≡ false
+    by : (e : Option Parts) → met_by s.leaves e q ≡ false
     by None = refl
-    by (Some e) =
-        ap (λ t. same e.captures q.value && t) (h (record { outline = s; constants = e.constants }) refl)
-        ∙ and_false (same e.captures q.value)
+    by (Some e) = ap (λ t. same e.captures q.value && t) (h e.constants) ∙ and_false (same e.captures q.value)
 
-met_here : (leaves : BTreeMap Entry Leaf) (s : Outline) (k : Plain) (q : Entry)
-    → ((r : Place) → observed_at (leaf_of leaves r) q.key ≡ same_place (record { outline = s; constants = k }) r)
-    → (e : Option Parts) → met_by leaves s e q ≡ is_found e k q.value
-met_here leaves s k q obs None = refl
-met_here leaves s k q obs (Some e) =
-    ap (λ t. same e.captures q.value && t)
-    (obs (record { outline = s; constants = e.constants })
-    ∙ place_parts (record { outline = s; constants = k }) (record { outline = s; constants = e.constants })
-    ∙ ap (λ t. t && same k e.constants) (outline_self s) ∙ same_turns k e.constants)
+met_here : (leaves : BTreeMap Plain Leaf) (k : Plain) (q : Entry)
+    → ((l : Plain) → observed_at (leaf_at leaves l) q.key ≡ same k l)
+    → (e : Option Parts) → met_by leaves e q ≡ is_found e k q.value
+met_here leaves k q obs None = refl
+met_here leaves k q obs (Some e) =
+    ap (λ t. same e.captures q.value && t) (obs e.constants ∙ same_turns k e.constants)
     ∙ turned (same e.captures q.value) (same e.constants k)
   where
     turned : (a b : Bool) → (a && b) ≡ (b && a)
@@ -70,45 +66,54 @@ met_here leaves s k q obs (Some e) =
     turned false true = refl
     turned false false = refl
 
-met_each : (leaves : BTreeMap Entry Leaf) (m : Plain) (s : Outline) (k : Plain) (q : Entry)
-    → ((r : Place) → observed_at (leaf_of leaves r) q.key ≡ same_place (record { outline = s; constants = k }) r)
-    → (r : Outline) → met leaves m q r ≡ (same_outline s r && stands s k q.value m)
-met_each leaves m s k q obs r = by (same_outline s r) refl
-  where
-    by : (b : Bool) → same_outline s r ≡ b → met leaves m q r ≡ (b && stands s k q.value m)
-    by true e =
-        subst (λ (r : Outline). met leaves m q r ≡ stands s k q.value m) (outline_is s r e)
-        (met_here leaves s k q obs (stand s m))
-    by false e =
-        unmet leaves m q r (λ p h. obs p ∙ place_parts (record { outline = s; constants = k }) p
-        ∙ ap (λ t. same_outline s t && same k p.constants) h ∙ ap (λ t. t && same k p.constants) e)
+abbrev place : Outline → Plain → Place
+place s k = record { outline = s; constants = k }
 
-met_by_place : (vs : List Plain) (outlines : BTreeMap Outline ℕ) (leaves : BTreeMap Entry Leaf) (m : Plain) (q : Entry)
-    (so : Option Place) → ((p : Place) → observed_at (leaf_of leaves p) q.key ≡ (among q.key vs && is_placed so p))
-    → ((p : Place) → among q.key vs ≡ true → so ≡ Some p → is_kept outlines p.outline ≡ true)
-    → list_any (met leaves m q) (tree.keys outlines) ≡ (among q.key vs && catches_by so q.value m)
-met_by_place vs outlines leaves m q None obs kept =
-    any_none (met leaves m q) (tree.keys outlines) (λ s. unmet leaves m q s (λ p h. obs p ∙ and_false (among q.key vs)))
-    ∙ sym (and_false (among q.key vs))
-met_by_place vs outlines leaves m q (Some p) obs kept = by (among q.key vs) refl
+leaf_here : (S : List Shape) (r : Shape) (q : Entry) (k : Plain) → shape_at S r.outline ≡ Some r
+    → observed_at (leaf_at r.leaves k) q.key ≡ observed_at (leaf_of S (place r.outline k)) q.key
+leaf_here S r q k found =
+    sym (ap (λ x. observed_at (option_and_then (λ t. leaf_at t.leaves k) x) q.key) found)
+
+met_each : (S : List Shape) (m : Plain) (s : Outline) (k : Plain) (q : Entry)
+    → ((r : Place) → observed_at (leaf_of S r) q.key ≡ same_place (place s k) r)
+    → (r : Shape) → shape_at S r.outline ≡ Some r → met m q r ≡ (same_outline s r.outline && stands s k q.value m)
+met_each S m s k q obs r found = by (same_outline s r.outline) refl
   where
-    by : (b : Bool) → among q.key vs ≡ b → list_any (met leaves m q) (tree.keys outlines)
-        ≡ (b && catches_by (Some p) q.value m)
+    seen : (b : Bool) → same_outline s r.outline ≡ b → (l : Plain)
+        → observed_at (leaf_at r.leaves l) q.key ≡ (b && same k l)
+    seen b e l = leaf_here S r q l found ∙ obs (place r.outline l) ∙ ap (λ t. t && same k l) e
+
+    by : (b : Bool) → same_outline s r.outline ≡ b → met m q r ≡ (b && stands s k q.value m)
     by true e =
-        any_with (met leaves m q) (same_outline p.outline) (stands p.outline p.constants q.value m) (tree.keys outlines)
-        (met_each leaves m p.outline p.constants q (λ r. obs r ∙ ap (λ t. t && same_place p r) e))
+        met_here r.leaves k q (seen true e) (stand r.outline m)
+        ∙ ap (λ o. stands o k q.value m) (sym (outline_is s r.outline e))
+    by false e = unmet m q r (seen false e)
+
+none_met : (S : List Shape) (m : Plain) (q : Entry) → AreInOrder S
+    → ((p : Place) → observed_at (leaf_of S p) q.key ≡ false) → list_any (met m q) S ≡ false
+none_met S m q o h =
+    none_found S (met m q) o (λ r found. unmet m q r (λ k. leaf_here S r q k found ∙ h (place r.outline k)))
+
+met_by_place : (vs : List Plain) (S : List Shape) (m : Plain) (q : Entry) (so : Option Place) → AreInOrder S
+    → ((p : Place) → observed_at (leaf_of S p) q.key ≡ (among q.key vs && is_placed so p))
+    → ((p : Place) → among q.key vs ≡ true → so ≡ Some p → is_kept S p.outline ≡ true)
+    → list_any (met m q) S ≡ (among q.key vs && catches_by so q.value m)
+met_by_place vs S m q None o obs kept =
+    none_met S m q o (λ p. obs p ∙ and_false (among q.key vs)) ∙ sym (and_false (among q.key vs))
+met_by_place vs S m q (Some p) o obs kept = by (among q.key vs) refl
+  where
+    by : (b : Bool) → among q.key vs ≡ b → list_any (met m q) S ≡ (b && catches_by (Some p) q.value m)
+    by true e =
+        any_found S (met m q) p.outline (stands p.outline p.constants q.value m) o
+        (met_each S m p.outline p.constants q (λ r. obs r ∙ ap (λ t. t && same_place p r) e))
         ∙ ap (λ t. t && stands p.outline p.constants q.value m) (kept p e refl)
-    by false e =
-        any_none (met leaves m q) (tree.keys outlines)
-        (λ s. unmet leaves m q s (λ r h. obs r ∙ ap (λ t. t && same_place p r) e))
+    by false e = none_met S m q o (λ r. obs r ∙ ap (λ t. t && same_place p r) e)
 
-pub met_is : (vs : List Plain) (outlines : BTreeMap Outline ℕ) (leaves : BTreeMap Entry Leaf)
-    → IsIndexOf vs vs outlines leaves
-    → (m : Plain) (q : Entry) → list_any (met leaves m q) (tree.keys outlines)
-    ≡ (among q.key vs && catches q.key q.value m)
-met_is vs outlines leaves index m q =
-    met_by_place vs outlines leaves m q (place_of q.key) (λ p. index.observers p q.key)
-    (λ p. covered vs vs outlines leaves index q.key p)
+pub met_is : (vs : List Plain) (S : List Shape) → IsIndexOf vs vs S
+    → (m : Plain) (q : Entry) → list_any (met m q) S ≡ (among q.key vs && catches q.key q.value m)
+met_is vs S index m q =
+    met_by_place vs S m q (place_of q.key) index.in_order (λ p. index.observers p q.key)
+    (λ p. covered vs vs S index q.key p)
 
 -- ---- the list of them
 

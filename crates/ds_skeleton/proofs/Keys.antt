@@ -1,39 +1,84 @@
--- Keys that are put into a set.
+-- Keys that are put into a list.
 use Rattle.std.proofs.Common.{◌≡◌, ℕ, ◌<◌, ◌≤◌, List, [], ◌∷◌, ◌++◌, map, Bool, true, false, cond, ◌&&◌, ◌||◌, ltb}
 use Rattle.std.proofs.Common.{refl}
 use Rattle.std.proofs.Common.{ap, sym, ◌∙◌, subst, eqb, Option, Some}
 use Rattle.std.specs.BTreeMap as tree
 use Rattle.std.specs.BTreeSet as sorted
 use Rattle.std.specs.Ordering.{eq_by_cmp}
-use Rattle.std.specs.List.{list_any, IsDistinct, AllByRecursion}
-use Rattle.std.specs.List.Sorted.{IsStrictlySortedBy}
+use Rattle.std.specs.List.{list_any, IsDistinct, AllByRecursion, dedup, dedup_from}
+use Rattle.std.specs.List.Retain.{IsFiltered, DiffersFromLast}
+use Rattle.std.specs.List.Sorted.{IsStrictlySortedBy, IsSorted, IsPermutation}
 use Rattle.std.specs.Map.{keys_of, lookup}
 use Rattle.std.specs.Map.Iter.{deref, deref_pair}
 use Rattle.std.specs.Borrow.{Bor}
 use Rattle.std.proofs.lemmas.Bool.{lt-ltb, le-ltb}
+use Rattle.std.proofs.lemmas.List.Filters.{dedup_is}
+use Rattle.std.proofs.lemmas.List.Folds.{list_any-append}
+use Rattle.std.proofs.lemmas.List.Kept.{IsStrictlySortedBy-dedup}
+use Rattle.std.proofs.lemmas.List.Sorted.{list_any-IsPermutation}
 use Rattle.std.proofs.lemmas.Map.Keys.{IsDistinct-from_sorted, IsDistinct-head, IsDistinct-tail}
 use Rattle.pv_value.specs.Plain.{Plain}
 use Rattle.pv_value.specs.Order.{order}
+use Rattle.pv_value.specs.EntryOrder.{entry_order}
+use Rattle.pv_value.specs.Lemmas.EntryOrderLaws.{entry_order_total}
 use Rattle.pv_value.specs.declared.Entry.{Entry}
 use Rattle.pv_words.specs.Parts.{same}
-use Rattle.ds_space.specs.Lemmas.Keys.{same_is, same_turns, or_cond, or_false, or_assoc}
+use Rattle.ds_space.specs.Lemmas.Keys.{same_is, same_turns, or_false, or_assoc}
 use Rattle.ds_skeleton.specs.Places.{same_entry}
+use Rattle.ds_skeleton.specs.Keys.{has_key}
 use Rattle.ds_skeleton.specs.Leaves.{Leaf, number}
 use Rattle.ds_skeleton.specs.Indexes.{touched_in}
-use Rattle.ds_skeleton.proofs.Same.{both_eq}
+use Rattle.ds_skeleton.proofs.Same.{both_eq, entry_is}
 
-added_by : (o c : Plain) (p q : Entry) (x y : Bool) → p.key ≡ o → p.value ≡ c → x ≡ cond (same_entry p q) true y
-    → x ≡ (y || (same o q.key && same c q.value))
-added_by o c p q x y e f h =
-    h ∙ or_cond (same_entry p q) y
-    ∙ ap (λ b. y || b)
-    (both_eq (order p.key q.key) (order p.value q.value) ∙ ap (λ k. same k q.key && same p.value q.value) e
+added_by : (o c : Plain) (p q : Entry) (old new : List Entry) → p.key ≡ o → p.value ≡ c → new ≡ old ++ p ∷ []
+    → has_key new q ≡ (has_key old q || (same o q.key && same c q.value))
+added_by o c p q old new e f h =
+    ap (list_any (same_entry q)) h ∙ list_any-append (same_entry q) old (p ∷ [])
+    ∙ ap (λ b. has_key old q || b)
+    (or_false (same_entry q p) ∙ both_eq (order q.key p.key) (order q.value p.value)
+    ∙ ap (λ b. b && same q.value p.value) (same_turns q.key p.key)
+    ∙ ap (λ b. same p.key q.key && b) (same_turns q.value p.value)
+    ∙ ap (λ k. same k q.key && same p.value q.value) e
     ∙ ap (λ k. same o q.key && same k q.value) f)
 
-pub key_added : (o c k w : Plain) (q : Entry) (x y : Bool) → k ≡ o → w ≡ c
-    → (let p : Entry = record { key = k; value = w } in x ≡ cond (same_entry p q) true y)
-    → x ≡ (y || (same o q.key && same c q.value))
-key_added o c k w q x y e f h = let p : Entry = record { key = k; value = w } in added_by o c p q x y e f h
+pub key_added : (o c k w : Plain) (q : Entry) (old new : List Entry) → k ≡ o → w ≡ c
+    → (let p : Entry = record { key = k; value = w } in new ≡ old ++ p ∷ [])
+    → has_key new q ≡ (has_key old q || (same o q.key && same c q.value))
+key_added o c k w q old new e f h = let p : Entry = record { key = k; value = w } in added_by o c p q old new e f h
+
+-- ---- keys in their order, each once
+
+kept_once : (p q : Entry) (xs : List Entry) → has_key (dedup_from same_entry p xs) q ≡ has_key (p ∷ xs) q
+kept_once p q [] = refl
+kept_once p q (x ∷ xs) = by (same_entry x p) refl (kept_once p q xs) (kept_once x q xs)
+  where
+    twice : (a b : Bool) → (a || b) ≡ (a || (a || b))
+    twice true b = refl
+    twice false b = refl
+
+    by : (b : Bool) → same_entry x p ≡ b → has_key (dedup_from same_entry p xs) q ≡ has_key (p ∷ xs) q
+        → has_key (dedup_from same_entry x xs) q ≡ has_key (x ∷ xs) q
+        → has_key (cond b (dedup_from same_entry p xs) (p ∷ dedup_from same_entry x xs)) q ≡ has_key (p ∷ x ∷ xs) q
+    by true e i j =
+        i ∙ twice (same_entry q p) (has_key xs q)
+        ∙ ap (λ y. same_entry q p || (same_entry q y || has_key xs q)) (sym (entry_is x p e))
+    by false e i j = ap (λ b. same_entry q p || b) j
+
+once : (xs : List Entry) (q : Entry) → has_key (dedup same_entry xs) q ≡ has_key xs q
+once [] q = refl
+once (x ∷ xs) q = kept_once x q xs
+
+pub each_once : (old mid new : List Entry) → IsPermutation old mid
+    → IsFiltered (DiffersFromLast same_entry) [] mid new → (q : Entry) → has_key new q ≡ has_key old q
+each_once old mid new moved h q =
+    ap (list_any (same_entry q)) (dedup_is same_entry mid new h) ∙ once mid q
+    ∙ sym (list_any-IsPermutation (same_entry q) old mid moved)
+
+pub in_order : (mid new : List Entry) → IsSorted entry_order mid
+    → IsFiltered (DiffersFromLast same_entry) [] mid new → IsStrictlySortedBy entry_order new
+in_order mid new s h =
+    subst (IsStrictlySortedBy entry_order) (sym (dedup_is same_entry mid new h))
+    (IsStrictlySortedBy-dedup entry_order_total (λ x y. refl) mid s)
 
 pub any-seen_push : {X : Type 0} (p : X → Bool) (xs : List (Bor X)) (y : Bor X)
     → list_any p (map deref (xs ++ y ∷ [])) ≡ (list_any p (map deref xs) || p y.now)

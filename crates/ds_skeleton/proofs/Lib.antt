@@ -1,9 +1,12 @@
 pub mod Answered
 pub mod Changed
+pub mod Comings
 pub mod Counts
+pub mod Empty
 pub mod Entries
 pub mod Exact
 pub mod Fans
+pub mod Found
 pub mod Kept
 pub mod Keys
 pub mod Lawful
@@ -11,10 +14,11 @@ pub mod Leaves
 pub mod Moves
 pub mod Observers
 pub mod Parts
+pub mod Places
 pub mod Rows
 pub mod Same
 pub mod Steps
 pub mod Tallies
+pub mod Walks
 pub mod Wanted
-pub mod Weighed
 pub mod Weights

@@ -1,25 +1,25 @@
 -- The index after an observation or a value has come or gone.
 use Rattle.std.proofs.Common.{◌≡◌, ℕ, zero, suc, ◌+◌, ◌-◌, List, ◌∷◌, Bool, true, false, cond, ◌&&◌, ◌||◌}
 use Rattle.std.proofs.Common.{ltb, not, Option, Some, None, refl, ap, sym, ◌∙◌, subst, arith}
-use Rattle.std.specs.List.{list_any}
+use Rattle.std.specs.List.{list_any, AllZip}
 use Rattle.std.specs.Option.{is_some}
-use Rattle.std.specs.BTreeMap as tree
-use Rattle.std.specs.BTreeMap.{BTreeMap}
 use Rattle.std.proofs.lemmas.Bool.Decides.{nat_tests}
 use Rattle.pv_value.specs.Plain.{Plain}
-use Rattle.pv_value.specs.declared.Entry.{Entry}
 use Rattle.pv_words.specs.Parts.{same}
 use Rattle.ds_shape.specs.Outlines.{Outline}
 use Rattle.ds_space.specs.Changes.{among}
 use Rattle.ds_space.specs.Lemmas.Keys.{same_is, same_turns}
-use Rattle.ds_skeleton.specs.Places.{Place, outline_order, same_outline, same_place, place_of, is_placed, observes}
+use Rattle.ds_skeleton.specs.Places.{Place, same_outline, same_place, place_of, is_placed, observes}
 use Rattle.ds_skeleton.specs.Places.{is_outlined, has_outline, stands, count}
-use Rattle.ds_skeleton.specs.Leaves.{Leaf, number, kept, captured_at, observed_at, leaf_of}
-use Rattle.ds_skeleton.specs.Indexes.{IsIndexOf, is_kept}
+use Rattle.ds_skeleton.specs.Leaves.{number, kept, captured_at, observed_at}
+use Rattle.ds_skeleton.specs.Shapes.{Shape, IsBumped, IsDropped, observations_at, is_kept, leaf_of, AreInOrder}
+use Rattle.ds_skeleton.specs.Indexes.{IsIndexOf}
 use Rattle.ds_skeleton.proofs.Same.{outline_is, outline_self}
 use Rattle.ds_skeleton.proofs.Leaves.{number-kept}
 use Rattle.ds_skeleton.proofs.Kept.{kept_is, kept_is_some, is_some-kept}
 use Rattle.ds_skeleton.proofs.Exact.{among_with}
+use Rattle.ds_skeleton.proofs.Walks.{zip_each, keeps_bumped, keeps_dropped, each_in_order, each_observed, each_kept}
+use Rattle.ds_skeleton.proofs.Walks.{each_seen, bumped, dropped}
 
 -- ---- an observation comes
 
@@ -74,51 +74,46 @@ observed_more false ov true a x y h e f = e ∙ f
 observed_more false ov false a x y h e f = e ∙ f
 
 -- where an outline is kept after one more observation has the outline t
-kept_more : (outlines news : BTreeMap Outline ℕ) (t : Outline)
-    → ((s : Outline) → tree.get outline_order news s
-    ≡ cond (same_outline t s) (Some (number (tree.get outline_order outlines t) + 1))
-    (tree.get outline_order outlines s))
-    → (s : Outline) → is_kept news s ≡ (same_outline t s || is_kept outlines s)
-kept_more outlines news t put s =
-    kept_is_some news s ∙ ap is_some (put s) ∙ by (same_outline t s) (tree.get outline_order outlines s)
-    ∙ ap (λ b. same_outline t s || b) (sym (kept_is_some outlines s))
+kept_more : (old new : List Shape) (t : Outline)
+    → ((s : Outline) → observations_at new s
+    ≡ cond (same_outline t s) (Some (number (observations_at old t) + 1)) (observations_at old s))
+    → (s : Outline) → is_kept new s ≡ (same_outline t s || is_kept old s)
+kept_more old new t put s =
+    kept_is_some new s ∙ ap is_some (put s) ∙ by (same_outline t s) (observations_at old s)
+    ∙ ap (λ b. same_outline t s || b) (sym (kept_is_some old s))
   where
-    by : (b : Bool) (x : Option ℕ) → is_some (cond b (Some (number (tree.get outline_order outlines t) + 1)) x)
-        ≡ (b || is_some x)
+    by : (b : Bool) (x : Option ℕ) → is_some (cond b (Some (number (observations_at old t) + 1)) x) ≡ (b || is_some x)
     by true x = refl
     by false x = refl
 
-pub observer_came : (vs : List Plain) (O N : BTreeMap Outline ℕ) (L M K : BTreeMap Entry Leaf) (v : Plain)
-    (place : Place) → place_of v ≡ Some place → IsIndexOf vs vs O L
-    → ((p : Place) (c : Plain) → captured_at (leaf_of M p) c ≡ captured_at (leaf_of L p) c
-    + cond (same_outline place.outline p.outline && not (is_kept O place.outline))
+pub observer_came : (vs others : List Plain) (S T : List Shape) (v : Plain) (place : Place)
+    → place_of v ≡ Some place → IsIndexOf vs others S → AreInOrder T
+    → ((p : Place) (c : Plain) → captured_at (leaf_of T p) c ≡ captured_at (leaf_of S p) c
+    + cond (same_outline place.outline p.outline && not (is_kept S place.outline))
     (count (stands p.outline p.constants c) vs) 0)
-    → ((p : Place) (o : Plain) → observed_at (leaf_of M p) o ≡ observed_at (leaf_of L p) o)
-    → ((p : Place) (c : Plain) → captured_at (leaf_of K p) c ≡ captured_at (leaf_of M p) c)
-    → ((p : Place) (o : Plain) → observed_at (leaf_of K p) o
-    ≡ cond (same_place place p && same v o) true (observed_at (leaf_of M p) o))
-    → ((s : Outline) → tree.get outline_order N s
-    ≡ cond (same_outline place.outline s) (Some (number (tree.get outline_order O place.outline) + 1))
-    (tree.get outline_order O s))
-    → IsIndexOf vs (v ∷ vs) N K
-observer_came vs O N L M K v place is index begin same_seen same_counts seen put = record {
+    → ((p : Place) (o : Plain) → observed_at (leaf_of T p) o
+    ≡ cond (same_place place p && same v o) true (observed_at (leaf_of S p) o))
+    → ((s : Outline) → observations_at T s
+    ≡ cond (same_outline place.outline s) (Some (number (observations_at S place.outline) + 1)) (observations_at S s))
+    → IsIndexOf vs (v ∷ others) T
+observer_came vs others S T v place is index ordered begin seen put = record {
+  in_order = ordered;
   outlines_are = λ s.
-      outline_more place.outline s v place vs (tree.get outline_order O s) (tree.get outline_order N s)
-      (tree.get outline_order O place.outline) is refl
-      (λ u e. ap (tree.get outline_order O) (outline_is place.outline u e) ∙ index.outlines_are u)
+      outline_more place.outline s v place others (observations_at S s) (observations_at T s)
+      (observations_at S place.outline) is refl
+      (λ u e. ap (observations_at S) (outline_is place.outline u e) ∙ index.outlines_are u)
       (index.outlines_are s) (put s);
   counts = λ p c.
-      same_counts p c
-      ∙ begun (same_outline place.outline p.outline) (is_kept O p.outline) (is_kept O place.outline)
-      (is_kept N p.outline) (count (stands p.outline p.constants c) vs) (captured_at (leaf_of L p) c)
-      (captured_at (leaf_of M p) c) (λ e. ap (is_kept O) (sym (outline_is place.outline p.outline e)))
-      (kept_more O N place.outline put p.outline) (index.counts p c) (begin p c);
+      begun (same_outline place.outline p.outline) (is_kept S p.outline) (is_kept S place.outline)
+      (is_kept T p.outline) (count (stands p.outline p.constants c) vs) (captured_at (leaf_of S p) c)
+      (captured_at (leaf_of T p) c) (λ e. ap (is_kept S) (sym (outline_is place.outline p.outline e)))
+      (kept_more S T place.outline put p.outline) (index.counts p c) (begin p c);
   observers = λ p o.
-      observed_more (same v o) (observes o p) (same_place place p) (among o vs) (observed_at (leaf_of K p) o)
-      (observed_at (leaf_of M p) o)
+      observed_more (same v o) (observes o p) (same_place place p) (among o others) (observed_at (leaf_of T p) o)
+      (observed_at (leaf_of S p) o)
       (λ e. ap (λ x. observes x p) (sym (same_is v o e)) ∙ ap (λ x. is_placed x p) is) (seen p o)
-      (same_seen p o ∙ index.observers p o)
-      ∙ ap (λ t. (t || among o vs) && observes o p) (same_turns v o);
+      (index.observers p o)
+      ∙ ap (λ t. (t || among o others) && observes o p) (same_turns v o);
 }
 
 unobserved : (sv ov a x : Bool) → (sv ≡ true → ov ≡ false) → x ≡ (a && ov) → x ≡ ((sv || a) && ov)
@@ -139,13 +134,14 @@ none_counted v s seen is =
     plain n = omega arith
 
 -- a value that is no observation changes nothing of the observers
-pub other_came : (vs seen : List Plain) (O : BTreeMap Outline ℕ) (L : BTreeMap Entry Leaf) (v : Plain)
-    → place_of v ≡ None → IsIndexOf vs seen O L → IsIndexOf vs (v ∷ seen) O L
-other_came vs seen O L v is index = record {
+pub other_came : (vs seen : List Plain) (S : List Shape) (v : Plain)
+    → place_of v ≡ None → IsIndexOf vs seen S → IsIndexOf vs (v ∷ seen) S
+other_came vs seen S v is index = record {
+  in_order = index.in_order;
   outlines_are = λ s. index.outlines_are s ∙ none_counted v s seen is;
   counts = index.counts;
   observers = λ p o.
-      unobserved (same o v) (observes o p) (among o seen) (observed_at (leaf_of L p) o)
+      unobserved (same o v) (observes o p) (among o seen) (observed_at (leaf_of S p) o)
       (λ e. ap (λ x. is_placed x p) (ap place_of (same_is o v e) ∙ is)) (index.observers p o);
 }
 
@@ -157,13 +153,14 @@ or_right true ov a x h e = e ∙ h refl ∙ sym (ap (λ t. a && t) (h refl) ∙ 
     none false = refl
 or_right false ov a x h e = e
 
-pub other_went : (vs seen : List Plain) (O : BTreeMap Outline ℕ) (L : BTreeMap Entry Leaf) (v : Plain)
-    → place_of v ≡ None → IsIndexOf vs (v ∷ seen) O L → IsIndexOf vs seen O L
-other_went vs seen O L v is index = record {
+pub other_went : (vs seen : List Plain) (S : List Shape) (v : Plain)
+    → place_of v ≡ None → IsIndexOf vs (v ∷ seen) S → IsIndexOf vs seen S
+other_went vs seen S v is index = record {
+  in_order = index.in_order;
   outlines_are = λ s. index.outlines_are s ∙ sym (none_counted v s seen is);
   counts = index.counts;
   observers = λ p o.
-      or_right (same o v) (observes o p) (among o seen) (observed_at (leaf_of L p) o)
+      or_right (same o v) (observes o p) (among o seen) (observed_at (leaf_of S p) o)
       (λ e. ap (λ x. is_placed x p) (ap place_of (same_is o v e) ∙ is)) (index.observers p o);
 }
 
@@ -220,66 +217,69 @@ observed_less true ov false a b x y h g i e f =
 observed_less false ov true a b x y h g i e f = e ∙ f ∙ ap (λ t. t && ov) i
 observed_less false ov false a b x y h g i e f = e ∙ f ∙ ap (λ t. t && ov) i
 
-pub observer_went : (vs seen : List Plain) (O N : BTreeMap Outline ℕ) (L M K : BTreeMap Entry Leaf) (v : Plain)
-    (place : Place) → place_of v ≡ Some place → among v seen ≡ false → IsIndexOf vs (v ∷ seen) O L
-    → ((p : Place) (c : Plain) → captured_at (leaf_of M p) c ≡ captured_at (leaf_of L p) c)
-    → ((p : Place) (o : Plain) → observed_at (leaf_of M p) o
-    ≡ cond (same_place place p && same v o) false (observed_at (leaf_of L p) o))
-    → ((p : Place) (c : Plain) → captured_at (leaf_of K p) c ≡ captured_at (leaf_of M p) c
-    - cond (same_outline place.outline p.outline && not (ltb 1 (number (tree.get outline_order O place.outline))))
+fewer : (n : ℕ) → is_some (kept (n - 1)) ≡ ltb 1 n
+fewer zero = refl
+fewer (suc n) = is_some-kept (suc n - 1) ∙ grind (arith, nat_tests)
+
+pub outlines_less : (vs seen : List Plain) (S T : List Shape) (v : Plain) (place : Place)
+    → place_of v ≡ Some place → IsIndexOf vs (v ∷ seen) S
+    → ((s : Outline) → observations_at T s ≡ cond (same_outline place.outline s)
+    (kept (number (observations_at S place.outline) - 1)) (observations_at S s))
+    → (s : Outline) → observations_at T s ≡ kept (count (has_outline s) seen)
+outlines_less vs seen S T v place is index put s =
+    outline_less place.outline s v place seen (observations_at S s) (observations_at T s)
+    (observations_at S place.outline) is refl
+    (λ u e. ap (observations_at S) (outline_is place.outline u e) ∙ index.outlines_are u)
+    (index.outlines_are s) (put s)
+
+pub was_kept : (vs seen : List Plain) (S : List Shape) (v : Plain) (place : Place)
+    → place_of v ≡ Some place → IsIndexOf vs (v ∷ seen) S → is_kept S place.outline ≡ true
+was_kept vs seen S v place is index =
+    kept_is S (v ∷ seen) index.outlines_are place.outline
+    ∙ ap (λ b. b || list_any (has_outline place.outline) seen)
+    (ap (is_outlined place.outline) is ∙ outline_self place.outline)
+
+pub observers_less : (vs seen : List Plain) (S T : List Shape) (v : Plain) (place : Place)
+    → place_of v ≡ Some place → among v seen ≡ false → IsIndexOf vs (v ∷ seen) S → (p : Place) (o : Plain)
+    → observed_at (leaf_of T p) o ≡ cond (same_place place p && same v o) false (observed_at (leaf_of S p) o)
+    → observed_at (leaf_of T p) o ≡ (among o seen && observes o p)
+observers_less vs seen S T v place is gone index p o unseen =
+    observed_less (same v o) (observes o p) (same_place place p) (same o v || among o seen) (among o seen)
+    (observed_at (leaf_of T p) o) (observed_at (leaf_of S p) o)
+    (λ e. ap (λ x. observes x p) (sym (same_is v o e)) ∙ ap (λ x. is_placed x p) is)
+    (λ e. subst (λ (x : Plain). among x seen ≡ false) (same_is v o e) gone)
+    (ap (λ t. t || among o seen) (same_turns o v)) unseen (index.observers p o)
+
+pub observer_went : (vs seen : List Plain) (S T : List Shape) (v : Plain)
+    (place : Place) → place_of v ≡ Some place → IsIndexOf vs (v ∷ seen) S → AreInOrder T
+    → ((p : Place) (c : Plain) → captured_at (leaf_of T p) c ≡ captured_at (leaf_of S p) c
+    - cond (same_outline place.outline p.outline && not (ltb 1 (number (observations_at S place.outline))))
     (count (stands p.outline p.constants c) vs) 0)
-    → ((p : Place) (o : Plain) → observed_at (leaf_of K p) o ≡ observed_at (leaf_of M p) o)
-    → ((s : Outline) → tree.get outline_order N s
-    ≡ cond (same_outline place.outline s) (kept (number (tree.get outline_order O place.outline) - 1))
-    (tree.get outline_order O s))
-    → IsIndexOf vs seen N K
-observer_went vs seen O N L M K v place is gone index same_counts unseen end same_seen put = record {
-  outlines_are = outlines_are;
+    → ((p : Place) (o : Plain) → observed_at (leaf_of T p) o ≡ (among o seen && observes o p))
+    → ((s : Outline) → observations_at T s ≡ cond (same_outline place.outline s)
+    (kept (number (observations_at S place.outline) - 1)) (observations_at S s))
+    → IsIndexOf vs seen T
+observer_went vs seen S T v place is index ordered end observers put = record {
+  in_order = ordered;
+  outlines_are = outlines_less vs seen S T v place is index put;
   counts = λ p c.
-      ended (same_outline place.outline p.outline) (is_kept O p.outline) (is_kept N p.outline)
-      (number (tree.get outline_order O place.outline)) (count (stands p.outline p.constants c) vs)
-      (captured_at (leaf_of L p) c) (captured_at (leaf_of K p) c) (λ e. kept_here p.outline e)
-      (λ e. ap (is_kept O) (sym (outline_is place.outline p.outline e)) ∙ was_kept)
-      (λ e. kept_is_some N p.outline ∙ ap is_some (put p.outline)
-      ∙ ap (λ b. is_some (cond b (kept (number (tree.get outline_order O place.outline) - 1))
-      (tree.get outline_order O p.outline))) e
-      ∙ sym (kept_is_some O p.outline))
-      (index.counts p c)
-      (end p c ∙ ap (λ n. n - cond (same_outline place.outline p.outline
-      && not (ltb 1 (number (tree.get outline_order O place.outline)))) (count (stands p.outline p.constants c) vs) 0)
-      (same_counts p c));
-  observers = λ p o.
-      observed_less (same v o) (observes o p) (same_place place p) (same o v || among o seen) (among o seen)
-      (observed_at (leaf_of K p) o) (observed_at (leaf_of L p) o)
-      (λ e. ap (λ x. observes x p) (sym (same_is v o e)) ∙ ap (λ x. is_placed x p) is)
-      (λ e. subst (λ (x : Plain). among x seen ≡ false) (same_is v o e) gone)
-      (ap (λ t. t || among o seen) (same_turns o v)) (same_seen p o ∙ unseen p o) (index.observers p o);
+      ended (same_outline place.outline p.outline) (is_kept S p.outline) (is_kept T p.outline)
+      (number (observations_at S place.outline)) (count (stands p.outline p.constants c) vs)
+      (captured_at (leaf_of S p) c) (captured_at (leaf_of T p) c) (λ e. kept_here p.outline e)
+      (λ e. ap (is_kept S) (sym (outline_is place.outline p.outline e)) ∙ was_kept vs seen S v place is index)
+      (λ e. kept_is_some T p.outline ∙ ap is_some (put p.outline)
+      ∙ ap (λ b. is_some (cond b (kept (number (observations_at S place.outline) - 1)) (observations_at S p.outline))) e
+      ∙ sym (kept_is_some S p.outline))
+      (index.counts p c) (end p c);
+  observers = observers;
 }
   where
-    outlines_are : (s : Outline) → tree.get outline_order N s ≡ kept (count (has_outline s) seen)
-    outlines_are s =
-        outline_less place.outline s v place seen (tree.get outline_order O s) (tree.get outline_order N s)
-        (tree.get outline_order O place.outline) is refl
-        (λ u e. ap (tree.get outline_order O) (outline_is place.outline u e) ∙ index.outlines_are u)
-        (index.outlines_are s) (put s)
-
-    was_kept : is_kept O place.outline ≡ true
-    was_kept =
-        kept_is O (v ∷ seen) index.outlines_are place.outline
-        ∙ ap (λ b. b || list_any (has_outline place.outline) seen)
-        (ap (is_outlined place.outline) is ∙ outline_self place.outline)
-
-    fewer : (n : ℕ) → is_some (kept (n - 1)) ≡ ltb 1 n
-    fewer zero = refl
-    fewer (suc n) = is_some-kept (suc n - 1) ∙ grind (arith, nat_tests)
-
     kept_here : (s : Outline) → same_outline place.outline s ≡ true
-        → is_kept N s ≡ ltb 1 (number (tree.get outline_order O place.outline))
+        → is_kept T s ≡ ltb 1 (number (observations_at S place.outline))
     kept_here s e =
-        kept_is_some N s ∙ ap is_some (put s)
-        ∙ ap (λ b. is_some (cond b (kept (number (tree.get outline_order O place.outline) - 1))
-        (tree.get outline_order O s))) e
-        ∙ fewer (number (tree.get outline_order O place.outline))
+        kept_is_some T s ∙ ap is_some (put s)
+        ∙ ap (λ b. is_some (cond b (kept (number (observations_at S place.outline) - 1)) (observations_at S s))) e
+        ∙ fewer (number (observations_at S place.outline))
 
 -- ---- a value comes or goes
 
@@ -297,43 +297,45 @@ front : (a n : ℕ) → a + n ≡ n + a
 front a n = omega arith
 
 -- the same observations in another order
-pub seen_alike : (vs seen others : List Plain) (O : BTreeMap Outline ℕ) (L : BTreeMap Entry Leaf)
-    → ((f : Plain → Bool) → count f seen ≡ count f others) → ((o : Plain) → among o seen ≡ among o others)
-    → IsIndexOf vs seen O L → IsIndexOf vs others O L
-seen_alike vs seen others O L same_count same_among index = record {
+pub seen_alike : (vs seen others : List Plain) (S : List Shape) → ((f : Plain → Bool) → count f seen ≡ count f others)
+    → ((o : Plain) → among o seen ≡ among o others) → IsIndexOf vs seen S → IsIndexOf vs others S
+seen_alike vs seen others S same_count same_among index = record {
+  in_order = index.in_order;
   outlines_are = λ s. index.outlines_are s ∙ ap kept (same_count (has_outline s));
   counts = index.counts;
   observers = λ p o. index.observers p o ∙ ap (λ t. t && observes o p) (same_among o);
 }
 
-pub value_came : (vs ws seen : List Plain) (O : BTreeMap Outline ℕ) (L M : BTreeMap Entry Leaf) (v : Plain)
-    → ((f : Plain → Bool) → count f ws ≡ count f vs + cond (f v) 1 0) → IsIndexOf vs seen O L
-    → ((p : Place) (c : Plain) → captured_at (leaf_of M p) c ≡ captured_at (leaf_of L p) c
-    + cond (is_kept O p.outline && stands p.outline p.constants c v) 1 0)
-    → ((p : Place) (o : Plain) → observed_at (leaf_of M p) o ≡ observed_at (leaf_of L p) o)
-    → IsIndexOf ws seen O M
-value_came vs ws seen O L M v more index up same_seen = record {
-  outlines_are = index.outlines_are;
+pub value_came : (vs ws seen : List Plain) (S T : List Shape) (v : Plain)
+    → ((f : Plain → Bool) → count f ws ≡ count f vs + cond (f v) 1 0) → IsIndexOf vs seen S
+    → AllZip (IsBumped v) S T → IsIndexOf ws seen T
+value_came vs ws seen S T v more index each = record {
+  in_order = each_in_order S T (zip_each (λ s t r. r.outline) S T each) index.in_order;
+  outlines_are = λ s. each_observed S T (zip_each (λ s t r. keeps_bumped v s t r) S T each) s ∙ index.outlines_are s;
   counts = λ p c.
-      count_more (is_kept O p.outline) (stands p.outline p.constants c v) (count (stands p.outline p.constants c) vs)
-      (captured_at (leaf_of L p) c) (captured_at (leaf_of M p) c) (count (stands p.outline p.constants c) ws)
-      (index.counts p c) (up p c) (more (stands p.outline p.constants c));
-  observers = λ p o. same_seen p o ∙ index.observers p o;
+      count_more (is_kept S p.outline) (stands p.outline p.constants c v) (count (stands p.outline p.constants c) vs)
+      (captured_at (leaf_of S p) c) (captured_at (leaf_of T p) c) (count (stands p.outline p.constants c) ws)
+      (index.counts p c) (bumped v S T each p c) (more (stands p.outline p.constants c))
+      ∙ ap (λ b. cond b (count (stands p.outline p.constants c) ws) 0)
+      (sym (each_kept S T (zip_each (λ s t r. keeps_bumped v s t r) S T each) p.outline));
+  observers = λ p o.
+      each_seen S T (zip_each (λ s t r. keeps_bumped v s t r) S T each) p o ∙ index.observers p o;
 }
 
-pub value_went : (vs ws seen : List Plain) (O : BTreeMap Outline ℕ) (L M : BTreeMap Entry Leaf) (v : Plain)
-    → ((f : Plain → Bool) → count f vs ≡ count f ws + cond (f v) 1 0) → IsIndexOf vs seen O L
-    → ((p : Place) (c : Plain) → captured_at (leaf_of M p) c ≡ captured_at (leaf_of L p) c
-    - cond (is_kept O p.outline && stands p.outline p.constants c v) 1 0)
-    → ((p : Place) (o : Plain) → observed_at (leaf_of M p) o ≡ observed_at (leaf_of L p) o)
-    → IsIndexOf ws seen O M
-value_went vs ws seen O L M v more index down same_seen = record {
-  outlines_are = index.outlines_are;
+pub value_went : (vs ws seen : List Plain) (S T : List Shape) (v : Plain)
+    → ((f : Plain → Bool) → count f vs ≡ count f ws + cond (f v) 1 0) → IsIndexOf vs seen S
+    → AllZip (IsDropped v) S T → IsIndexOf ws seen T
+value_went vs ws seen S T v more index each = record {
+  in_order = each_in_order S T (zip_each (λ s t r. r.outline) S T each) index.in_order;
+  outlines_are = λ s. each_observed S T (zip_each (λ s t r. keeps_dropped v s t r) S T each) s ∙ index.outlines_are s;
   counts = λ p c.
-      count_less (is_kept O p.outline) (stands p.outline p.constants c v) (count (stands p.outline p.constants c) vs)
-      (captured_at (leaf_of L p) c) (captured_at (leaf_of M p) c) (count (stands p.outline p.constants c) ws)
-      (index.counts p c) (down p c) (more (stands p.outline p.constants c));
-  observers = λ p o. same_seen p o ∙ index.observers p o;
+      count_less (is_kept S p.outline) (stands p.outline p.constants c v) (count (stands p.outline p.constants c) vs)
+      (captured_at (leaf_of S p) c) (captured_at (leaf_of T p) c) (count (stands p.outline p.constants c) ws)
+      (index.counts p c) (dropped v S T each p c) (more (stands p.outline p.constants c))
+      ∙ ap (λ b. cond b (count (stands p.outline p.constants c) ws) 0)
+      (sym (each_kept S T (zip_each (λ s t r. keeps_dropped v s t r) S T each) p.outline));
+  observers = λ p o.
+      each_seen S T (zip_each (λ s t r. keeps_dropped v s t r) S T each) p o ∙ index.observers p o;
 }
 
 -- the first of a list counts like one more

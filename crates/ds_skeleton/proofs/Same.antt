@@ -16,7 +16,7 @@ use Rattle.ds_shape.specs.Outlines.{Outline}
 use Rattle.ds_shape.specs.Keys.{outline_value}
 use Rattle.ds_shape.specs.Lemmas.Telling.{outline_tells}
 use Rattle.ds_space.specs.Lemmas.Keys.{same_is, same_self, same_turns}
-use Rattle.ds_skeleton.specs.Places.{Place, outline_order, same_outline, entry_of, same_entry, same_place}
+use Rattle.ds_skeleton.specs.Places.{Place, outline_order, same_outline, same_entry, same_place}
 
 pub both_eq : (r s : Ordering) → is_eq (ordering_then r s) ≡ (is_eq r && is_eq s)
 both_eq Less s = refl
@@ -66,21 +66,17 @@ outline_turns s t = same_turns (outline_value s) (outline_value t)
 
 -- ---- places
 
-pub place_parts : (p q : Place) → same_place p q ≡ (same_outline p.outline q.outline && same p.constants q.constants)
-place_parts p q = both_eq (order (outline_value p.outline) (outline_value q.outline)) (order p.constants q.constants)
-
 and_parts : (a b : Bool) → (a && b) ≡ true → (a ≡ true) × (b ≡ true)
 and_parts true b e = (refl, e)
 and_parts false b e = cc
 
 pub place_is : (p q : Place) → same_place p q ≡ true → p ≡ q
 place_is p q e =
-    let both = and_parts (same_outline p.outline q.outline) (same p.constants q.constants) (sym (place_parts p q) ∙ e)
-    in
+    let both = and_parts (same_outline p.outline q.outline) (same p.constants q.constants) e in
     λ i. record {
       outline = outline_is p.outline q.outline both.0 i;
       constants = same_is p.constants q.constants both.1 i;
     }
 
 pub place_self : (p : Place) → same_place p p ≡ true
-place_self p = entry_self (entry_of p)
+place_self p = rw (outline_self p.outline, same_self p.constants) refl

@@ -1,9 +1,15 @@
--- Keys as values, and their weight.
-use Rattle.std.specs.Prelude.{ℕ, ◌+◌, List, [], ◌∷◌}
+-- Keys in a list, as values, and their weight.
+use Rattle.std.specs.Prelude.{ℕ, Bool, ◌+◌, List, [], ◌∷◌}
+use Rattle.std.specs.List.{list_any}
 use Rattle.pv_value.specs.Plain.{Plain, sequence, plains, listed}
 use Rattle.pv_value.specs.Weight.{weight}
 use Rattle.pv_value.specs.declared.Entry.{Entry}
 use Rattle.ds_space.specs.declared.space.Fanned.{Fanned}
+use Rattle.ds_skeleton.specs.Places.{same_entry}
+
+-- the key stands in the list
+abbrev pub has_key : List Entry → Entry → Bool
+has_key qs q = list_any (same_entry q) qs
 
 -- `[o c]`
 abbrev pub key_value : Entry → Plain

@@ -1,13 +1,10 @@
--- What the index has at a place.
+-- What the index has of one outline and constants.
 use Rattle.std.specs.Prelude.{ℕ, zero, suc, Bool, false, Option, Some, None}
 use Rattle.std.specs.BTreeMap as tree
 use Rattle.std.specs.BTreeMap.{BTreeMap}
 use Rattle.std.specs.BTreeSet as sorted
 use Rattle.pv_value.specs.Plain.{Plain}
 use Rattle.pv_value.specs.Order.{order}
-use Rattle.pv_value.specs.EntryOrder.{entry_order}
-use Rattle.pv_value.specs.declared.Entry.{Entry}
-use Rattle.ds_skeleton.specs.Places.{Place, entry_of}
 pub use Rattle.ds_skeleton.specs.declared.leaf.Leaf.{Leaf}
 
 -- a count that isn't kept is 0
@@ -20,11 +17,9 @@ abbrev pub kept : ℕ → Option ℕ
 kept zero = None
 kept (suc n) = Some (suc n)
 
-abbrev pub leaf_at : BTreeMap Entry Leaf → Entry → Option Leaf
-leaf_at leaves e = tree.get entry_order leaves e
-
-abbrev pub leaf_of : BTreeMap Entry Leaf → Place → Option Leaf
-leaf_of leaves p = leaf_at leaves (entry_of p)
+-- the leaf of these constants, among those of one outline
+abbrev pub leaf_at : BTreeMap Plain Leaf → Plain → Option Leaf
+leaf_at leaves k = tree.get order leaves k
 
 -- how many values were captured so
 abbrev pub captured_at : Option Leaf → Plain → ℕ

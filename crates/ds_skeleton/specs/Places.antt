@@ -1,40 +1,30 @@
 -- Where an observation has its place in the index, and what a value has there. The captures of a value are one value
 -- here, the sequence of them.
 use Rattle.std.specs.Prelude.{ℕ, ◌+◌, Bool, false, ◌&&◌, List, [], ◌∷◌, Option, Some, None, if◌then◌else◌}
-use Rattle.std.specs.declared.cmp.Ordering.{Ordering}
-use Rattle.std.specs.Ordering.{eq_by_cmp, on}
+use Rattle.std.specs.Ordering.{eq_by_cmp}
 use Rattle.std.specs.List.{list_any, list_all}
 use Rattle.pv_value.specs.Plain.{Plain}
-use Rattle.pv_value.specs.Order.{order}
 use Rattle.pv_value.specs.EntryOrder.{entry_order}
 use Rattle.pv_value.specs.declared.Entry.{Entry}
 use Rattle.pv_words.specs.Parts.{same}
 use Rattle.dp_pattern.specs.Patterns.{Pattern}
 use Rattle.ds_shape.specs.Paths.{sequence_at}
 use Rattle.ds_shape.specs.Outlines.{Outline, passes}
-use Rattle.ds_shape.specs.Keys.{outline_value}
+pub use Rattle.ds_shape.specs.Keys.{outline_order}
 use Rattle.ds_shape.specs.Splitting.{outline_of, constants_of}
 use Rattle.ds_space.specs.Wants.{observer_of}
 use Rattle.ds_space.specs.Changes.{among}
 pub use Rattle.ds_skeleton.specs.declared.observing.Place.{Place}
 pub use Rattle.ds_skeleton.specs.declared.standing.Parts.{Parts}
 
--- outlines are ordered as their values are
-abbrev pub outline_order : Outline → Outline → Ordering
-outline_order = on outline_value order
-
 abbrev pub same_outline : Outline → Outline → Bool
 same_outline s t = eq_by_cmp outline_order s t
-
--- the place as it is looked up: the outline's value, and the constants
-abbrev pub entry_of : Place → Entry
-entry_of p = record { key = outline_value p.outline; value = p.constants }
 
 abbrev pub same_entry : Entry → Entry → Bool
 same_entry e f = eq_by_cmp entry_order e f
 
 abbrev pub same_place : Place → Place → Bool
-same_place p q = same_entry (entry_of p) (entry_of q)
+same_place p q = same_outline p.outline q.outline && same p.constants q.constants
 
 -- ---- observations
 

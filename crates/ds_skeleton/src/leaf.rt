@@ -1,17 +1,15 @@
-//! Leaves of the index: who observes at a place, and how many values were captured so there.
+//! Leaves of one outline: who observes with these constants, and how many values were captured so.
 ghost use Rattle.std.specs.Prelude.{◌≡◌, ◌+◌, ◌-◌, ◌&&◌, true, false, None, OnOk};
 ghost use Rattle.std.specs.Prelude.{if◌then◌else◌};
 ghost use Rattle.std.specs.BTreeMap as tree;
 ghost use Rattle.std.specs.BTreeSet as sorted;
 ghost use Rattle.pv_value.specs.Plain.{Plain};
 ghost use Rattle.pv_value.specs.Order.{order};
-ghost use Rattle.pv_value.specs.declared.Entry.{Entry};
 ghost use Rattle.pv_words.specs.Parts.{same};
-ghost use Rattle.ds_skeleton.specs.Places.{same_entry};
 ghost use Rattle.ds_skeleton.specs.Leaves.{number, captured_at, observed_at, leaf_at};
 
 use crate::counting::{count_down, count_up};
-use pv_value::{Entry, NoMemory, Value};
+use pv_value::{NoMemory, Value};
 use std::alloc::Global;
 use std::collections::{BTreeMap, BTreeSet};
 
@@ -35,20 +33,20 @@ impl Leaf {
     }
 }
 
-/// The leaves by the value of the outline and by the constants.
-pub(crate) type Leaves = BTreeMap<Entry, Leaf>;
+/// The leaves of one outline by the constants.
+pub(crate) type Leaves = BTreeMap<Value, Leaf>;
 
-/// The leaf at a place, taken out.
-fn take_leaf(alloc: Global, leaves: &mut Leaves, place: &Entry) -> Leaf
+/// The leaf of these constants, taken out.
+fn take_leaf(alloc: Global, leaves: &mut Leaves, constants: &Value) -> Leaf
     ensures counts { (c : Plain) → number (tree.get order result.captured c)
-        ≡ captured_at (leaf_at leaves.old place.now) c }
+        ≡ captured_at (leaf_at leaves.old constants.now) c }
     ensures observers { (o : Plain) → sorted.contains order result.observers o
-        ≡ observed_at (leaf_at leaves.old place.now) o }
-    ensures gone { leaf_at leaves.new place.now ≡ None }
-    ensures others { (p : Entry) → same_entry place.now p ≡ false
-        → leaf_at leaves.new p ≡ leaf_at leaves.old p }
+        ≡ observed_at (leaf_at leaves.old constants.now) o }
+    ensures gone { leaf_at leaves.new constants.now ≡ None }
+    ensures others { (k : Plain) → same constants.now k ≡ false
+        → leaf_at leaves.new k ≡ leaf_at leaves.old k }
 {
-    match leaves.remove(place) {
+    match leaves.remove(constants) {
         Some(leaf) => leaf,
         None => Leaf {
             observers: BTreeSet::new(alloc),
@@ -58,90 +56,92 @@ fn take_leaf(alloc: Global, leaves: &mut Leaves, place: &Entry) -> Leaf
 }
 
 /// A leaf put where none is. An empty one isn't kept.
-fn put_leaf(leaves: &mut Leaves, place: Entry, leaf: Leaf) -> Result<(), NoMemory>
-    requires { leaf_at leaves.old place ≡ None }
-    ensures counts { OnOk result ((p : Entry) (c : Plain) → captured_at (leaf_at leaves.new p) c
-        ≡ (if same_entry place p then number (tree.get order leaf.captured c)
-        else captured_at (leaf_at leaves.old p) c)) }
-    ensures observers { OnOk result ((p : Entry) (o : Plain) → observed_at (leaf_at leaves.new p) o
-        ≡ (if same_entry place p then sorted.contains order leaf.observers o
-        else observed_at (leaf_at leaves.old p) o)) }
+fn put_leaf(leaves: &mut Leaves, constants: Value, leaf: Leaf) -> Result<(), NoMemory>
+    requires { leaf_at leaves.old constants ≡ None }
+    ensures counts { OnOk result ((k c : Plain) → captured_at (leaf_at leaves.new k) c
+        ≡ (if same constants k then number (tree.get order leaf.captured c)
+        else captured_at (leaf_at leaves.old k) c)) }
+    ensures observers { OnOk result ((k o : Plain) → observed_at (leaf_at leaves.new k) o
+        ≡ (if same constants k then sorted.contains order leaf.observers o
+        else observed_at (leaf_at leaves.old k) o)) }
 {
     if leaf.is_empty() {
         return Ok(());
     }
-    leaves.insert(place, leaf)?;
+    leaves.insert(constants, leaf)?;
     Ok(())
 }
 
-/// One more value at a place, with these captures.
+/// One more value of these constants, with these captures.
 pub(crate) fn bump(
     alloc: Global,
     leaves: &mut Leaves,
-    place: Entry,
+    constants: Value,
     captures: Value,
 ) -> Result<(), NoMemory>
-    ensures counts { OnOk result ((p : Entry) (c : Plain) → captured_at (leaf_at leaves.new p) c
-        ≡ captured_at (leaf_at leaves.old p) c
-        + (if same_entry place p && same captures c then 1 else 0)) }
-    ensures observers { OnOk result ((p : Entry) (o : Plain) → observed_at (leaf_at leaves.new p) o
-        ≡ observed_at (leaf_at leaves.old p) o) }
+    ensures counts { OnOk result ((k c : Plain) → captured_at (leaf_at leaves.new k) c
+        ≡ captured_at (leaf_at leaves.old k) c
+        + (if same constants k && same captures c then 1 else 0)) }
+    ensures observers { OnOk result ((k o : Plain) → observed_at (leaf_at leaves.new k) o
+        ≡ observed_at (leaf_at leaves.old k) o) }
 {
-    let mut leaf = take_leaf(alloc, leaves, &place);
+    let mut leaf = take_leaf(alloc, leaves, &constants);
     count_up(&mut leaf.captured, captures)?;
-    put_leaf(leaves, place, leaf)
+    put_leaf(leaves, constants, leaf)
 }
 
-/// One value fewer at a place, with these captures.
+/// One value fewer of these constants, with these captures.
 pub(crate) fn drop_one(
     alloc: Global,
     leaves: &mut Leaves,
-    place: Entry,
+    constants: Value,
     captures: Value,
 ) -> Result<(), NoMemory>
-    ensures counts { OnOk result ((p : Entry) (c : Plain) → captured_at (leaf_at leaves.new p) c
-        ≡ captured_at (leaf_at leaves.old p) c
-        - (if same_entry place p && same captures c then 1 else 0)) }
-    ensures observers { OnOk result ((p : Entry) (o : Plain) → observed_at (leaf_at leaves.new p) o
-        ≡ observed_at (leaf_at leaves.old p) o) }
+    ensures counts { OnOk result ((k c : Plain) → captured_at (leaf_at leaves.new k) c
+        ≡ captured_at (leaf_at leaves.old k) c
+        - (if same constants k && same captures c then 1 else 0)) }
+    ensures observers { OnOk result ((k o : Plain) → observed_at (leaf_at leaves.new k) o
+        ≡ observed_at (leaf_at leaves.old k) o) }
 {
-    let mut leaf = take_leaf(alloc, leaves, &place);
+    let mut leaf = take_leaf(alloc, leaves, &constants);
     count_down(&mut leaf.captured, captures)?;
-    put_leaf(leaves, place, leaf)
+    put_leaf(leaves, constants, leaf)
 }
 
-/// One more observation at a place.
+/// One more observation of these constants.
 pub(crate) fn watch(
     alloc: Global,
     leaves: &mut Leaves,
-    place: Entry,
-    observer: Value,
+    constants: Value,
+    observer: &Value,
 ) -> Result<(), NoMemory>
-    ensures counts { OnOk result ((p : Entry) (c : Plain) → captured_at (leaf_at leaves.new p) c
-        ≡ captured_at (leaf_at leaves.old p) c) }
-    ensures observers { OnOk result ((p : Entry) (o : Plain) → observed_at (leaf_at leaves.new p) o
-        ≡ (if same_entry place p && same observer o then true
-        else observed_at (leaf_at leaves.old p) o)) }
+    ensures counts { OnOk result ((k c : Plain) → captured_at (leaf_at leaves.new k) c
+        ≡ captured_at (leaf_at leaves.old k) c) }
+    ensures observers { OnOk result ((k o : Plain) → observed_at (leaf_at leaves.new k) o
+        ≡ (if same constants k && same observer.now o then true
+        else observed_at (leaf_at leaves.old k) o)) }
 {
-    let mut leaf = take_leaf(alloc, leaves, &place);
-    leaf.observers.insert(observer)?;
-    put_leaf(leaves, place, leaf)
+    let another = observer.copy()?;
+    let mut leaf = take_leaf(alloc, leaves, &constants);
+    leaf.observers.insert(another)?;
+    put_leaf(leaves, constants, leaf)
 }
 
-/// One observation fewer at a place.
+/// One observation fewer of these constants.
 pub(crate) fn unwatch(
     alloc: Global,
     leaves: &mut Leaves,
-    place: Entry,
+    constants: &Value,
     observer: &Value,
 ) -> Result<(), NoMemory>
-    ensures counts { OnOk result ((p : Entry) (c : Plain) → captured_at (leaf_at leaves.new p) c
-        ≡ captured_at (leaf_at leaves.old p) c) }
-    ensures observers { OnOk result ((p : Entry) (o : Plain) → observed_at (leaf_at leaves.new p) o
-        ≡ (if same_entry place p && same observer.now o then false
-        else observed_at (leaf_at leaves.old p) o)) }
+    ensures counts { OnOk result ((k c : Plain) → captured_at (leaf_at leaves.new k) c
+        ≡ captured_at (leaf_at leaves.old k) c) }
+    ensures observers { OnOk result ((k o : Plain) → observed_at (leaf_at leaves.new k) o
+        ≡ (if same constants.now k && same observer.now o then false
+        else observed_at (leaf_at leaves.old k) o)) }
 {
-    let mut leaf = take_leaf(alloc, leaves, &place);
+    let place = constants.copy()?;
+    let mut leaf = take_leaf(alloc, leaves, constants);
     let _ = leaf.observers.remove(observer);
     put_leaf(leaves, place, leaf)
 }

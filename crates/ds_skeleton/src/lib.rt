@@ -11,13 +11,14 @@
 mod counting;
 mod entering;
 mod fanning;
+mod finding;
 mod index;
-mod keyed;
 mod laws;
 mod leaf;
 mod listing;
 mod observing;
 mod outlines;
+mod shape;
 mod skeleton;
 mod standing;
 mod tally;

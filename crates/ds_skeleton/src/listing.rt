@@ -1,7 +1,5 @@
-//! Sets of keys as lists of changes, and their weight.
+//! Lists of keys as lists of changes, and their weight.
 ghost use Rattle.std.specs.Prelude.{◌≡◌, ◌≤◌, ◌+◌, ◌-◌, ◌^◌, min, map, IfOk};
-ghost use Rattle.std.specs.List.Sorted.{IsStrictlySortedBy};
-ghost use Rattle.pv_value.specs.EntryOrder.{entry_order};
 ghost use Rattle.ds_space.specs.declared.space.Change.TheVariants.{Left, Came};
 ghost use Rattle.ds_skeleton.specs.Keys.{key_value, weight_of_entries};
 
@@ -12,12 +10,10 @@ use std::alloc::Global;
 
 /// The weight of what is wanted under the keys, at most the greatest u64.
 pub(crate) fn weigh(keys: &Keys) -> u64
-    ensures weight { result ≡ min (weight_of_entries keys.now.keys) (2 ^ 64 - 1) }
-    ensures ascending { IsStrictlySortedBy entry_order keys.now.keys }
+    ensures { result ≡ min (weight_of_entries keys.now.items) (2 ^ 64 - 1) }
 {
-    let _ = keys.len();
     let mut total: u64 = 0;
-    for key in keys.iter() {
+    for key in keys {
         total = total.saturating_add(weight(&key.value));
     }
     total
@@ -25,17 +21,15 @@ pub(crate) fn weigh(keys: &Keys) -> u64
 
 /// The weight with what is wanted under these keys too, at most the greatest u64.
 pub(crate) fn weight_with(weight: u64, keys: &Keys) -> u64
-    ensures weight { result ≡ min (weight + weight_of_entries keys.now.keys) (2 ^ 64 - 1) }
-    ensures ascending { IsStrictlySortedBy entry_order keys.now.keys }
+    ensures { result ≡ min (weight + weight_of_entries keys.now.items) (2 ^ 64 - 1) }
 {
     weight.saturating_add(weigh(keys))
 }
 
 /// The weight without what is wanted under these keys.
 pub(crate) fn weight_without(weight: u64, keys: &Keys) -> u64
-    ensures weight { weight_of_entries keys.now.keys ≤ weight
-        → result + weight_of_entries keys.now.keys ≡ weight }
-    ensures ascending { IsStrictlySortedBy entry_order keys.now.keys }
+    ensures { weight_of_entries keys.now.items ≤ weight
+        → result + weight_of_entries keys.now.items ≡ weight }
 {
     weight.saturating_sub(weigh(keys))
 }
@@ -53,7 +47,7 @@ fn key_value(alloc: Global, key: Entry) -> Result<Value, NoMemory>
 
 /// The keys that came, in their order.
 pub(crate) fn came(alloc: Global, keys: Keys) -> Result<Changes, NoMemory>
-    ensures { IfOk result (λ cs. cs.items ≡ map (λ q. Came (key_value q)) keys.keys) }
+    ensures { IfOk result (λ cs. cs.items ≡ map (λ q. Came (key_value q)) keys.items) }
 {
     let mut changes = Vec::new(alloc);
     for key in keys {
@@ -64,7 +58,7 @@ pub(crate) fn came(alloc: Global, keys: Keys) -> Result<Changes, NoMemory>
 
 /// The keys that left, in their order.
 pub(crate) fn left(alloc: Global, keys: Keys) -> Result<Changes, NoMemory>
-    ensures { IfOk result (λ cs. cs.items ≡ map (λ q. Left (key_value q)) keys.keys) }
+    ensures { IfOk result (λ cs. cs.items ≡ map (λ q. Left (key_value q)) keys.items) }
 {
     let mut changes = Vec::new(alloc);
     for key in keys {

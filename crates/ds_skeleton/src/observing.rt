@@ -3,32 +3,20 @@ ghost use Rattle.std.specs.Prelude.{◌≡◌, IfOk};
 ghost use Rattle.ds_shape.specs.Splitting.{outline_of, constants_of};
 ghost use Rattle.ds_space.specs.References.{names_observer};
 ghost use Rattle.ds_space.specs.Wants.{observer_of, observer_by, is_observer};
-ghost use Rattle.ds_skeleton.specs.Places.{entry_of, place_of};
+ghost use Rattle.ds_skeleton.specs.Places.{place_of};
 
-use crate::keyed::Keyed;
 use dp_pattern::{DPat, parse};
-use ds_shape::{Shape, split};
+use ds_shape::{Outline, Shape, split};
 use ds_space::reference_of;
-use pv_value::{Entry, NoMemory, Node, Text, Value};
+use pv_value::{NoMemory, Node, Text, Value};
 use pv_words::{is_word, worded};
 use std::alloc::Global;
 
 /// Where an observation has its place: the outline and the constants of its pattern.
 #[derive(Drop)]
 pub(crate) struct Place {
-    pub(crate) outline: Keyed,
+    pub(crate) outline: Outline,
     pub(crate) constants: Value,
-}
-
-impl Place {
-    /// The place as it is looked up.
-    pub(crate) fn entry(&self) -> Result<Entry, NoMemory>
-        ensures { IfOk result (λ e. e ≡ entry_of self.now) }
-    {
-        let key = self.outline.key().copy()?;
-        let value = self.constants.copy()?;
-        Ok(Entry { key, value })
-    }
 }
 
 /// Only objects of the actors from this one on are told: those of watchers and connections.
@@ -50,7 +38,6 @@ fn placed(alloc: Global, pattern: &DPat) -> Result<Place, NoMemory>
     ensures constants { IfOk result (λ p. p.constants ≡ constants_of pattern.now) }
 {
     let Shape { outline, constants } = split(alloc, pattern)?;
-    let outline = Keyed::new(alloc, outline)?;
     Ok(Place { outline, constants })
 }
 

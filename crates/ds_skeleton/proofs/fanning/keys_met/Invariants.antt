@@ -1,13 +1,12 @@
-use Rattle.std.proofs.Common.{◌≡◌, map}
+use Rattle.std.proofs.Common.{◌≡◌, ◌||◌, drop}
 use Rattle.std.specs.List.{list_any}
-use Rattle.std.specs.Map.Iter.{deref}
-use Rattle.std.specs.BTreeSet as sorted
-use Rattle.pv_value.specs.EntryOrder.{entry_order}
 use Rattle.pv_value.specs.declared.Entry.{Entry}
+use Rattle.ds_skeleton.specs.Keys.{has_key}
 use Rattle.ds_skeleton.specs.Indexes.{met}
 use Rattle.ds_skeleton.proofs.fanning.keys_met.Given as goal
 
-abbrev pub invariant-loop-outline : goal.invariant-loop-outline
-invariant-loop-outline l =
-    (q : Entry) → sorted.contains entry_order l.keys q
-    ≡ list_any (met l.index.leaves l.message q) (map deref l.yielded)
+-- those so far, and the rest
+abbrev pub invariant-loop-shape : goal.invariant-loop-shape
+invariant-loop-shape l =
+    (q : Entry) → (has_key l.keys.items q || list_any (met l.message q) (drop l.shape-index l.shapes))
+    ≡ list_any (met l.message q) l.shapes

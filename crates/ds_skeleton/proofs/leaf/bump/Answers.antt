@@ -13,9 +13,9 @@ returns-clause-counts c =
     then_ok c.put_leaf.result
     (λ put. put_up (λ p k. captured_at (leaf_at c.args.leaves.now p) k)
     (λ p k. captured_at (leaf_at c.take_leaf-leaf.new.leaves p) k)
-    (λ p k. captured_at (leaf_at c.put_leaf.new.leaves p) k) c.args.place c.args.captures
+    (λ p k. captured_at (leaf_at c.put_leaf.new.leaves p) k) c.args.constants c.args.captures
     (λ k. number (tree.get order c.count_up.new.counts k))
-    (others_counted c.args.leaves.now c.take_leaf-leaf.new.leaves c.args.place c.take_leaf-leaf.ensures.others)
+    (others_counted c.args.leaves.now c.take_leaf-leaf.new.leaves c.args.constants c.take_leaf-leaf.ensures.others)
     put
     (λ q. counted_up (tree.get order c.take_leaf-leaf.result.captured) (tree.get order c.count_up.new.counts)
     c.args.captures c.in_ok-count_up.ensures.counts q ∙ ap (λ n. n + cond (same c.args.captures q) 1 0)
@@ -27,9 +27,9 @@ returns-clause-observers c =
     then_ok c.put_leaf.result
     (λ put. put_alike (λ p o. observed_at (leaf_at c.args.leaves.now p) o)
     (λ p o. observed_at (leaf_at c.take_leaf-leaf.new.leaves p) o)
-    (λ p o. observed_at (leaf_at c.put_leaf.new.leaves p) o) c.args.place
+    (λ p o. observed_at (leaf_at c.put_leaf.new.leaves p) o) c.args.constants
     (sorted.contains order c.take_leaf-leaf.result.observers)
-    (others_seen c.args.leaves.now c.take_leaf-leaf.new.leaves c.args.place c.take_leaf-leaf.ensures.others)
+    (others_seen c.args.leaves.now c.take_leaf-leaf.new.leaves c.args.constants c.take_leaf-leaf.ensures.others)
     put
     (λ q. c.take_leaf-leaf.ensures.observers q))
     c.put_leaf.ensures.observers

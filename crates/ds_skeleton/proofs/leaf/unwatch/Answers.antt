@@ -13,10 +13,12 @@ returns-clause-counts c =
     then_ok c.put_leaf.result
     (λ put. put_alike (λ p k. captured_at (leaf_at c.args.leaves.now p) k)
     (λ p k. captured_at (leaf_at c.take_leaf-leaf.new.leaves p) k)
-    (λ p k. captured_at (leaf_at c.put_leaf.new.leaves p) k) c.args.place
+    (λ p k. captured_at (leaf_at c.put_leaf.new.leaves p) k) c.args.constants.now
     (λ k. number (tree.get order c.take_leaf-leaf.result.captured k))
-    (others_counted c.args.leaves.now c.take_leaf-leaf.new.leaves c.args.place c.take_leaf-leaf.ensures.others)
-    put
+    (others_counted c.args.leaves.now c.take_leaf-leaf.new.leaves c.args.constants.now c.take_leaf-leaf.ensures.others)
+    (λ p k. put p k
+    ∙ ap (λ v. cond (same v p) (number (tree.get order c.take_leaf-leaf.result.captured k))
+    (captured_at (leaf_at c.take_leaf-leaf.new.leaves p) k)) c.in_ok-place.ensures)
     (λ q. c.take_leaf-leaf.ensures.counts q))
     c.put_leaf.ensures.counts
 
@@ -25,10 +27,12 @@ returns-clause-observers c =
     then_ok c.put_leaf.result
     (λ put. put_set (λ p o. observed_at (leaf_at c.args.leaves.now p) o)
     (λ p o. observed_at (leaf_at c.take_leaf-leaf.new.leaves p) o)
-    (λ p o. observed_at (leaf_at c.put_leaf.new.leaves p) o) c.args.place c.args.observer.now false
+    (λ p o. observed_at (leaf_at c.put_leaf.new.leaves p) o) c.args.constants.now c.args.observer.now false
     (sorted.contains order c.remove.new.self)
-    (others_seen c.args.leaves.now c.take_leaf-leaf.new.leaves c.args.place c.take_leaf-leaf.ensures.others)
-    put
+    (others_seen c.args.leaves.now c.take_leaf-leaf.new.leaves c.args.constants.now c.take_leaf-leaf.ensures.others)
+    (λ p o. put p o
+    ∙ ap (λ v. cond (same v p) (sorted.contains order c.remove.new.self o)
+    (observed_at (leaf_at c.take_leaf-leaf.new.leaves p) o)) c.in_ok-place.ensures)
     (λ q. c.remove.ensures.updates.0 q ∙ ap (λ b. cond (same c.args.observer.now q) false b)
     (c.take_leaf-leaf.ensures.observers q)))
     c.put_leaf.ensures.observers

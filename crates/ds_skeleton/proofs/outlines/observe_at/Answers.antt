@@ -1,23 +1,51 @@
-use Rattle.std.proofs.Common.{◌&&◌, cond, true, ap, ◌∙◌}
+use Rattle.std.proofs.Common.{Some, slice_set, ap, sym, ◌∙◌, subst}
 use Rattle.std.specs.BTreeMap as tree
-use Rattle.pv_words.specs.Parts.{same}
-use Rattle.ds_skeleton.specs.Places.{entry_of, same_entry, same_place}
-use Rattle.ds_skeleton.specs.Leaves.{leaf_of, observed_at}
+use Rattle.ds_skeleton.specs.Shapes.{AreInOrder}
+use Rattle.ds_skeleton.specs.Indexes.{IsIndexOf}
 use Rattle.ds_skeleton.proofs.Answered.{then_ok}
-use Rattle.ds_skeleton.proofs.Moves.{observer_came}
+use Rattle.ds_skeleton.proofs.Comings.{came_known, came_new}
+use Rattle.ds_skeleton.proofs.Places.{IsAt, IsGap, found, missing, replaced, inserted}
 use Rattle.ds_skeleton.proofs.outlines.observe_at.Goals as goal
 
-pub returns : goal.returns
-returns c =
-    then_ok c.count_up.result
-    (λ put. observer_came (tree.keys c.args.values.now) c.args.outlines.now c.count_up.new.counts c.args.leaves.now
-    c.begin_outline.new.leaves c.watch.new.leaves c.args.value.now c.args.place c.requires.place c.requires.index
-    c.in_ok-begin_outline.ensures.counts c.in_ok-begin_outline.ensures.observers
-    (λ p k. c.in_ok-watch.ensures.counts (entry_of p) k)
-    (λ p o. c.in_ok-watch.ensures.observers (entry_of p) o
-    ∙ ap (λ e. cond (same_entry e (entry_of p) && same c.in_ok-observer.observer o) true
-    (observed_at (leaf_of c.begin_outline.new.leaves p) o)) c.in_ok-at.ensures
-    ∙ ap (λ v. cond (same_place c.args.place p && same v o) true
-    (observed_at (leaf_of c.begin_outline.new.leaves p) o)) c.in_ok-observer.ensures)
-    put)
-    c.count_up.ensures.counts
+pub returns-in-Ok-clause-in_order : goal.returns-in-Ok-clause-in_order
+returns-in-Ok-clause-in_order c =
+    let here = subst (IsAt c.args.place.outline c.in-Ok.at) c.deref.ensures.value
+    (c.in-Ok.ensures.range, c.in-Ok.ensures.place) in
+    then_ok c.watch.result
+    (λ w. (replaced c.args.place.outline c.args.shapes.now.items c.in-Ok.at c.watch.new.self c.index_mut.result.now
+    c.requires.in_order here
+    (w.outline ∙ ap (λ s. s.outline) c.index_mut.ensures.value)).in_order)
+    c.watch.ensures
+
+pub returns-in-Ok-clause-index : goal.returns-in-Ok-clause-index
+returns-in-Ok-clause-index c =
+    let here = subst (IsAt c.args.place.outline c.in-Ok.at) c.deref.ensures.value
+    (c.in-Ok.ensures.range, c.in-Ok.ensures.place) in
+    then_ok c.watch.result
+    (λ w seen index. came_known (tree.keys c.args.values.now) seen c.args.shapes.now.items
+    (slice_set c.args.shapes.now.items c.in-Ok.at c.watch.new.self) c.args.value.now c.args.place c.index_mut.result.now
+    c.watch.new.self c.requires.place index
+    (found c.args.place.outline c.args.shapes.now.items c.in-Ok.at c.index_mut.result.now c.requires.in_order
+    here ∙ ap Some (sym c.index_mut.ensures.value))
+    w
+    (replaced c.args.place.outline c.args.shapes.now.items c.in-Ok.at c.watch.new.self c.index_mut.result.now
+    c.requires.in_order here
+    (w.outline ∙ ap (λ s. s.outline) c.index_mut.ensures.value)))
+    c.watch.ensures
+
+pub returns-in_ok-insert-in-Err-clause-in_order : goal.returns-in_ok-insert-in-Err-clause-in_order
+returns-in_ok-insert-in-Err-clause-in_order c =
+    let gap = subst (IsGap c.args.place.outline c.in-Err.at) c.deref.ensures.value c.in-Err.ensures.place in
+    subst AreInOrder (sym c.in_ok-insert-in-Err.ensures.items)
+    (inserted c.args.place.outline c.args.shapes.now.items c.in-Err.at c.in_ok-shape-in-Err.shape c.requires.in_order
+    c.in_ok-shape-in-Err.ensures.outline gap).in_order
+
+pub returns-in_ok-insert-in-Err-clause-index : goal.returns-in_ok-insert-in-Err-clause-index
+returns-in_ok-insert-in-Err-clause-index c seen index =
+    let gap = subst (IsGap c.args.place.outline c.in-Err.at) c.deref.ensures.value c.in-Err.ensures.place in
+    subst (IsIndexOf (tree.keys c.args.values.now) _) (sym c.in_ok-insert-in-Err.ensures.items)
+    (came_new (tree.keys c.args.values.now) seen c.args.shapes.now.items _ c.args.value.now c.args.place
+    c.in_ok-shape-in-Err.shape c.requires.place index
+    (missing c.args.place.outline c.args.shapes.now.items c.in-Err.at gap) c.in_ok-shape-in-Err.ensures
+    (inserted c.args.place.outline c.args.shapes.now.items c.in-Err.at c.in_ok-shape-in-Err.shape c.requires.in_order
+    c.in_ok-shape-in-Err.ensures.outline gap))

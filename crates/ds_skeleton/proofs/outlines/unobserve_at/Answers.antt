@@ -1,21 +1,73 @@
-use Rattle.std.proofs.Common.{◌&&◌, cond, false, ap, ◌∙◌}
+use Rattle.std.proofs.Common.{◌≡◌, ◌<◌, ◌≤◌, true, false, Some, is_some, slice_set, ap, sym, ◌∙◌, subst, arith}
 use Rattle.std.specs.BTreeMap as tree
-use Rattle.pv_words.specs.Parts.{same}
-use Rattle.ds_skeleton.specs.Places.{entry_of, same_entry}
-use Rattle.ds_skeleton.specs.Leaves.{leaf_of, observed_at}
+use Rattle.ds_skeleton.specs.Shapes.{shape_at, AreInOrder}
+use Rattle.ds_skeleton.specs.Indexes.{IsIndexOf}
 use Rattle.ds_skeleton.proofs.Answered.{then_ok}
-use Rattle.ds_skeleton.proofs.Moves.{observer_went}
+use Rattle.ds_skeleton.proofs.Comings.{went_known, went_last}
+use Rattle.ds_skeleton.proofs.Entries.{some_is}
+use Rattle.ds_skeleton.proofs.Moves.{was_kept}
+use Rattle.ds_skeleton.proofs.Places.{IsAt, IsGap, gap_in, found, missing, replaced, removed}
 use Rattle.ds_skeleton.proofs.outlines.unobserve_at.Goals as goal
 
-pub returns : goal.returns
-returns c =
-    then_ok c.count_down.result
-    (λ put. observer_went (tree.keys c.args.values.now) (tree.keys c.args.values.now) c.args.outlines.now
-    c.count_down.new.counts c.args.leaves.now c.unwatch.new.leaves c.end_outline.new.leaves c.args.value.now c.args.place
-    c.requires.place c.requires.gone c.requires.index
-    (λ p k. c.in_ok-unwatch.ensures.counts (entry_of p) k)
-    (λ p o. c.in_ok-unwatch.ensures.observers (entry_of p) o
-    ∙ ap (λ e. cond (same_entry e (entry_of p) && same c.args.value.now o) false
-    (observed_at (leaf_of c.args.leaves.now p) o)) c.in_ok-at.ensures)
-    c.in_ok-end_outline.ensures.counts c.in_ok-end_outline.ensures.observers put)
-    c.count_down.ensures.counts
+clash : true ≡ false → ⊥
+clash e = cc
+
+pub returns-in_default-clause-index : goal.returns-in_default-clause-index
+returns-in_default-clause-index c =
+    absurd (clash
+    (sym (was_kept (tree.keys c.args.values.now) (tree.keys c.args.values.now) c.args.shapes.now.items c.args.value.now
+    c.args.place.now c.requires.place c.requires.index)
+    ∙ ap is_some (missing c.args.place.now.outline c.args.shapes.now.items c.in_default.field-0
+    (subst (IsGap c.args.place.now.outline c.in_default.field-0) c.deref.ensures.value
+    (gap_in c.args.place.now.outline c.deref.result.now c.position.result c.in_default.field-0 c.position.ensures.place
+    c.in_default.is)))))
+
+pub returns-then-index-le1-clause-in_order : goal.returns-then-index-le1-clause-in_order
+returns-then-index-le1-clause-in_order c =
+    let here = subst (IsAt c.args.place.now.outline c.in-Ok.at) c.deref.ensures.value
+    (c.in-Ok.ensures.range, c.in-Ok.ensures.place) in
+    subst AreInOrder (sym c.remove.ensures.items)
+    (removed c.args.place.now.outline c.args.shapes.now.items c.in-Ok.at c.index.result.now c.requires.in_order
+    here).in_order
+
+pub returns-then-index-le1-clause-index : goal.returns-then-index-le1-clause-index
+returns-then-index-le1-clause-index c =
+    let here = subst (IsAt c.args.place.now.outline c.in-Ok.at) c.deref.ensures.value
+    (c.in-Ok.ensures.range, c.in-Ok.ensures.place) in
+    subst (IsIndexOf (tree.keys c.args.values.now) (tree.keys c.args.values.now)) (sym c.remove.ensures.items)
+    (went_last (tree.keys c.args.values.now) (tree.keys c.args.values.now) c.args.shapes.now.items _ c.args.value.now
+    c.args.place.now c.index.result.now c.requires.place c.requires.gone c.requires.index
+    (found c.args.place.now.outline c.args.shapes.now.items c.in-Ok.at c.index.result.now c.requires.in_order
+    here ∙ ap Some (sym c.index.ensures))
+    c.if-index-le1.true
+    (removed c.args.place.now.outline c.args.shapes.now.items c.in-Ok.at c.index.result.now c.requires.in_order
+    here))
+
+pub returns-clause-in_order : goal.returns-clause-in_order
+returns-clause-in_order c =
+    let here = subst (IsAt c.args.place.now.outline c.in-Ok.at) c.deref.ensures.value
+    (c.in-Ok.ensures.range, c.in-Ok.ensures.place) in
+    then_ok c.unwatch.result
+    (λ w. (replaced c.args.place.now.outline c.args.shapes.now.items c.in-Ok.at c.unwatch.new.self c.index_mut.result.now
+    c.requires.in_order here (w.outline ∙ ap (λ s. s.outline) c.index_mut.ensures.value)).in_order)
+    c.unwatch.ensures
+
+pub returns-clause-index : goal.returns-clause-index
+returns-clause-index c =
+    let here = subst (IsAt c.args.place.now.outline c.in-Ok.at) c.deref.ensures.value
+    (c.in-Ok.ensures.range, c.in-Ok.ensures.place) in
+    let read : shape_at c.args.shapes.now.items c.args.place.now.outline ≡ Some c.index.result.now =
+    found c.args.place.now.outline c.args.shapes.now.items c.in-Ok.at c.index.result.now c.requires.in_order here
+    ∙ ap Some (sym c.index.ensures) in
+    let lent : shape_at c.args.shapes.now.items c.args.place.now.outline ≡ Some c.index_mut.result.now =
+    found c.args.place.now.outline c.args.shapes.now.items c.in-Ok.at c.index_mut.result.now c.requires.in_order here
+    ∙ ap Some (sym c.index_mut.ensures.value) in
+    let many = subst (λ s. 1 < s.observations) (some_is c.index.result.now c.index_mut.result.now (sym read ∙ lent))
+    c.if-index-le1.false in
+    then_ok c.unwatch.result
+    (λ w. went_known (tree.keys c.args.values.now) (tree.keys c.args.values.now) c.args.shapes.now.items
+    (slice_set c.args.shapes.now.items c.in-Ok.at c.unwatch.new.self) c.args.value.now c.args.place.now
+    c.index_mut.result.now c.unwatch.new.self c.requires.place c.requires.gone c.requires.index lent many w
+    (replaced c.args.place.now.outline c.args.shapes.now.items c.in-Ok.at c.unwatch.new.self c.index_mut.result.now
+    c.requires.in_order here (w.outline ∙ ap (λ s. s.outline) c.index_mut.ensures.value)))
+    c.unwatch.ensures

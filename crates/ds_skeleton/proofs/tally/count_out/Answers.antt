@@ -8,6 +8,7 @@ use Rattle.ds_space.specs.Lemmas.Keys.{same_self}
 use Rattle.ds_skeleton.specs.Places.{same_entry, count}
 use Rattle.ds_skeleton.specs.Leaves.{number, kept}
 use Rattle.ds_skeleton.specs.Indexes.{IsIndexOf}
+use Rattle.ds_skeleton.proofs.Empty.{none_ascend}
 use Rattle.ds_skeleton.proofs.Tallies.{counted_out, none_kept, number_counts, only_in_alike, only_in-same, among_counts}
 use Rattle.ds_skeleton.proofs.Tallies.{among_again, among_from_count, at_most_one, more_than_one}
 use Rattle.ds_skeleton.proofs.tally.count_out.Goals as goal
@@ -35,7 +36,7 @@ returns-clause-whole c =
     let many : 1 < number (tree.get order c.args.index.now.values c.in_ok-again.again) =
     subst (λ v. 1 < number (tree.get order c.args.index.now.values v)) (sym c.in_ok-again.ensures)
     (more_than_one _ (sym c.is_last.ensures ∙ c.if-is_last.false)) in
-    subst (λ ks. IsIndexOf ks ks c.args.index.now.outlines c.args.index.now.leaves)
+    subst (λ ks. IsIndexOf ks ks c.args.index.now.shapes.items)
     (sym (c.in_ok-count_down.ensures.keys many)) c.requires.whole
 
 pub returns-clause-values : goal.returns-clause-values
@@ -53,8 +54,11 @@ returns-clause-keys c vs h q =
     let many =
     number_counts c.args.index.now.values (c.args.value.now ∷ vs) h c.args.value.now
     ∙ ap (λ b. cond b 1 0 + count (same c.args.value.now) vs) (same_self c.args.value.now) in
-    ap (list_any (same_entry q)) c.new.ensures.empty
+    ap (list_any (same_entry q)) c.new.ensures.items
     ∙ sym (only_in-same (c.args.value.now ∷ vs) vs q
     (among_again c.args.value.now vs
     (among_from_count c.args.value.now vs
     (omega (arith, many, more_than_one _ (sym c.is_last.ensures ∙ c.if-is_last.false))))))
+
+pub returns-clause-ascending : goal.returns-clause-ascending
+returns-clause-ascending c = none_ascend c.new.result.items c.new.ensures.items

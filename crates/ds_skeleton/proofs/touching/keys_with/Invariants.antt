@@ -1,12 +1,12 @@
-use Rattle.std.proofs.Common.{◌≡◌, map}
+use Rattle.std.proofs.Common.{◌≡◌, ◌||◌, drop}
 use Rattle.std.specs.List.{list_any}
-use Rattle.std.specs.Map.Iter.{deref}
-use Rattle.std.specs.BTreeSet as sorted
-use Rattle.pv_value.specs.EntryOrder.{entry_order}
 use Rattle.pv_value.specs.declared.Entry.{Entry}
+use Rattle.ds_skeleton.specs.Keys.{has_key}
 use Rattle.ds_skeleton.specs.Indexes.{touched}
 use Rattle.ds_skeleton.proofs.touching.keys_with.Given as goal
 
-abbrev pub invariant-loop-outline : goal.invariant-loop-outline
-invariant-loop-outline l =
-    (q : Entry) → sorted.contains entry_order l.keys q ≡ list_any (touched l.leaves l.value q) (map deref l.yielded)
+-- those so far, and the rest
+abbrev pub invariant-loop-shape : goal.invariant-loop-shape
+invariant-loop-shape l =
+    (q : Entry) → (has_key l.keys.items q || list_any (touched l.value q) (drop l.shape-index l.shapes))
+    ≡ list_any (touched l.value q) l.shapes

@@ -37,8 +37,8 @@ returns-then-is_over c =
       (
         ltb-true most_wanted_weight c.weight_with-after.result (sym c.is_over.ensures ∙ c.if-is_over.true),
         weighs_in c.args.number c.args.value c.args.self c.self.inside.rows.entries c.self.inside.index
-            c.self.inside.weight c.weight_with-after.result c.in_ok-keys.keys.keys c.self.view_is none c.self.invariant
-            c.weight_with-after.ensures.ascending c.in_ok-keys.ensures.keys c.weight_with-after.ensures.weight,
+            c.self.inside.weight c.weight_with-after.result c.in_ok-keys.keys.items c.self.view_is none c.self.invariant
+            c.in_ok-keys.ensures.ascending c.in_ok-keys.ensures.keys c.weight_with-after.ensures,
       ),
     )
 
@@ -47,9 +47,9 @@ invariant_of-space-2 c =
     let none : lookup (is_at (nat_cmp c.args.number)) c.self.inside.rows.entries ≡ None =
     ap (lookup (is_at (nat_cmp c.args.number))) c.self.view_is ∙ c.requires in
     skeleton_in c.args.number c.args.value c.self.inside.rows.entries c.insert.new.self.entries c.self.inside.index
-    c.count_in.new.index c.self.inside.weight c.weight_with-after.result c.in_ok-keys.keys.keys none
+    c.count_in.new.index c.self.inside.weight c.weight_with-after.result c.in_ok-keys.keys.items none
     c.in_ok-insert.ensures.entries c.self.invariant c.in_ok-keys.ensures.whole c.in_ok-keys.ensures.values
-    c.weight_with-after.ensures.ascending c.in_ok-keys.ensures.keys c.weight_with-after.ensures.weight
+    c.in_ok-keys.ensures.ascending c.in_ok-keys.ensures.keys c.weight_with-after.ensures
     (ltb-false most_wanted_weight c.weight_with-after.result (sym c.is_over.ensures ∙ c.if-is_over.false))
 
 pub returns : goal.returns
@@ -59,11 +59,11 @@ returns c =
       c.in_ok-insert.ensures.entries
           ∙ ap (λ es. insert_entry nat_cmp es c.args.number c.args.value) c.self.view_is,
       changes_in c.args.number c.args.value c.args.self c.self.inside.rows.entries c.self.inside.index
-          c.self.inside.weight c.in_ok-keys.keys.keys c.in_ok-changes.changes.items c.self.view_is none c.self.invariant
-          c.weight_with-after.ensures.ascending c.in_ok-keys.ensures.keys c.in_ok-changes.ensures,
+          c.self.inside.weight c.in_ok-keys.keys.items c.in_ok-changes.changes.items c.self.view_is none c.self.invariant
+          c.in_ok-keys.ensures.ascending c.in_ok-keys.ensures.keys c.in_ok-changes.ensures,
       subst (λ w. w ≤ most_wanted_weight)
           (weighs_in c.args.number c.args.value c.args.self c.self.inside.rows.entries c.self.inside.index
-          c.self.inside.weight c.weight_with-after.result c.in_ok-keys.keys.keys c.self.view_is none c.self.invariant
-          c.weight_with-after.ensures.ascending c.in_ok-keys.ensures.keys c.weight_with-after.ensures.weight)
+          c.self.inside.weight c.weight_with-after.result c.in_ok-keys.keys.items c.self.view_is none c.self.invariant
+          c.in_ok-keys.ensures.ascending c.in_ok-keys.ensures.keys c.weight_with-after.ensures)
           (ltb-false most_wanted_weight c.weight_with-after.result (sym c.is_over.ensures ∙ c.if-is_over.false)),
     )

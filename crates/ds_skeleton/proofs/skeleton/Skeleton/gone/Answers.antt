@@ -40,13 +40,13 @@ invariant_of-space-2 c =
     let some : lookup (is_at (nat_cmp c.args.number)) c.self.inside.rows.entries
     ≡ Some c.in-Some.value = search rules in
     skeleton_out c.args.number c.in-Some.value c.self.inside.rows.entries c.remove.new.self.entries c.self.inside.index
-    c.count_out.new.index c.self.inside.weight c.weight_without-after.result c.in_ok-keys.keys.keys some
+    c.count_out.new.index c.self.inside.weight c.weight_without-after.result c.in_ok-keys.keys.items some
     c.remove.ensures.entries c.self.invariant c.in_ok-keys.ensures.whole c.in_ok-keys.ensures.values
-    c.weight_without-after.ensures.ascending c.in_ok-keys.ensures.keys
-    (c.weight_without-after.ensures.weight
+    c.in_ok-keys.ensures.ascending c.in_ok-keys.ensures.keys
+    (c.weight_without-after.ensures
     (let total =
     weight_out c.args.number c.in-Some.value c.self.inside.rows.entries c.self.inside.index c.self.inside.weight
-    c.in_ok-keys.keys.keys some c.self.invariant c.weight_without-after.ensures.ascending c.in_ok-keys.ensures.keys in
+    c.in_ok-keys.keys.items some c.self.invariant c.in_ok-keys.ensures.ascending c.in_ok-keys.ensures.keys in
     omega (arith, total)))
 
 pub returns : goal.returns
@@ -55,7 +55,7 @@ returns c =
     ≡ Some c.in-Some.value = search rules in (
       c.remove.ensures.entries ∙ ap (remove_entry (is_at (nat_cmp c.args.number))) c.self.view_is,
       changes_out c.args.number c.in-Some.value c.args.self c.self.inside.rows.entries c.self.inside.index
-          c.self.inside.weight c.in_ok-keys.keys.keys c.in_ok-changes.changes.items c.self.view_is some c.self.invariant
-          c.weight_without-after.ensures.ascending c.in_ok-keys.ensures.keys c.in_ok-changes.ensures,
+          c.self.inside.weight c.in_ok-keys.keys.items c.in_ok-changes.changes.items c.self.view_is some c.self.invariant
+          c.in_ok-keys.ensures.ascending c.in_ok-keys.ensures.keys c.in_ok-changes.ensures,
       tt,
     )
