@@ -18,6 +18,12 @@ SECONDS = 60
 LISTENS = "0A"
 
 
+def use(program):
+    """From now on servers are of this program."""
+    global PROGRAM
+    PROGRAM = program
+
+
 def is_built():
     return os.access(PROGRAM, os.X_OK)
 
@@ -48,12 +54,13 @@ def is_listened_at(port):
 class Server:
     """`dsd serve` on a port of its own. Where it still runs at the end of the block, it is killed."""
 
-    def __init__(self, connections, config=ROOM, workers=2):
+    def __init__(self, connections, config=ROOM, workers=2, environment=()):
         self.port = free_port()
         self.address = "127.0.0.1:%d" % self.port
         words = [PROGRAM, "serve", self.address, config, str(workers), str(connections)]
         self.process = subprocess.Popen(
-            words, stdin=subprocess.DEVNULL, stdout=subprocess.PIPE, stderr=subprocess.PIPE, text=True)
+            words, stdin=subprocess.DEVNULL, stdout=subprocess.PIPE, stderr=subprocess.PIPE, text=True,
+            env=dict(os.environ, **dict(environment)))
 
     def __enter__(self):
         deadline = time.monotonic() + SECONDS
