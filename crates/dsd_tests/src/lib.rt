@@ -16,4 +16,6 @@ mod room;
 #[cfg(test)]
 mod running;
 #[cfg(test)]
+mod seats;
+#[cfg(test)]
 mod statuses;

@@ -28,6 +28,10 @@ trait Work<D, J> {
     fn work<Rt: Wait, Sp: Spawner<J>>(self, rt: &Rt, desk: &mut D, spawner: &mut Sp) -> Self::Output
         requires { (job : J) → Sp.can_start spawner.old job }
         ensures { gives self result };
+
+    /// It isn't begun, for want of memory.
+    fn give_up(self) -> Self::Output
+        ensures { gives self result };
 }
 
 /// Accepting so many links.
@@ -69,6 +73,12 @@ impl<'a, Li: Listen, J: Drop, D: Desk<Li::R, Li::W, Job = J>> Work<D, J> for Acc
         let tally = accept_all(rt, alloc, listener, desk, spawner, connections);
         (tally, listener)
     }
+
+    fn give_up(self) -> (Result<Tally, NoMemory>, &'a mut Li) {
+        let Accepting { listener, .. } = self;
+        listener.close();
+        (Err(NoMemory), listener)
+    }
 }
 
 /// A desk that has workers.
@@ -91,18 +101,25 @@ impl<'g, S: Space + Drop, J: Judge + Drop, B: Behaves + Drop> Team<Worker<'g, Se
     }
 }
 
-/// Starts so many workers, or as many as there can be threads.
-fn start_workers<'s, E, Rt, D, V>(rt: &'s Rt, scope: &Scope<'s, E>, desk: &mut D, workers: u32)
+/// Starts so many workers, or as many as there can be threads. Answers whether there is one at
+/// least, where any is wanted.
+fn start_workers<'s, E, Rt, D, V>(
+    rt: &'s Rt,
+    scope: &Scope<'s, E>,
+    desk: &mut D,
+    workers: u32,
+) -> bool
 where
     Rt: Wait + Sync,
     V: Run + Send + Drop + 's,
     D: Team<V>,
 {
-    for _ in 0..workers {
+    for started in 0..workers {
         if !start_in(rt, scope, desk.worker()) {
-            return;
+            return started > 0;
         }
     }
+    true
 }
 
 /// Does the work at the desk, and returns once all jobs that it started have ended.
@@ -123,6 +140,22 @@ where
             work.work(rt, desk, &mut spawner)
         },
     )
+}
+
+/// Does the work at the desk, or gives it up where it has no workers: what connections leave behind
+/// would stay undone.
+fn work_or_give_up<Rt, D, J, K, A>(rt: &Rt, desk: &mut D, work: K, has_workers: bool) -> A
+where
+    Rt: Threads + Wait + Sync,
+    J: Run + Send + Drop,
+    K: Work<D, J, Output = A> + Drop,
+    ensures { K.gives work result }
+{
+    if has_workers {
+        in_scope(rt, desk, work)
+    } else {
+        work.give_up()
+    }
 }
 
 /// Does the work at the desk with so many workers beside, and returns once all of these have ended
@@ -147,8 +180,8 @@ where
         move |scope| -> (A, Result<(), NoMemory>)
             ensures { K.gives work result.0 }
         {
-            start_workers(rt, scope, desk, workers);
-            let answer = in_scope(rt, desk, work);
+            let has_workers = start_workers(rt, scope, desk, workers);
+            let answer = work_or_give_up(rt, desk, work, has_workers);
             (answer, desk.end_workers(rt))
         },
     )
@@ -161,7 +194,8 @@ fn take_back<T>(lent: &mut T)
 
 /// Serves the links that a listener gives, each by two sessions in threads of their own, until so
 /// many were accepted or no more come. Beside them so many workers do the work of the system's
-/// actors, or as many as there can be threads.
+/// actors, or as many as there can be threads. Where not one of them can be started it accepts no
+/// link and answers want of memory.
 ///
 /// It returns once all threads that it started have ended: first the sessions, and then, told to
 /// stop, the workers.
