@@ -1,5 +1,5 @@
 //! Serving the links of a listener.
-ghost use Rattle.std.specs.Prelude.{◌≡◌, ◌≤◌, IfOk};
+ghost use Rattle.std.specs.Prelude.{◌≡◌, ◌≤◌, IfOk, OnOk};
 ghost use Rattle.out_ports.specs.Ports.{raised, RoseBy};
 ghost use Rattle.srv_loop.specs.Tallies.{links_of, accepts_of, HasEnded};
 
@@ -83,15 +83,26 @@ impl<'a, Li: Listen, J: Drop, D: Desk<Li::R, Li::W, Job = J>> Work<D, J> for Acc
 
 /// A desk that has workers.
 trait Team<V> {
+    /// Between the first and the second the workers were told to end.
+    ghost told: { Self → Self → Type 0 };
+
     /// One more worker, which isn't started yet.
     fn worker(&mut self) -> V;
 
     /// Tells all workers to end once nothing is left to do.
-    fn end_workers<Rt: Wait>(&mut self, rt: &Rt) -> Result<(), NoMemory>;
+    fn end_workers<Rt: Wait>(&mut self, rt: &Rt) -> Result<(), NoMemory>
+        ensures { OnOk result (told self.old self.new) };
 }
 
 impl<'g, S: Space + Drop, J: Judge + Drop, B: Behaves + Drop> Team<Worker<'g, Served<S, J, B>>>
     for GateDesk<'g, Served<S, J, B>> {
+    ghost use Rattle.turn_gate.specs.Gates.{view};
+    ghost use Rattle.hub_machine.specs.declared.steps.Step.TheVariants as steps;
+    ghost use Rattle.srv_desk.specs.Desks.{pairs_by, is_spent, IsDone};
+
+    ghost told = { λ before now. IsDone steps.Stop (pairs_by (view before.pass))
+        (pairs_by (view now.pass)) (is_spent (view now.pass)) };
+
     fn worker(&mut self) -> Worker<'g, Served<S, J, B>> {
         Worker::new(self.alloc(), self.seat(0))
     }
@@ -158,6 +169,25 @@ where
     }
 }
 
+/// Does the work at the desk, and once all jobs that it started have ended tells the workers to.
+fn work_and_end<Rt, D, V, J, K, A>(
+    rt: &Rt,
+    desk: &mut D,
+    work: K,
+    has_workers: bool,
+) -> (A, Result<(), NoMemory>)
+where
+    Rt: Threads + Wait + Sync,
+    D: Team<V>,
+    J: Run + Send + Drop,
+    K: Work<D, J, Output = A> + Drop,
+    ensures done { K.gives work result.0 }
+    ensures told { OnOk result.1 ((before : D) × D.told before desk.new) }
+{
+    let answer = work_or_give_up(rt, desk, work, has_workers);
+    (answer, desk.end_workers(rt))
+}
+
 /// Does the work at the desk with so many workers beside, and returns once all of these have ended
 /// too: they are told to stop when the jobs that it started have ended.
 fn beside_workers<Rt, D, V, J, K, A>(
@@ -181,8 +211,7 @@ where
             ensures { K.gives work result.0 }
         {
             let has_workers = start_workers(rt, scope, desk, workers);
-            let answer = work_or_give_up(rt, desk, work, has_workers);
-            (answer, desk.end_workers(rt))
+            work_and_end(rt, desk, work, has_workers)
         },
     )
 }
