@@ -1,5 +1,6 @@
-//! Runs the worked rows and the tables of cases that lie in `data/`, prints which of them differ
-//! and how many of each file passed, and ends with 1 where one differs or a file can't be read.
+//! Runs the worked rows and the tables of cases that lie in `data/`, prints which of them differ,
+//! how many of each file passed and how many files there were, and ends with 1 where one differs, a
+//! file can't be read or a folder has none.
 //!
 //! `data/rows/` has files of rows, each what dsd is given and what has to come of it:
 //!
@@ -31,13 +32,17 @@
 //! call is given, an arrow `=>`, and what it answers. `data/README` has all of it.
 #![tactic(auto)]
 
-ghost use Rattle.std.specs.Prelude.{◌≡◌, ◌≢◌, ◌≤◌, [], None, IfOk, IfErr};
+ghost use Rattle.std.specs.Prelude.{◌≡◌, ◌≢◌, ◌≤◌, ◌⊎◌, [], length, None, IfOk, IfErr, OnOk};
+ghost use Rattle.row_cases.specs.Findings.{capped_sum};
 ghost use Rattle.row_cases.specs.Tables.{table_named as codec_table_named};
 ghost use Rattle.row_cases.specs.declared.faults.Fault.TheVariants as fault;
 ghost use Rattle.row_schemas.specs.Tables.{table_named};
 ghost use Rattle.dsd_rows.specs.Files.{FileHolds, TableHolds};
 
-use row_cases::{Fault, Findings, Tally, one_difference};
+mod ran;
+
+use crate::ran::Ran;
+use row_cases::{Fault, Findings, one_difference};
 use row_schemas::find_table;
 use std::alloc::{AllocError, Global};
 use std::process::ExitCode;
@@ -64,50 +69,75 @@ impl Folder {
 
 fn main(rt: HostRuntime) -> ExitCode {
     match run(&rt) {
-        Ok(tally) if tally.is_clean() => ExitCode::SUCCESS,
+        Ok(ran) if ran.cases.is_clean() => ExitCode::SUCCESS,
         _ => ExitCode::FAILURE,
     }
 }
 
-/// Runs all files, and prints what came of each.
-fn run<R: Runtime + AllocGlobal>(rt: &R) -> io::Result<Tally> {
-    let mut tally = Tally::new();
-    for folder in [Folder::Rows, Folder::Steps, Folder::Tables] {
-        run_folder(rt, folder, &mut tally)?;
-    }
-    let (passed, failed) = (tally.passed, tally.failed);
-    println!(rt; "rows: {passed} passed, {failed} failed")?;
-    Ok(tally)
+/// Runs all files, and prints what came of each. Where nothing differs, a file of each folder at
+/// least was run.
+fn run<R: Runtime + AllocGlobal>(rt: &R) -> io::Result<Ran>
+    ensures { IfOk result (λ ran. ran.cases.failed ≡ 0 → 3 ≤ ran.files) }
+{
+    let mut ran = Ran::nothing();
+    run_folder(rt, Folder::Rows, &mut ran)?;
+    run_folder(rt, Folder::Steps, &mut ran)?;
+    run_folder(rt, Folder::Tables, &mut ran)?;
+    let files = ran.files;
+    let (passed, failed) = (ran.cases.passed, ran.cases.failed);
+    println!(rt; "rows: {files} files, {passed} passed, {failed} failed")?;
+    Ok(ran)
 }
 
-/// Runs the files of a folder, in the order of their names.
-fn run_folder<R: Runtime + AllocGlobal>(rt: &R, folder: Folder, tally: &mut Tally) -> io::Result<()>
-    ensures lasting { tally.old.failed ≤ tally.new.failed }
+/// Runs the files of a folder, in the order of their names. One that can't be listed, or in which
+/// nothing lies, is one difference.
+fn run_folder<R: Runtime + AllocGlobal>(rt: &R, folder: Folder, ran: &mut Ran) -> io::Result<()>
+    ensures some { OnOk result ((capped_sum ran.old.files 1 ≤ ran.new.files)
+        ⊎ (1 ≤ ran.new.cases.failed)) }
+    ensures more { ran.old.files ≤ ran.new.files }
+    ensures lasting { ran.old.cases.failed ≤ ran.new.cases.failed }
 {
     let name = folder.name();
     match names_in(rt, name) {
-        Ok(names) => run_files(rt, folder, &names, tally),
-        Err(_) => {
-            println!(rt; "{name}: it can't be listed")?;
-            tally.add(&one_difference(rt.alloc(), name)?);
-            Ok(())
-        }
+        Ok(names) if !names.is_empty() => run_files(rt, folder, &names, ran),
+        Ok(_) => fail_folder(rt, name, "nothing lies in it", ran),
+        Err(_) => fail_folder(rt, name, "it can't be listed", ran),
     }
 }
 
+/// A difference for a folder, of which no file is run.
+fn fail_folder<R: Runtime + AllocGlobal>(
+    rt: &R,
+    folder: &str,
+    why: &str,
+    ran: &mut Ran,
+) -> io::Result<()>
+    ensures failed { OnOk result (1 ≤ ran.new.cases.failed) }
+    ensures same { ran.new.files ≡ ran.old.files }
+    ensures lasting { ran.old.cases.failed ≤ ran.new.cases.failed }
+{
+    println!(rt; "{folder}: {why}")?;
+    ran.add_fault(&one_difference(rt.alloc(), why)?);
+    Ok(())
+}
+
+/// Runs the files of these names.
 fn run_files<R: Runtime + AllocGlobal>(
     rt: &R,
     folder: Folder,
     names: &[String],
-    tally: &mut Tally,
+    ran: &mut Ran,
 ) -> io::Result<()>
-    ensures lasting { tally.old.failed ≤ tally.new.failed }
+    ensures files { OnOk result
+        (ran.new.files ≡ capped_sum ran.old.files (length names.now)) }
+    ensures more { ran.old.files ≤ ran.new.files }
+    ensures lasting { ran.old.cases.failed ≤ ran.new.cases.failed }
 {
     for name in names {
         let name = name.as_str();
         let findings = findings_of(rt, folder, name)?;
         print_findings(rt, folder.name(), name, &findings)?;
-        tally.add(&findings);
+        ran.add(&findings);
     }
     Ok(())
 }

@@ -7,8 +7,8 @@ use Rattle.out_ports.specs.declared.streams.ReadFault.TheVariants as reading
 use Rattle.sc_script.specs.Runs.{Cause, bad, limit, config}
 use Rattle.dsd_top.specs.Commands.{IsOfTable, HasText, IsRightlyAsked, made_by, told_by}
 use Rattle.dsd_top.specs.Schemas.{Files}
-use Rattle.dsd_top.specs.Statuses.{IsStatus, statuses_by, statuses_told, statuses_of, IfTold, status_of, IsBehindInput}
-use Rattle.dsd_top.specs.Statuses.{IsBadInput, IsOver, IsBadConfig, IsBadInputAt, IsOverAt}
+use Rattle.dsd_top.specs.Statuses.{IsStatus, statuses_by, statuses_told, statuses_of, IfTold, IfAsked, status_of}
+use Rattle.dsd_top.specs.Statuses.{IsBehindInput, IsBadInput, IsOver, IsBadConfig, IsBadInputAt, IsOverAt}
 use Rattle.dsd_top.specs.Statuses.{IsBadConfigAt, Stands, IsToldFault, IsUntold, StopsTelling, from_read}
 use Rattle.dsd_top.specs.declared.faults.Fault.{Fault}
 use Rattle.dsd_top.specs.declared.faults.Fault.TheVariants.{BadInput, BadWords, ReadFailed, WriteFailed, NoMemory}
@@ -19,7 +19,7 @@ use Rattle.dsd_top.specs.declared.words.Command.TheVariants.{Make, Check}
 use Rattle.dsd_top.specs.declared.words.Notice.{Notice}
 use Rattle.dsd_top.specs.declared.words.Notice.TheVariants.{Usage, Version, Reference, Load}
 use Rattle.dsd_top.specs.declared.words.Request.{Request}
-use Rattle.dsd_top.specs.declared.words.Request.TheVariants.{Tell}
+use Rattle.dsd_top.specs.declared.words.Request.TheVariants.{Do, Tell}
 
 pub is_status : (f : Fault) → IsStatus (status_of f)
 is_status (BadInput n) = (1, lit< tt, refl)
@@ -129,17 +129,18 @@ none_is (BadConfig n) e = absurd (omega arith)
 
 -- ---- what a cause of a status says
 
-told_at : (At : Files → Command → List ℕ → ℕ → Type 0) (files : Files) (c : Option Command) (left : Option (List ℕ))
-    (n : ℕ) → IfTold c left (λ k bytes. At files k bytes n)
-    → IfTold c left (λ k bytes. (m : ℕ) × At files k bytes m)
-told_at At files None left n h = tt
-told_at At files (Some c) None n h = tt
-told_at At files (Some c) (Some bytes) n h = (n, h)
+told_at : (At : Files → Command → List ℕ → ℕ → Type 0) (Stops : ℕ → Notice → Type 0) (files : Files)
+    (o : Option Request) (left : Option (List ℕ)) (n : ℕ) → IfAsked o left (λ k bytes. At files k bytes n) (Stops n)
+    → IfTold (made_by o) left (λ k bytes. (m : ℕ) × At files k bytes m)
+told_at At Stops files None left n h = tt
+told_at At Stops files (Some (Do c)) None n h = tt
+told_at At Stops files (Some (Do c)) (Some bytes) n h = (n, h)
+told_at At Stops files (Some (Tell t)) left n h = tt
 
 module _ (o : Option Request) (files : Files) (left : Option (List ℕ)) where
   pub input_is_bad : (f : Fault) → Stands o files left f → status_of f ≡ 1
       → IfTold (made_by o) left (IsBadInput files)
-  input_is_bad (BadInput n) h e = told_at IsBadInputAt files (made_by o) left n h
+  input_is_bad (BadInput n) h e = told_at IsBadInputAt (λ k t. StopsTelling t (bad k)) files o left n h
   input_is_bad BadWords h e = absurd (omega arith)
   input_is_bad ReadFailed h e = absurd (omega arith)
   input_is_bad WriteFailed h e = absurd (omega arith)
@@ -153,7 +154,7 @@ module _ (o : Option Request) (files : Files) (left : Option (List ℕ)) where
   input_is_over ReadFailed h e = absurd (omega arith)
   input_is_over WriteFailed h e = absurd (omega arith)
   input_is_over NoMemory h e = absurd (omega arith)
-  input_is_over (Limit w) h e = told_at IsOverAt files (made_by o) left w h
+  input_is_over (Limit w) h e = told_at IsOverAt (λ k t. StopsTelling t (limit k)) files o left w h
   input_is_over (BadConfig n) h e = absurd (omega arith)
 
   pub config_is_bad : (f : Fault) → Stands o files left f → status_of f ≡ 7
@@ -164,7 +165,7 @@ module _ (o : Option Request) (files : Files) (left : Option (List ℕ)) where
   config_is_bad WriteFailed h e = absurd (omega arith)
   config_is_bad NoMemory h e = absurd (omega arith)
   config_is_bad (Limit w) h e = absurd (omega arith)
-  config_is_bad (BadConfig n) h e = told_at IsBadConfigAt files (made_by o) left n h
+  config_is_bad (BadConfig n) h e = told_at IsBadConfigAt (λ k t. StopsTelling t (config k)) files o left n h
 
   pub words_are_bad : (f : Fault) → Stands o files left f → status_of f ≡ 2 → IsOfTable o → ⊥
   words_are_bad (BadInput n) h e = absurd (omega arith)
@@ -180,13 +181,13 @@ module _ (o : Option Request) (files : Files) (left : Option (List ℕ)) where
 -- what a cause says of a notice, it says of what asks for it
 pub told_stands : (n : Notice) (files : Files) (left : Option (List ℕ)) (f : Fault) → IsToldFault n f
     → Stands (Some (Tell n)) files left f
-told_stands n files left (BadInput k) h = tt
+told_stands n files left (BadInput k) h = h
 told_stands n files left BadWords h = h
 told_stands n files left ReadFailed h = absurd h
 told_stands n files left WriteFailed h = tt
 told_stands n files left NoMemory h = tt
-told_stands n files left (Limit w) h = tt
-told_stands n files left (BadConfig k) h = tt
+told_stands n files left (Limit w) h = h
+told_stands n files left (BadConfig k) h = h
 
 -- what has a text, or stops, is rightly asked for
 text_right : (n : Notice) → HasText n → IsRightlyAsked n

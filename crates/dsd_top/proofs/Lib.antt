@@ -2,6 +2,7 @@ pub mod Adding
 pub mod Causes
 pub mod Fronts
 pub mod InForm
+pub mod Kept
 pub mod Minted
 pub mod Readiness
 pub mod Readings
@@ -9,4 +10,5 @@ pub mod Refusals
 pub mod Reported
 pub mod Saying
 pub mod Telling
+pub mod Verifying
 pub mod Within

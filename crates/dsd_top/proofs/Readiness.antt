@@ -6,6 +6,7 @@ use Rattle.ps_schema.specs.Names.{knows}
 use Rattle.sc_events.specs.declared.inputs.Form.TheVariants as input
 use Rattle.dsd_top.specs.Asked.{Checking}
 use Rattle.dsd_top.specs.Forms.{verdict_by}
+use Rattle.dsd_top.specs.Inputs.{kept_of}
 use Rattle.dsd_top.specs.Makings.{IsMadeOf}
 use Rattle.dsd_top.specs.Schemas.{Files, IsSchemaIn}
 use Rattle.dsd_top.specs.Statuses.{statuses_by, status_of, IsBehindInput, Stands, IsAnswerOf, IsAnswered, IsCut}
@@ -22,6 +23,7 @@ use Rattle.dsd_top.specs.declared.words.Command.{Command}
 use Rattle.dsd_top.specs.declared.words.Command.TheVariants.{Make, Check}
 use Rattle.dsd_top.specs.declared.words.Request.TheVariants.{Do}
 use Rattle.dsd_top.proofs.Causes.{within}
+use Rattle.dsd_top.proofs.Kept.{answer_of_all, cause_of_all}
 
 module _ (files : Files) where
   pub can_judge : (c : Command) (w : Work) → IsReady files c w → CanJudge w
@@ -156,30 +158,35 @@ module _ (files : Files) where
   untold_stands c w bytes (BadConfig n) h k = tt
 
   pub stands : (c : Command) (w : Work) (left : Option (List ℕ)) (bytes : List ℕ) (f : Fault)
-      → IfSome left (λ all. bytes ≡ all) → IsReady files c w → IsCauseBy w bytes f → Stands (Some (Do c)) files left f
+      → IfSome left (λ all. bytes ≡ kept_of all) → IsReady files c w → IsCauseBy w bytes f
+      → Stands (Some (Do c)) files left f
   stands c w None bytes f read h k = untold_stands c w bytes f h k
   stands c w (Some all) bytes f read h k =
-      let P : List ℕ → Type 0 = λ b. Stands (Some (Do c)) files (Some b) f in
-      subst P read (told_stands c w bytes f h k)
+      let of_kept : IsCauseBy w (kept_of all) f = subst (λ b. IsCauseBy w b f) read k in
+      told_stands c w all f h (cause_of_all all w f of_kept)
 
   -- ---- what is written
 
-  if_read : (left : Option (List ℕ)) (bytes : List ℕ) (P : List ℕ → Type 0) → IfSome left (λ all. bytes ≡ all)
-      → P bytes → IfSome left P
-  if_read None bytes P read p = tt
-  if_read (Some all) bytes P read p = subst P read p
+  -- what holds of an input with what is made of it, by what is made of what is kept
+  if_read : (w : Work) (left : Option (List ℕ)) (bytes out : List ℕ) (P : List ℕ → Type 0)
+      → IfSome left (λ all. bytes ≡ kept_of all) → IsAnswerBy w bytes out
+      → ((all : List ℕ) → IsAnswerBy w all out → P all) → IfSome left P
+  if_read w None bytes out P read by p = tt
+  if_read w (Some all) bytes out P read by p =
+      let of_kept : IsAnswerBy w (kept_of all) out = subst (λ b. IsAnswerBy w b out) read by in
+      p all (answer_of_all all w out of_kept)
 
   module _ (c : Command) (w : Work) (ready : IsReady files c w) (left : Option (List ℕ)) (bytes : List ℕ)
-      (read : IfSome left (λ all. bytes ≡ all)) (out : List ℕ) (by : IsAnswerBy w bytes out)
+      (read : IfSome left (λ all. bytes ≡ kept_of all)) (out : List ℕ) (by : IsAnswerBy w bytes out)
       (before now : Option (List ℕ)) (given : List ℕ) (same : given ≡ out) where
     pub answered_all : Appends before now given → IfSome left (λ all. IsAnswered files c all before now)
     answered_all a =
         let As : List ℕ → Type 0 = λ o. Appends before now o in
-        if_read left bytes (λ all. IsAnswered files c all before now) read
-        (out, answered c w bytes out ready by, subst As same a)
+        if_read w left bytes out (λ all. IsAnswered files c all before now) read by
+        (λ all made. (out, answered c w all out ready made, subst As same a))
 
     pub answered_front : AppendsFront before now given → IfSome left (λ all. IsCut files c all before now)
     answered_front a =
         let As : List ℕ → Type 0 = λ o. AppendsFront before now o in
-        if_read left bytes (λ all. IsCut files c all before now) read
-        (out, answered c w bytes out ready by, subst As same a)
+        if_read w left bytes out (λ all. IsCut files c all before now) read by
+        (λ all made. (out, answered c w all out ready made, subst As same a))

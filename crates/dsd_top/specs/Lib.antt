@@ -1,6 +1,8 @@
 pub mod Asked
 pub mod Commands
 pub mod Forms
+pub mod Inputs
+pub mod Laws
 pub mod Limits
 pub mod Lines
 pub mod Loading

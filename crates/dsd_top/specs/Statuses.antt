@@ -9,7 +9,7 @@ use Rattle.sc_script.specs.declared.faults.ScriptFault.{ScriptFault}
 use Rattle.sc_script.specs.declared.faults.ScriptFault.TheVariants as stopped
 use Rattle.sc_script.specs.Runs as run
 use Rattle.dsd_top.specs.Asked.{Checking}
-use Rattle.dsd_top.specs.Commands.{made_by, IsOfTable, IsTextOf, HasText, IsRightlyAsked}
+use Rattle.dsd_top.specs.Commands.{IsOfTable, IsTextOf, HasText, IsRightlyAsked}
 use Rattle.dsd_top.specs.Forms.{verdict_by}
 use Rattle.dsd_top.specs.Loading.{StopsLoad}
 use Rattle.dsd_top.specs.Makings.{IsMadeOf, IsMalformedAt, IsTooLong, PassesLimit, IsUnschemedAt}
@@ -141,20 +141,30 @@ status_of (fault.BadConfig n) = 7
 abbrev pub IsBehindInput : Command → Fault → Type 0
 IsBehindInput c f = (status_of f ≢ 3) × (status_of f ≢ 5) × (status_of f ≡ 7 → file_of (Some c) ≡ None)
 
--- what a cause says of what is asked for, of the host's files and of the input, with its number
-abbrev pub Stands : Option Request → Files → Option (List ℕ) → Fault → Type 0
-Stands o files left (fault.BadInput n) = IfTold (made_by o) left (λ c bytes. IsBadInputAt files c bytes n)
-Stands o files left fault.BadWords = IsOfTable o → ⊥
-Stands o files left fault.ReadFailed = Unit {0}
-Stands o files left fault.WriteFailed = Unit {0}
-Stands o files left fault.NoMemory = Unit {0}
-Stands o files left (fault.Limit w) = IfTold (made_by o) left (λ c bytes. IsOverAt files c bytes w)
-Stands o files left (fault.BadConfig n) = IfTold (made_by o) left (λ c bytes. IsBadConfigAt files c bytes n)
-
 -- what a notice runs stops for this cause
 abbrev pub StopsTelling : Notice → run.Cause → Type 0
 StopsTelling (Load l) c = StopsLoad l c
 StopsTelling n c = ⊥
+
+-- the words ask for a command, of which this holds with the input where that is told, or for a notice, of which that
+-- holds
+abbrev pub IfAsked : Option Request → Option (List ℕ) → (Command → List ℕ → Type 0) → (Notice → Type 0) → Type 0
+IfAsked None left P Q = ⊥
+IfAsked (Some (Do c)) left P Q = IfSome left (P c)
+IfAsked (Some (Tell n)) left P Q = Q n
+
+-- what a cause says of what is asked for, of the host's files and of the input, with its number
+abbrev pub Stands : Option Request → Files → Option (List ℕ) → Fault → Type 0
+Stands o files left (fault.BadInput n) =
+    IfAsked o left (λ c bytes. IsBadInputAt files c bytes n) (λ t. StopsTelling t (run.bad n))
+Stands o files left fault.BadWords = IsOfTable o → ⊥
+Stands o files left fault.ReadFailed = Unit {0}
+Stands o files left fault.WriteFailed = Unit {0}
+Stands o files left fault.NoMemory = Unit {0}
+Stands o files left (fault.Limit w) =
+    IfAsked o left (λ c bytes. IsOverAt files c bytes w) (λ t. StopsTelling t (run.limit w))
+Stands o files left (fault.BadConfig n) =
+    IfAsked o left (λ c bytes. IsBadConfigAt files c bytes n) (λ t. StopsTelling t (run.config n))
 
 -- what a cause says of a notice
 abbrev pub IsToldFault : Notice → Fault → Type 0

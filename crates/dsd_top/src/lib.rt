@@ -5,6 +5,8 @@ mod answers;
 mod conformance;
 mod faults;
 mod forms;
+mod inputs;
+mod laws;
 mod lines;
 mod loading;
 mod minting;
@@ -16,6 +18,7 @@ mod words;
 
 pub use conformance::Conformance;
 pub use faults::Fault;
+pub use laws::minted_references_verify;
 pub use lines::{refuse, say};
 pub use once::dsd_once;
 pub use sc_script::{next_is_decided, one_course, one_reading};

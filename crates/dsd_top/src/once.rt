@@ -15,12 +15,13 @@ ghost use Rattle.dsd_top.specs.declared.words.Request.TheVariants.{Do};
 
 use crate::answers::{answer, ready};
 use crate::faults::Fault;
+use crate::inputs::read_input;
 use crate::lines::refuse;
 use crate::loading::load_line;
 use crate::minting::reference_line;
 use crate::words::{Command, Notice, Request, find_request, usage, version};
 use out_ports::ports::{Host, Sink, Source};
-use out_ports::streams::{read_to_end, write_all};
+use out_ports::streams::write_all;
 use std::alloc::Global;
 
 /// Reads the file that the command names, then the whole input, and writes what comes of it.
@@ -59,7 +60,7 @@ fn do_command<I: Source, O: Sink, H: Host>(
         × (H.faults host.old ≤ H.faults host.new) }
 {
     let work = ready(alloc, command, host)?;
-    let bytes = read_to_end(alloc, input)?;
+    let bytes = read_input(alloc, input)?;
     let answer = answer(alloc, &work, &bytes)?;
     write_all(out, &answer)?;
     Ok(())
