@@ -12,3 +12,7 @@ then_if (Err e) f a = tt
 pub then_two : {X E A B C : Type 0} (r : Result X E) → (A → B → C) → OnOk r A → OnOk r B → OnOk r C
 then_two (Ok x) f a b = f a b
 then_two (Err e) f a b = tt
+
+pub then_three : {X E A B C D : Type 0} (r : Result X E) → (A → B → C → D) → OnOk r A → OnOk r B → OnOk r C → OnOk r D
+then_three (Ok x) f a b c = f a b c
+then_three (Err e) f a b c = tt

@@ -1,12 +1,12 @@
 -- Nothing is in order, and is the index of nothing.
-use Rattle.std.proofs.Common.{◌≡◌, ℕ, List, [], refl, sym, ◌∙◌, subst}
+use Rattle.std.proofs.Common.{◌≡◌, ℕ, List, [], refl, sym, subst}
 use Rattle.std.specs.List.Sorted.{IsStrictlySortedBy}
 use Rattle.std.specs.Map.{keys_of}
 use Rattle.pv_value.specs.Plain.{Plain}
 use Rattle.pv_value.specs.EntryOrder.{entry_order}
 use Rattle.pv_value.specs.declared.Entry.{Entry}
 use Rattle.ds_skeleton.specs.Places.{outline_order}
-use Rattle.ds_skeleton.specs.Shapes.{Shape, AreInOrder}
+use Rattle.ds_skeleton.specs.Shapes.{Shape}
 use Rattle.ds_skeleton.specs.Indexes.{IsIndexOf}
 
 pub none_ascend : (qs : List Entry) → qs ≡ [] → IsStrictlySortedBy entry_order qs
@@ -21,6 +21,7 @@ nothing : IsIndexOf [] [] []
 nothing = record {
   in_order = nothing_ordered;
   outlines_are = λ s. refl;
+  leaves_are = λ p. refl;
   counts = λ p c. refl;
   observers = λ p o. refl;
 }

@@ -14,12 +14,12 @@ use Rattle.ds_skeleton.specs.Places.{Place, Parts, same_outline, same_place, pla
 use Rattle.ds_skeleton.specs.Places.{is_found}
 use Rattle.ds_skeleton.specs.Places.{catches_by, count}
 use Rattle.ds_skeleton.specs.Leaves.{Leaf, leaf_at, captured_at, observed_at}
-use Rattle.ds_skeleton.specs.Shapes.{Shape, shape_at, is_kept, leaf_of, AreInOrder}
+use Rattle.ds_skeleton.specs.Shapes.{Shape, shape_at, is_kept, leaf_of, has_leaf, AreInOrder}
 use Rattle.ds_skeleton.specs.Indexes.{IsIndexOf, touched, touched_by, own, own_by, goes_with, only_in}
 use Rattle.ds_skeleton.proofs.Counts.{any-count}
 use Rattle.ds_skeleton.proofs.Found.{any_found, none_found}
-use Rattle.ds_skeleton.proofs.Same.{outline_is, outline_self}
-use Rattle.ds_skeleton.proofs.Kept.{covered}
+use Rattle.ds_skeleton.proofs.Same.{outline_is}
+use Rattle.ds_skeleton.proofs.Kept.{covered, watched}
 
 pub any_with : {X : Type 0} (p : X → Bool) (r : X → Bool) (b : Bool) (xs : List X) → ((x : X) → p x ≡ (r x && b))
     → list_any p xs ≡ (list_any r xs && b)
@@ -187,13 +187,14 @@ exact_present vs ws S v s k q o drop gone count_is obs has e =
 exact_by : (vs ws : List Plain) (S : List Shape) (v : Plain) (q : Entry) (so : Option Place) → AreInOrder S
     → ((f : Plain → Bool) → count f vs ≡ count f ws + cond (f v) 1 0) → among v ws ≡ false
     → ((p : Place) (c : Plain) → captured_at (leaf_of S p) c
-    ≡ cond (is_kept S p.outline) (count (stands p.outline p.constants c) vs) 0)
+    ≡ cond (has_leaf S p) (count (stands p.outline p.constants c) vs) 0)
     → ((p : Place) → observed_at (leaf_of S p) q.key ≡ (among q.key vs && is_placed so p))
     → ((p : Place) → among q.key vs ≡ true → so ≡ Some p → is_kept S p.outline ≡ true)
+    → ((p : Place) → among q.key vs ≡ true → so ≡ Some p → has_leaf S p ≡ true)
     → (list_any (touched v q) S || (same v q.key && own_by S so q.value))
     ≡ ((among q.key vs && list_any (catches_by so q.value) vs) && not
     (among q.key ws && list_any (catches_by so q.value) ws))
-exact_by vs ws S v q None o drop gone counts obs covered =
+exact_by vs ws S v q None o drop gone counts obs covered watched =
     rw (
       none_touched S v q o (λ p. obs p ∙ no (among q.key vs)),
       any_none (λ x. catches_by None q.value x) vs
@@ -211,7 +212,7 @@ exact_by vs ws S v q None o drop gone counts obs covered =
     last true false d = refl
     last false true d = refl
     last false false d = refl
-exact_by vs ws S v q (Some p) o drop gone counts obs covered = by (among q.key vs) refl
+exact_by vs ws S v q (Some p) o drop gone counts obs covered watched = by (among q.key vs) refl
   where
     at_place : (b d : Bool) → b ≡ true → (b && d) ≡ d
     at_place true d e = refl
@@ -225,7 +226,7 @@ exact_by vs ws S v q (Some p) o drop gone counts obs covered = by (among q.key v
         (among q.key ws && list_any (catches_by (Some p) q.value) ws) o drop obs e
     by true e =
         exact_present vs ws S v p.outline p.constants q o drop gone
-        (counts p q.value ∙ ap (λ b. cond b (count (stands p.outline p.constants q.value) vs) 0) (covered p e refl))
+        (counts p q.value ∙ ap (λ b. cond b (count (stands p.outline p.constants q.value) vs) 0) (watched p e refl))
         (λ r. obs r ∙ at_place (among q.key vs) (same_place p r) e)
         (covered p e refl) e
         ∙ ap (λ t. t && not (among q.key ws && list_any (catches_by (Some p) q.value) ws))
@@ -238,4 +239,4 @@ pub exact : (vs ws : List Plain) (S : List Shape) (v : Plain)
 exact vs ws S v drop gone index q =
     ap (λ t. list_any (touched v q) S || t) (own_is S v q)
     ∙ exact_by vs ws S v q (place_of q.key) index.in_order drop gone index.counts (λ p. index.observers p q.key)
-    (λ p. covered vs vs S index q.key p)
+    (λ p. covered vs vs S index q.key p) (λ p. watched vs vs S index q.key p)

@@ -1,5 +1,5 @@
 -- To whom a message goes: the observations that the index finds are those that capture something of it.
-use Rattle.std.proofs.Common.{◌≡◌, ℕ, ◌+◌, List, [], ◌∷◌, ◌++◌, map, Bool, true, false, ◌&&◌, ◌||◌}
+use Rattle.std.proofs.Common.{◌≡◌, ◌+◌, List, [], ◌∷◌, ◌++◌, map, Bool, true, false, ◌&&◌, ◌||◌}
 use Rattle.std.proofs.Common.{Option, Some, None, option_and_then, refl, ap, sym, ◌∙◌, arith}
 use Rattle.std.specs.List.{list_any, flat_map, AllByRecursion}
 use Rattle.std.specs.List.Sorted.{IsStrictlySortedBy}
@@ -22,7 +22,7 @@ use Rattle.ds_space.specs.Wants.{captured}
 use Rattle.ds_space.specs.Changes.{among}
 use Rattle.ds_space.specs.declared.space.Fanned.{Fanned}
 use Rattle.ds_space.specs.Fans.{fan_for, fan_of, weight_of_fanned}
-use Rattle.ds_space.specs.Lemmas.Keys.{same_is, same_turns, any_flat, any_none}
+use Rattle.ds_space.specs.Lemmas.Keys.{same_is, same_turns, any_flat}
 use Rattle.ds_space.specs.Lemmas.Lists.{in_order, ascending_any}
 use Rattle.ds_skeleton.specs.Places.{Place, Parts, same_entry, same_outline, same_place, place_of, is_placed, stand}
 use Rattle.ds_skeleton.specs.Places.{stands}

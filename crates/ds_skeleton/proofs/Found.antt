@@ -1,16 +1,15 @@
 -- Shapes in the order of their outlines: each is found by its outline.
-use Rattle.std.proofs.Common.{◌≡◌, ℕ, zero, suc, ◌+◌, ◌<◌, ◌≤◌, List, [], ◌∷◌, ◌++◌, length, take, drop, map, slice_set}
-use Rattle.std.proofs.Common.{slice_index_or, Bool, true, false, cond, ◌&&◌, ◌||◌, Option, Some, None, is_some, refl, ap}
-use Rattle.std.proofs.Common.{sym, ◌∙◌, subst, arith}
-use Rattle.std.specs.declared.cmp.Ordering.{Ordering}
-use Rattle.std.specs.declared.cmp.Ordering.TheVariants.{Less, Equal, Greater}
+use Rattle.std.proofs.Common.{◌≡◌, List, [], ◌∷◌, map}
+use Rattle.std.proofs.Common.{Bool, true, false, cond, ◌&&◌, ◌||◌, Option, Some, is_some, refl, ap}
+use Rattle.std.proofs.Common.{◌∙◌}
+use Rattle.std.specs.declared.cmp.Ordering.TheVariants.{Less}
 use Rattle.std.specs.Ordering.{is_eq}
 use Rattle.std.specs.List.{list_any, AllByRecursion}
 use Rattle.std.specs.List.Sorted.{IsStrictlySortedBy}
 use Rattle.ds_shape.specs.Outlines.{Outline}
 use Rattle.ds_skeleton.specs.Places.{outline_order, same_outline}
 use Rattle.ds_skeleton.specs.Shapes.{Shape, shape_at, is_kept, AreInOrder}
-use Rattle.ds_skeleton.proofs.Same.{outline_is, outline_self, outline_turns}
+use Rattle.ds_skeleton.proofs.Same.{outline_self, outline_turns}
 
 all_of : {X : Type 0} (P Q R : X → Type 0) → ((x : X) → P x → Q x → R x) → (xs : List X) → AllByRecursion P xs
     → AllByRecursion Q xs → AllByRecursion R xs
@@ -36,7 +35,9 @@ unfolding IsStrictlySortedBy
 each_found [] o = tt
 each_found (s ∷ ss) o = (
   ap (λ b. cond {A = Option Shape} b (Some s) (shape_at ss s.outline)) (outline_self s.outline),
-  all_of (λ x. outline_order s.outline x.outline ≡ Less) (Finds ss) (Finds (s ∷ ss)) (λ x below found. passes_on s x ss below found) ss (all_from (λ z. outline_order s.outline z ≡ Less) (λ x. x.outline) ss o.0) (each_found ss o.1),
+  all_of (λ x. outline_order s.outline x.outline ≡ Less) (Finds ss) (Finds (s ∷ ss))
+      (λ x below found. passes_on s x ss below found) ss
+      (all_from (λ z. outline_order s.outline z ≡ Less) (λ x. x.outline) ss o.0) (each_found ss o.1),
 )
 
 none_of : {X : Type 0} (P : X → Type 0) (p : X → Bool) (xs : List X) → AllByRecursion P xs

@@ -1,5 +1,5 @@
 -- Laws of the index.
-use Rattle.std.proofs.Common.{◌≡◌, ℕ, ◌+◌, List, [], ◌∷◌, Bool, true, cond, ◌&&◌, ltb, Some, refl, ap, sym, ◌∙◌}
+use Rattle.std.proofs.Common.{◌≡◌, ◌+◌, List, [], ◌∷◌, Bool, true, cond, ◌&&◌, ltb, Some, refl, ap, sym, ◌∙◌}
 use Rattle.std.specs.List.{list_any}
 use Rattle.pv_value.specs.Plain.{Plain}
 use Rattle.dp_pattern.specs.Patterns.{Pattern}
@@ -12,7 +12,7 @@ use Rattle.ds_skeleton.specs.Shapes.{Shape}
 use Rattle.ds_skeleton.specs.Indexes.{IsIndex}
 use Rattle.ds_skeleton.specs.Laws.{is_captures, counted, LeavesCountCaptures, CountsAreWants}
 use Rattle.ds_skeleton.proofs.Counts.{any-count}
-use Rattle.ds_skeleton.proofs.Kept.{covered}
+use Rattle.ds_skeleton.proofs.Kept.{watched}
 use Rattle.ds_skeleton.proofs.Wanted.{caught_by, wanted_is}
 
 abbrev at : Pattern → Place
@@ -32,7 +32,7 @@ counted_at : (vs : List Plain) (S : List Shape) → IsIndex vs S
 counted_at vs S index o p e f c =
     index.counts (at p) c
     ∙ ap (λ b. cond b (count (stands (outline_of p) (constants_of p) c) vs) 0)
-    (covered vs vs S index o (at p) e (at_place o p f))
+    (watched vs vs S index o (at p) e (at_place o p f))
 
 pub leaves_count : LeavesCountCaptures
 leaves_count vs S index o p e f c =

@@ -1,4 +1,5 @@
 pub mod Answered
+pub mod Captures
 pub mod Changed
 pub mod Comings
 pub mod Counts
@@ -19,6 +20,7 @@ pub mod Rows
 pub mod Same
 pub mod Steps
 pub mod Tallies
+pub mod Truths
 pub mod Walks
 pub mod Wanted
 pub mod Weights

@@ -1,24 +1,24 @@
 -- The index after an observation or a value has come or gone.
-use Rattle.std.proofs.Common.{◌≡◌, ℕ, zero, suc, ◌+◌, ◌-◌, List, ◌∷◌, Bool, true, false, cond, ◌&&◌, ◌||◌}
+use Rattle.std.proofs.Common.{◌≡◌, ℕ, suc, ◌+◌, ◌-◌, List, ◌∷◌, Bool, true, false, cond, ◌&&◌, ◌||◌}
 use Rattle.std.proofs.Common.{ltb, not, Option, Some, None, refl, ap, sym, ◌∙◌, subst, arith}
 use Rattle.std.specs.List.{list_any, AllZip}
-use Rattle.std.specs.Option.{is_some}
-use Rattle.std.proofs.lemmas.Bool.Decides.{nat_tests}
 use Rattle.pv_value.specs.Plain.{Plain}
 use Rattle.pv_words.specs.Parts.{same}
 use Rattle.ds_shape.specs.Outlines.{Outline}
 use Rattle.ds_space.specs.Changes.{among}
 use Rattle.ds_space.specs.Lemmas.Keys.{same_is, same_turns}
-use Rattle.ds_skeleton.specs.Places.{Place, same_outline, same_place, place_of, is_placed, observes}
+use Rattle.ds_skeleton.specs.Places.{Place, same_outline, same_place, place_of, is_placed, observes, is_observed}
 use Rattle.ds_skeleton.specs.Places.{is_outlined, has_outline, stands, count}
 use Rattle.ds_skeleton.specs.Leaves.{number, kept, captured_at, observed_at}
-use Rattle.ds_skeleton.specs.Shapes.{Shape, IsBumped, IsDropped, observations_at, is_kept, leaf_of, AreInOrder}
+use Rattle.ds_skeleton.specs.Shapes.{Shape, IsBumped, IsDropped, observations_at, is_kept, leaf_of, has_leaf, AreInOrder}
 use Rattle.ds_skeleton.specs.Indexes.{IsIndexOf}
 use Rattle.ds_skeleton.proofs.Same.{outline_is, outline_self}
 use Rattle.ds_skeleton.proofs.Leaves.{number-kept}
-use Rattle.ds_skeleton.proofs.Kept.{kept_is, kept_is_some, is_some-kept}
+use Rattle.ds_skeleton.proofs.Kept.{kept_is}
+use Rattle.ds_skeleton.proofs.Truths.{or_true}
+use Rattle.ds_skeleton.proofs.Counts.{any-count}
 use Rattle.ds_skeleton.proofs.Exact.{among_with}
-use Rattle.ds_skeleton.proofs.Walks.{zip_each, keeps_bumped, keeps_dropped, each_in_order, each_observed, each_kept}
+use Rattle.ds_skeleton.proofs.Walks.{zip_each, keeps_bumped, keeps_dropped, each_in_order, each_observed, each_has}
 use Rattle.ds_skeleton.proofs.Walks.{each_seen, bumped, dropped}
 
 -- ---- an observation comes
@@ -48,20 +48,6 @@ outline_more t s v place seen x y w is at here e f =
     by true g = ap (λ o. Some (number o + 1)) (here s g) ∙ one_more (count (has_outline s) seen)
     by false g = e ∙ ap kept (none_more (count (has_outline s) seen))
 
-begun : (t d k b : Bool) (n x y : ℕ) → (t ≡ true → d ≡ k) → b ≡ (t || d) → x ≡ cond d n 0
-    → y ≡ x + cond (t && not k) n 0 → y ≡ cond b n 0
-begun true true true b n x y h i e f = omega (arith, ap (λ c. cond {A = ℕ} c n 0) i)
-begun true true false b n x y h i e f = absurd (clash (h refl))
-  where
-    clash : true ≡ false → ⊥
-    clash e = cc
-begun true false true b n x y h i e f = absurd (clash (h refl))
-  where
-    clash : false ≡ true → ⊥
-    clash e = cc
-begun true false false b n x y h i e f = omega (arith, ap (λ c. cond {A = ℕ} c n 0) i)
-begun false d k b n x y h i e f = omega (arith, ap (λ c. cond {A = ℕ} c n 0) i)
-
 observed_more : (sv ov w a : Bool) (x y : Bool) → (sv ≡ true → ov ≡ w) → x ≡ cond (w && sv) true y → y ≡ (a && ov)
     → x ≡ ((sv || a) && ov)
 observed_more true ov true a x y h e f = e ∙ sym (h refl)
@@ -73,41 +59,35 @@ observed_more true ov false a x y h e f = e ∙ f ∙ ap (λ t. a && t) (h refl)
 observed_more false ov true a x y h e f = e ∙ f
 observed_more false ov false a x y h e f = e ∙ f
 
--- where an outline is kept after one more observation has the outline t
-kept_more : (old new : List Shape) (t : Outline)
-    → ((s : Outline) → observations_at new s
-    ≡ cond (same_outline t s) (Some (number (observations_at old t) + 1)) (observations_at old s))
-    → (s : Outline) → is_kept new s ≡ (same_outline t s || is_kept old s)
-kept_more old new t put s =
-    kept_is_some new s ∙ ap is_some (put s) ∙ by (same_outline t s) (observations_at old s)
-    ∙ ap (λ b. same_outline t s || b) (sym (kept_is_some old s))
-  where
-    by : (b : Bool) (x : Option ℕ) → is_some (cond b (Some (number (observations_at old t) + 1)) x) ≡ (b || is_some x)
-    by true x = refl
-    by false x = refl
+counted_more : (w h b : Bool) (n x y : ℕ) → b ≡ (w || h) → x ≡ cond h n 0 → y ≡ cond (w && not h) n x → y ≡ cond b n 0
+counted_more true true b n x y i e f = f ∙ e ∙ sym (ap (λ c. cond {A = ℕ} c n 0) i)
+counted_more true false b n x y i e f = f ∙ sym (ap (λ c. cond {A = ℕ} c n 0) i)
+counted_more false h b n x y i e f = f ∙ e ∙ sym (ap (λ c. cond {A = ℕ} c n 0) i)
 
 pub observer_came : (vs others : List Plain) (S T : List Shape) (v : Plain) (place : Place)
     → place_of v ≡ Some place → IsIndexOf vs others S → AreInOrder T
-    → ((p : Place) (c : Plain) → captured_at (leaf_of T p) c ≡ captured_at (leaf_of S p) c
-    + cond (same_outline place.outline p.outline && not (is_kept S place.outline))
-    (count (stands p.outline p.constants c) vs) 0)
+    → ((p : Place) → has_leaf T p ≡ (same_place place p || has_leaf S p))
+    → ((p : Place) (c : Plain) → captured_at (leaf_of T p) c
+    ≡ cond (same_place place p && not (has_leaf S p)) (count (stands p.outline p.constants c) vs)
+    (captured_at (leaf_of S p) c))
     → ((p : Place) (o : Plain) → observed_at (leaf_of T p) o
     ≡ cond (same_place place p && same v o) true (observed_at (leaf_of S p) o))
     → ((s : Outline) → observations_at T s
     ≡ cond (same_outline place.outline s) (Some (number (observations_at S place.outline) + 1)) (observations_at S s))
     → IsIndexOf vs (v ∷ others) T
-observer_came vs others S T v place is index ordered begin seen put = record {
+observer_came vs others S T v place is index ordered leaves counts seen put = record {
   in_order = ordered;
   outlines_are = λ s.
       outline_more place.outline s v place others (observations_at S s) (observations_at T s)
       (observations_at S place.outline) is refl
       (λ u e. ap (observations_at S) (outline_is place.outline u e) ∙ index.outlines_are u)
       (index.outlines_are s) (put s);
+  leaves_are = λ p.
+      leaves p ∙ ap (λ b. b || has_leaf S p) (sym (ap (λ x. is_placed x p) is))
+      ∙ ap (λ b. observes v p || b) (index.leaves_are p);
   counts = λ p c.
-      begun (same_outline place.outline p.outline) (is_kept S p.outline) (is_kept S place.outline)
-      (is_kept T p.outline) (count (stands p.outline p.constants c) vs) (captured_at (leaf_of S p) c)
-      (captured_at (leaf_of T p) c) (λ e. ap (is_kept S) (sym (outline_is place.outline p.outline e)))
-      (kept_more S T place.outline put p.outline) (index.counts p c) (begin p c);
+      counted_more (same_place place p) (has_leaf S p) (has_leaf T p) (count (stands p.outline p.constants c) vs)
+      (captured_at (leaf_of S p) c) (captured_at (leaf_of T p) c) (leaves p) (index.counts p c) (counts p c);
   observers = λ p o.
       observed_more (same v o) (observes o p) (same_place place p) (among o others) (observed_at (leaf_of T p) o)
       (observed_at (leaf_of S p) o)
@@ -139,6 +119,7 @@ pub other_came : (vs seen : List Plain) (S : List Shape) (v : Plain)
 other_came vs seen S v is index = record {
   in_order = index.in_order;
   outlines_are = λ s. index.outlines_are s ∙ none_counted v s seen is;
+  leaves_are = λ p. index.leaves_are p ∙ ap (λ x. is_placed x p || is_observed seen p) (sym is);
   counts = index.counts;
   observers = λ p o.
       unobserved (same o v) (observes o p) (among o seen) (observed_at (leaf_of S p) o)
@@ -158,6 +139,7 @@ pub other_went : (vs seen : List Plain) (S : List Shape) (v : Plain)
 other_went vs seen S v is index = record {
   in_order = index.in_order;
   outlines_are = λ s. index.outlines_are s ∙ sym (none_counted v s seen is);
+  leaves_are = λ p. index.leaves_are p ∙ ap (λ x. is_placed x p || is_observed seen p) is;
   counts = index.counts;
   observers = λ p o.
       or_right (same o v) (observes o p) (among o seen) (observed_at (leaf_of S p) o)
@@ -191,20 +173,6 @@ outline_less t s v place seen x y w is at here e f = f ∙ by (same_outline t s)
         e ∙ ap (λ b. kept (cond b 1 0 + count (has_outline s) seen)) (has ∙ g)
         ∙ ap kept (none_less (count (has_outline s) seen))
 
-ended : (t d b : Bool) (m n x y : ℕ) → (t ≡ true → b ≡ ltb 1 m) → (t ≡ true → d ≡ true) → (t ≡ false → b ≡ d)
-    → x ≡ cond d n 0 → y ≡ x - cond (t && not (ltb 1 m)) n 0 → y ≡ cond b n 0
-ended true d b m n x y h i j e f = by (ltb 1 m) (h refl) f
-  where
-    g : x ≡ n
-    g = e ∙ ap (λ c. cond {A = ℕ} c n 0) (i refl)
-
-    by : (l : Bool) → b ≡ l → y ≡ x - cond (not l) n 0 → y ≡ cond b n 0
-    by true k r = let u : cond {A = ℕ} b n 0 ≡ n = ap (λ c. cond {A = ℕ} c n 0) k in omega (arith, g, u)
-    by false k r = let u : cond {A = ℕ} b n 0 ≡ 0 = ap (λ c. cond {A = ℕ} c n 0) k in omega (arith, g, u)
-ended false d b m n x y h i j e f =
-    let u : cond {A = ℕ} b n 0 ≡ cond d n 0 = ap (λ c. cond {A = ℕ} c n 0) (j refl) in
-    omega (arith, u)
-
 observed_less : (sv ov w a b x y : Bool) → (sv ≡ true → ov ≡ w) → (sv ≡ true → b ≡ false) → a ≡ (sv || b)
     → x ≡ cond (w && sv) false y → y ≡ (a && ov) → x ≡ (b && ov)
 observed_less true ov true a b x y h g i e f = e ∙ ap (λ t. t && ov) (sym (g refl))
@@ -216,10 +184,6 @@ observed_less true ov false a b x y h g i e f =
     none false = refl
 observed_less false ov true a b x y h g i e f = e ∙ f ∙ ap (λ t. t && ov) i
 observed_less false ov false a b x y h g i e f = e ∙ f ∙ ap (λ t. t && ov) i
-
-fewer : (n : ℕ) → is_some (kept (n - 1)) ≡ ltb 1 n
-fewer zero = refl
-fewer (suc n) = is_some-kept (suc n - 1) ∙ grind (arith, nat_tests)
 
 pub outlines_less : (vs seen : List Plain) (S T : List Shape) (v : Plain) (place : Place)
     → place_of v ≡ Some place → IsIndexOf vs (v ∷ seen) S
@@ -250,36 +214,29 @@ observers_less vs seen S T v place is gone index p o unseen =
     (λ e. subst (λ (x : Plain). among x seen ≡ false) (same_is v o e) gone)
     (ap (λ t. t || among o seen) (same_turns o v)) unseen (index.observers p o)
 
+counted_less : (t h : Bool) (n x y : ℕ) → (t ≡ true → h ≡ true) → x ≡ cond h n 0 → y ≡ cond t x 0 → y ≡ cond t n 0
+counted_less true h n x y i e f = f ∙ e ∙ ap (λ b. cond {A = ℕ} b n 0) (i refl)
+counted_less false h n x y i e f = f
+
 pub observer_went : (vs seen : List Plain) (S T : List Shape) (v : Plain)
     (place : Place) → place_of v ≡ Some place → IsIndexOf vs (v ∷ seen) S → AreInOrder T
-    → ((p : Place) (c : Plain) → captured_at (leaf_of T p) c ≡ captured_at (leaf_of S p) c
-    - cond (same_outline place.outline p.outline && not (ltb 1 (number (observations_at S place.outline))))
-    (count (stands p.outline p.constants c) vs) 0)
+    → ((p : Place) → has_leaf T p ≡ is_observed seen p)
+    → ((p : Place) (c : Plain) → captured_at (leaf_of T p) c ≡ cond (has_leaf T p) (captured_at (leaf_of S p) c) 0)
     → ((p : Place) (o : Plain) → observed_at (leaf_of T p) o ≡ (among o seen && observes o p))
     → ((s : Outline) → observations_at T s ≡ cond (same_outline place.outline s)
     (kept (number (observations_at S place.outline) - 1)) (observations_at S s))
     → IsIndexOf vs seen T
-observer_went vs seen S T v place is index ordered end observers put = record {
+observer_went vs seen S T v place is index ordered leaves counts observers put = record {
   in_order = ordered;
   outlines_are = outlines_less vs seen S T v place is index put;
+  leaves_are = leaves;
   counts = λ p c.
-      ended (same_outline place.outline p.outline) (is_kept S p.outline) (is_kept T p.outline)
-      (number (observations_at S place.outline)) (count (stands p.outline p.constants c) vs)
-      (captured_at (leaf_of S p) c) (captured_at (leaf_of T p) c) (λ e. kept_here p.outline e)
-      (λ e. ap (is_kept S) (sym (outline_is place.outline p.outline e)) ∙ was_kept vs seen S v place is index)
-      (λ e. kept_is_some T p.outline ∙ ap is_some (put p.outline)
-      ∙ ap (λ b. is_some (cond b (kept (number (observations_at S place.outline) - 1)) (observations_at S p.outline))) e
-      ∙ sym (kept_is_some S p.outline))
-      (index.counts p c) (end p c);
+      counted_less (has_leaf T p) (has_leaf S p) (count (stands p.outline p.constants c) vs)
+      (captured_at (leaf_of S p) c) (captured_at (leaf_of T p) c)
+      (λ e. index.leaves_are p ∙ or_true (observes v p) (is_observed seen p) (sym (leaves p) ∙ e))
+      (index.counts p c) (counts p c);
   observers = observers;
 }
-  where
-    kept_here : (s : Outline) → same_outline place.outline s ≡ true
-        → is_kept T s ≡ ltb 1 (number (observations_at S place.outline))
-    kept_here s e =
-        kept_is_some T s ∙ ap is_some (put s)
-        ∙ ap (λ b. is_some (cond b (kept (number (observations_at S place.outline) - 1)) (observations_at S s))) e
-        ∙ fewer (number (observations_at S place.outline))
 
 -- ---- a value comes or goes
 
@@ -302,6 +259,9 @@ pub seen_alike : (vs seen others : List Plain) (S : List Shape) → ((f : Plain 
 seen_alike vs seen others S same_count same_among index = record {
   in_order = index.in_order;
   outlines_are = λ s. index.outlines_are s ∙ ap kept (same_count (has_outline s));
+  leaves_are = λ p.
+      index.leaves_are p ∙ any-count (λ o. observes o p) seen ∙ ap (ltb 0) (same_count (λ o. observes o p))
+      ∙ sym (any-count (λ o. observes o p) others);
   counts = index.counts;
   observers = λ p o. index.observers p o ∙ ap (λ t. t && observes o p) (same_among o);
 }
@@ -312,12 +272,13 @@ pub value_came : (vs ws seen : List Plain) (S T : List Shape) (v : Plain)
 value_came vs ws seen S T v more index each = record {
   in_order = each_in_order S T (zip_each (λ s t r. r.outline) S T each) index.in_order;
   outlines_are = λ s. each_observed S T (zip_each (λ s t r. keeps_bumped v s t r) S T each) s ∙ index.outlines_are s;
+  leaves_are = λ p. each_has S T (zip_each (λ s t r. keeps_bumped v s t r) S T each) p ∙ index.leaves_are p;
   counts = λ p c.
-      count_more (is_kept S p.outline) (stands p.outline p.constants c v) (count (stands p.outline p.constants c) vs)
+      count_more (has_leaf S p) (stands p.outline p.constants c v) (count (stands p.outline p.constants c) vs)
       (captured_at (leaf_of S p) c) (captured_at (leaf_of T p) c) (count (stands p.outline p.constants c) ws)
       (index.counts p c) (bumped v S T each p c) (more (stands p.outline p.constants c))
       ∙ ap (λ b. cond b (count (stands p.outline p.constants c) ws) 0)
-      (sym (each_kept S T (zip_each (λ s t r. keeps_bumped v s t r) S T each) p.outline));
+      (sym (each_has S T (zip_each (λ s t r. keeps_bumped v s t r) S T each) p));
   observers = λ p o.
       each_seen S T (zip_each (λ s t r. keeps_bumped v s t r) S T each) p o ∙ index.observers p o;
 }
@@ -328,12 +289,13 @@ pub value_went : (vs ws seen : List Plain) (S T : List Shape) (v : Plain)
 value_went vs ws seen S T v more index each = record {
   in_order = each_in_order S T (zip_each (λ s t r. r.outline) S T each) index.in_order;
   outlines_are = λ s. each_observed S T (zip_each (λ s t r. keeps_dropped v s t r) S T each) s ∙ index.outlines_are s;
+  leaves_are = λ p. each_has S T (zip_each (λ s t r. keeps_dropped v s t r) S T each) p ∙ index.leaves_are p;
   counts = λ p c.
-      count_less (is_kept S p.outline) (stands p.outline p.constants c v) (count (stands p.outline p.constants c) vs)
+      count_less (has_leaf S p) (stands p.outline p.constants c v) (count (stands p.outline p.constants c) vs)
       (captured_at (leaf_of S p) c) (captured_at (leaf_of T p) c) (count (stands p.outline p.constants c) ws)
       (index.counts p c) (dropped v S T each p c) (more (stands p.outline p.constants c))
       ∙ ap (λ b. cond b (count (stands p.outline p.constants c) ws) 0)
-      (sym (each_kept S T (zip_each (λ s t r. keeps_dropped v s t r) S T each) p.outline));
+      (sym (each_has S T (zip_each (λ s t r. keeps_dropped v s t r) S T each) p));
   observers = λ p o.
       each_seen S T (zip_each (λ s t r. keeps_dropped v s t r) S T each) p o ∙ index.observers p o;
 }

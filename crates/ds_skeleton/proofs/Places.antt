@@ -6,7 +6,7 @@ use Rattle.std.specs.declared.cmp.Ordering.{Ordering}
 use Rattle.std.specs.declared.cmp.Ordering.TheVariants.{Less, Equal, Greater}
 use Rattle.std.specs.Ordering.{is_eq, ordering_index, ordering_reverse}
 use Rattle.std.specs.List.{AllByRecursion, HoldsAt, insert, remove}
-use Rattle.std.specs.List.Sorted.{IsStrictlySortedBy, IsNonDecreasingBy, IsPartitionPoint, IsBinarySearchResult}
+use Rattle.std.specs.List.Sorted.{IsStrictlySortedBy, IsPartitionPoint, IsBinarySearchResult}
 use Rattle.std.proofs.lemmas.List.{take-append-drop}
 use Rattle.ds_shape.specs.Outlines.{Outline}
 use Rattle.ds_skeleton.specs.Places.{outline_order, same_outline}
@@ -226,7 +226,8 @@ equal_is s o e = outline_is s o (ap is_eq e)
 pub missing : (o : Outline) (xs : List Shape) (i : ℕ) → IsGap o i xs → shape_at xs o ≡ None
 missing o xs i p =
     ap (λ ys. shape_at ys o) (sym (take-append-drop i xs))
-    ∙ none_there o o (take i xs) (drop i xs) (all_taken (λ x. outline_order x.outline o ≡ Less) xs i p.0) (all_left (λ x. outline_order x.outline o ≡ Greater) xs i p.1) (outline_self o)
+    ∙ none_there o o (take i xs) (drop i xs) (all_taken (λ x. outline_order x.outline o ≡ Less) xs i p.0)
+    (all_left (λ x. outline_order x.outline o ≡ Greater) xs i p.1) (outline_self o)
 
 pub inserted : (o : Outline) (xs : List Shape) (i : ℕ) (y : Shape) → AreInOrder xs → y.outline ≡ o
     → IsGap o i xs → Updates o (Some y) xs (insert xs i y)

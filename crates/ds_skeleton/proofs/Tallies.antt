@@ -16,13 +16,9 @@ use Rattle.ds_skeleton.specs.Places.{catches, is_wanted, count}
 use Rattle.ds_skeleton.specs.Leaves.{number, kept}
 use Rattle.ds_skeleton.specs.Indexes.{only_in, AreCounts}
 use Rattle.ds_skeleton.proofs.Counts.{any-count}
-use Rattle.ds_skeleton.proofs.Kept.{any_at, any_keys, or_true, is_some-kept, not_true, not_false}
+use Rattle.ds_skeleton.proofs.Kept.{any_keys, is_some-kept}
 use Rattle.ds_skeleton.proofs.Leaves.{number-kept}
-
-same_truth : (a b : Bool) → (a ≡ true → b ≡ true) → (b ≡ true → a ≡ true) → a ≡ b
-same_truth true b f g = sym (f refl)
-same_truth false true f g = g refl
-same_truth false false f g = refl
+use Rattle.ds_skeleton.proofs.Truths.{any_at, or_true, same_truth, not_true, not_false}
 
 any_into : (p : Plain → Bool) (us ws : List Plain) → ((x : Plain) → among x us ≡ true → among x ws ≡ true)
     → list_any p us ≡ true → list_any p ws ≡ true

@@ -9,8 +9,8 @@ use Rattle.std.proofs.Math.Seq.{take-append_seam}
 use Rattle.pv_value.specs.Plain.{Plain}
 use Rattle.ds_shape.specs.Outlines.{Outline}
 use Rattle.ds_skeleton.specs.Places.{Place, outline_order, same_outline, stands}
-use Rattle.ds_skeleton.specs.Leaves.{leaf_at, captured_at, observed_at}
-use Rattle.ds_skeleton.specs.Shapes.{Shape, IsBumped, IsDropped, shape_at, observations_at, is_kept, leaf_of, AreInOrder}
+use Rattle.ds_skeleton.specs.Leaves.{leaf_at, has_leaf_at, captured_at, observed_at}
+use Rattle.ds_skeleton.specs.Shapes.{Shape, IsBumped, IsDropped, shape_at, observations_at, leaf_of, has_leaf, AreInOrder}
 use Rattle.ds_skeleton.proofs.Same.{outline_is}
 
 pub zip_each : {R Q : Shape → Shape → Type 0} → ((s t : Shape) → R s t → Q s t) → (S T : List Shape) → AllZip R S T
@@ -24,13 +24,24 @@ zip_each f (s ∷ ss) (t ∷ ts) h = (f s t h.0, zip_each f ss ts h.1)
 pub record Keeps (s t : Shape) : Type 0 where
   pub outline : t.outline ≡ s.outline
   pub observations : t.observations ≡ s.observations
+  pub leaves : (k : Plain) → has_leaf_at t.leaves k ≡ has_leaf_at s.leaves k
   pub observers : (k o : Plain) → observed_at (leaf_at t.leaves k) o ≡ observed_at (leaf_at s.leaves k) o
 
 pub keeps_bumped : (v : Plain) (s t : Shape) → IsBumped v s t → Keeps s t
-keeps_bumped v s t r = record { outline = r.outline; observations = r.observations; observers = r.observers }
+keeps_bumped v s t r = record {
+  outline = r.outline;
+  observations = r.observations;
+  leaves = r.leaves;
+  observers = r.observers;
+}
 
 pub keeps_dropped : (v : Plain) (s t : Shape) → IsDropped v s t → Keeps s t
-keeps_dropped v s t r = record { outline = r.outline; observations = r.observations; observers = r.observers }
+keeps_dropped v s t r = record {
+  outline = r.outline;
+  observations = r.observations;
+  leaves = r.leaves;
+  observers = r.observers;
+}
 
 abbrev Alike : Shape → Shape → Type 0
 Alike s t = t.outline ≡ s.outline
@@ -79,15 +90,19 @@ each_observed S T h o =
     each_at (option_map (λ s. s.observations)) (option_map (λ s. s.observations)) (λ x y. y ≡ x) Keeps
     (λ s t r. r.outline) o (λ s t r e. ap Some r.observations) refl S T h
 
-pub each_kept : (S T : List Shape) → AllZip Keeps S T → (o : Outline) → is_kept T o ≡ is_kept S o
-each_kept S T h o =
-    each_at is_some is_some (λ x y. y ≡ x) Keeps (λ s t r. r.outline) o (λ s t r e. refl) refl S T h
-
 abbrev pub seen_by : Plain → Plain → Option Shape → Bool
 seen_by k v x = observed_at (option_and_then (λ s. leaf_at s.leaves k) x) v
 
 abbrev pub captured_by : Plain → Plain → Option Shape → ℕ
 captured_by k c x = captured_at (option_and_then (λ s. leaf_at s.leaves k) x) c
+
+abbrev pub has_by : Plain → Option Shape → Bool
+has_by k x = is_some (option_and_then (λ s. leaf_at s.leaves k) x)
+
+pub each_has : (S T : List Shape) → AllZip Keeps S T → (p : Place) → has_leaf T p ≡ has_leaf S p
+each_has S T h p =
+    each_at (has_by p.constants) (has_by p.constants) (λ x y. y ≡ x) Keeps
+    (λ s t r. r.outline) p.outline (λ s t r e. r.leaves p.constants) refl S T h
 
 pub each_seen : (S T : List Shape) → AllZip Keeps S T → (p : Place) (v : Plain)
     → observed_at (leaf_of T p) v ≡ observed_at (leaf_of S p) v
@@ -97,23 +112,25 @@ each_seen S T h p v =
 
 pub bumped : (v : Plain) (S T : List Shape) → AllZip (IsBumped v) S T → (p : Place) (c : Plain)
     → captured_at (leaf_of T p) c
-    ≡ captured_at (leaf_of S p) c + cond (is_kept S p.outline && stands p.outline p.constants c v) 1 0
+    ≡ captured_at (leaf_of S p) c + cond (has_leaf S p && stands p.outline p.constants c v) 1 0
 bumped v S T h p c =
-    each_at (λ x. captured_by p.constants c x + cond (is_some x && stands p.outline p.constants c v) 1 0)
+    each_at (λ x. captured_by p.constants c x + cond (has_by p.constants x && stands p.outline p.constants c v) 1 0)
     (captured_by p.constants c) (λ x y. y ≡ x) (IsBumped v) (λ s t r. r.outline) p.outline
     (λ s t r e. r.counts p.constants c
-    ∙ ap (λ o. captured_at (leaf_at s.leaves p.constants) c + cond (stands o p.constants c v) 1 0)
+    ∙ ap (λ o. captured_at (leaf_at s.leaves p.constants) c
+    + cond (has_leaf_at s.leaves p.constants && stands o p.constants c v) 1 0)
     (sym (outline_is p.outline s.outline e)))
     refl S T h
 
 pub dropped : (v : Plain) (S T : List Shape) → AllZip (IsDropped v) S T → (p : Place) (c : Plain)
     → captured_at (leaf_of T p) c
-    ≡ captured_at (leaf_of S p) c - cond (is_kept S p.outline && stands p.outline p.constants c v) 1 0
+    ≡ captured_at (leaf_of S p) c - cond (has_leaf S p && stands p.outline p.constants c v) 1 0
 dropped v S T h p c =
-    each_at (λ x. captured_by p.constants c x - cond (is_some x && stands p.outline p.constants c v) 1 0)
+    each_at (λ x. captured_by p.constants c x - cond (has_by p.constants x && stands p.outline p.constants c v) 1 0)
     (captured_by p.constants c) (λ x y. y ≡ x) (IsDropped v) (λ s t r. r.outline) p.outline
     (λ s t r e. r.counts p.constants c
-    ∙ ap (λ o. captured_at (leaf_at s.leaves p.constants) c - cond (stands o p.constants c v) 1 0)
+    ∙ ap (λ o. captured_at (leaf_at s.leaves p.constants) c
+    - cond (has_leaf_at s.leaves p.constants && stands o p.constants c v) 1 0)
     (sym (outline_is p.outline s.outline e)))
     refl S T h
 

@@ -11,31 +11,35 @@ use Rattle.pv_value.specs.declared.Entry.{Entry}
 use Rattle.pv_words.specs.Parts.{same}
 use Rattle.ds_shape.specs.Outlines.{Outline}
 use Rattle.ds_space.specs.Changes.{among}
+use Rattle.ds_facts.specs.Keeping.{AreFacts}
 use Rattle.ds_space.specs.Wants.{wants, weight_of_keys}
 use Rattle.ds_space.specs.Spaces.{Rows}
-use Rattle.ds_skeleton.specs.Places.{Place, Parts, has_outline, observes, place_of}
+use Rattle.ds_skeleton.specs.Places.{Place, Parts, has_outline, observes, is_observed, place_of}
 use Rattle.ds_skeleton.specs.Places.{stand, stands, is_wanted, count}
 use Rattle.ds_skeleton.specs.Leaves.{Leaf, kept, leaf_at, captured_at, observed_at}
-use Rattle.ds_skeleton.specs.Shapes.{Shape, observations_at, is_kept, leaf_of, AreInOrder}
+use Rattle.ds_skeleton.specs.Shapes.{Shape, observations_at, leaf_of, has_leaf, AreInOrder}
 pub use Rattle.ds_skeleton.specs.declared.index.Index.{Index}
 
--- The shapes are those of the observations among `seen`, in order, each with the number of these. At each place of an
--- outline that is kept, the count of a capture list is the number of the values of `vs` that have that outline, those
--- constants and those captures; and the observers are the observations of the place among `seen`.
+-- The shapes are those of the observations among `seen`, in order, each with the number of these. A leaf stands at each
+-- place where one of `seen` observes, and nowhere else. There the count of a capture list is the number of the values of
+-- `vs` that have that outline, those constants and those captures; and the observers are the observations of the place
+-- among `seen`.
 pub record IsIndexOf (vs seen : List Plain) (shapes : List Shape) : Type 0 where
   pub in_order : AreInOrder shapes
   pub outlines_are : (s : Outline) → observations_at shapes s ≡ kept (count (has_outline s) seen)
+  pub leaves_are : (p : Place) → has_leaf shapes p ≡ is_observed seen p
   pub counts : (p : Place) (c : Plain) → captured_at (leaf_of shapes p) c
-      ≡ (if is_kept shapes p.outline then count (stands p.outline p.constants c) vs else 0)
+      ≡ (if has_leaf shapes p then count (stands p.outline p.constants c) vs else 0)
   pub observers : (p : Place) (o : Plain) → observed_at (leaf_of shapes p) o ≡ (among o seen && observes o p)
 
 -- an index of distinct values
 abbrev pub IsIndex : List Plain → List Shape → Type 0
 IsIndex vs shapes = IsIndexOf vs vs shapes
 
--- an index of the values that it has itself
-abbrev pub IsWhole : Index → Type 0
-IsWhole index = IsIndex (tree.keys index.values) index.shapes.items
+-- an index of the values that it has itself, which its facts find
+pub record IsWhole (it : Index) : Type 0 where
+  pub index : IsIndex (tree.keys it.values) it.shapes.items
+  pub facts : AreFacts (tree.keys it.values) it.facts
 
 -- the counts of the values, each under its value
 abbrev pub AreCounts : BTreeMap Plain ℕ → List Plain → Type 0

@@ -1,10 +1,12 @@
 -- What the index has of one outline and constants.
-use Rattle.std.specs.Prelude.{ℕ, zero, suc, Bool, false, Option, Some, None}
+use Rattle.std.specs.Prelude.{ℕ, zero, suc, Bool, false, not, is_some, Option, Some, None}
+use Rattle.std.specs.List.{list_any}
 use Rattle.std.specs.BTreeMap as tree
 use Rattle.std.specs.BTreeMap.{BTreeMap}
 use Rattle.std.specs.BTreeSet as sorted
 use Rattle.pv_value.specs.Plain.{Plain}
 use Rattle.pv_value.specs.Order.{order}
+use Rattle.pv_words.specs.Parts.{same}
 pub use Rattle.ds_skeleton.specs.declared.leaf.Leaf.{Leaf}
 
 -- a count that isn't kept is 0
@@ -21,6 +23,9 @@ kept (suc n) = Some (suc n)
 abbrev pub leaf_at : BTreeMap Plain Leaf → Plain → Option Leaf
 leaf_at leaves k = tree.get order leaves k
 
+abbrev pub has_leaf_at : BTreeMap Plain Leaf → Plain → Bool
+has_leaf_at leaves k = is_some (leaf_at leaves k)
+
 -- how many values were captured so
 abbrev pub captured_at : Option Leaf → Plain → ℕ
 captured_at None c = 0
@@ -30,3 +35,8 @@ captured_at (Some leaf) c = number (tree.get order leaf.captured c)
 abbrev pub observed_at : Option Leaf → Plain → Bool
 observed_at None o = false
 observed_at (Some leaf) o = sorted.contains order leaf.observers o
+
+-- whether somebody but o observes
+abbrev pub others_observe : Plain → Option Leaf → Bool
+others_observe o None = false
+others_observe o (Some leaf) = list_any (λ other. not (same o other)) (sorted.keys leaf.observers)

@@ -44,6 +44,10 @@ is_placed (Some q) p = same_place q p
 abbrev pub observes : Plain → Place → Bool
 observes o p = is_placed (place_of o) p
 
+-- one of them observes at the place
+abbrev pub is_observed : List Plain → Place → Bool
+is_observed seen p = list_any (λ o. observes o p) seen
+
 abbrev pub is_outlined : Outline → Option Place → Bool
 is_outlined s None = false
 is_outlined s (Some p) = same_outline p.outline s

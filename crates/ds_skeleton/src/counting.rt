@@ -5,8 +5,11 @@ ghost use Rattle.std.specs.BTreeMap as tree;
 ghost use Rattle.std.specs.BTreeMap.{is_at};
 ghost use Rattle.ds_skeleton.specs.Leaves.{number, kept};
 
-use pv_value::NoMemory;
+use pv_value::{NoMemory, Value};
 use std::collections::BTreeMap;
+
+/// How many were captured in each way.
+pub(crate) type Counts = BTreeMap<Value, u64>;
 
 /// How often the key was counted.
 pub(crate) fn count_of<K: Ord>(counts: &BTreeMap<K, u64>, key: &K) -> u64

@@ -29,7 +29,8 @@ pub(crate) fn enter(alloc: Global, index: &mut Index, value: &Value) -> Result<K
     ensures ascending { IfOk result (λ keys. IsStrictlySortedBy entry_order keys.items) }
 {
     bump_all(alloc, &mut index.shapes, value)?;
-    observe(alloc, &mut index.shapes, &index.values, value)?;
+    index.facts.add(alloc, value)?;
+    observe(alloc, &mut index.shapes, &index.values, &index.facts, value)?;
     let keys = keys_with(alloc, &index.shapes, value)?;
     Ok(keys)
 }
@@ -48,6 +49,7 @@ pub(crate) fn leave(alloc: Global, index: &mut Index, value: &Value) -> Result<K
     let keys = keys_with(alloc, &index.shapes, value)?;
     drop_all(alloc, &mut index.shapes, value)?;
     let _ = index.values.remove(value);
+    index.facts.remove(alloc, value)?;
     unobserve(alloc, &mut index.shapes, &index.values, value)?;
     Ok(keys)
 }

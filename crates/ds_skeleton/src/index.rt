@@ -5,6 +5,7 @@ ghost use Rattle.ds_skeleton.specs.Shapes.{IsBumped, IsDropped};
 ghost use Rattle.ds_skeleton.specs.Indexes.{IsWhole};
 
 use crate::shape::Shape;
+use ds_facts::Facts;
 use pv_value::{NoMemory, Value};
 use std::alloc::Global;
 use std::collections::BTreeMap;
@@ -19,6 +20,7 @@ pub(crate) type Shapes = Vec<Shape>;
 #[derive(Drop)]
 pub(crate) struct Index {
     pub(crate) values: Values,
+    pub(crate) facts: Facts,
     pub(crate) shapes: Shapes,
 }
 
@@ -30,12 +32,13 @@ impl Index {
     {
         Index {
             values: BTreeMap::new(alloc),
+            facts: Facts::new(alloc),
             shapes: Vec::new(alloc),
         }
     }
 }
 
-/// One more value, at each outline.
+/// One more value, at each outline, where somebody observes its constants.
 pub(crate) fn bump_all(alloc: Global, shapes: &mut Shapes, value: &Value) -> Result<(), NoMemory>
     ensures { OnOk result (AllZip (IsBumped value.now) shapes.old.items shapes.new.items) }
 {

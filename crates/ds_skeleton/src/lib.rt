@@ -2,12 +2,13 @@
 //!
 //! A [`Skeleton`] does what `ds_space::PlainSpace` does, word for word. It keeps, beside its rows,
 //! an index of the distinct values: the outlines of the observations, and for each outline and
-//! constants who observes so, and how many values were captured so. Only a value's first row that
-//! comes and its last row that goes change anything.
+//! constants that are observed who observes so, and how many values were captured so. Only a
+//! value's first row that comes and its last row that goes change anything.
 //!
 //! What the index holds of a list of values is `IsIndex` of `specs/Indexes.antt`.
 #![tactic(auto)]
 
+mod capturing;
 mod counting;
 mod entering;
 mod fanning;

@@ -1,9 +1,14 @@
 //! What the index has of one outline.
-ghost use Rattle.std.specs.Prelude.{[], OnOk};
-ghost use Rattle.ds_skeleton.specs.Shapes.{IsCounted, IsBumped, IsDropped, IsWatched, IsUnwatched};
+ghost use Rattle.std.specs.Prelude.{◌≡◌, OnOk};
+ghost use Rattle.std.specs.BTreeMap as tree;
+ghost use Rattle.ds_facts.specs.Keeping.{AreFacts};
+ghost use Rattle.ds_skeleton.specs.Shapes.{IsBlank, IsBumped, IsDropped, IsWatched, IsUnwatched};
 
-use crate::leaf::{Leaves, bump, drop_one, unwatch, watch};
-use crate::standing::stand;
+use crate::capturing::captures_of;
+use crate::index::Values;
+use crate::leaf::{Leaves, begin, bump, drop_one, join, unwatch};
+use crate::standing::{Parts, stand};
+use ds_facts::Facts;
 use ds_shape::Outline;
 use pv_value::{NoMemory, Value};
 use std::alloc::Global;
@@ -21,7 +26,7 @@ pub(crate) struct Shape {
 impl Shape {
     /// The outline with no leaves.
     pub(crate) fn new(alloc: Global, outline: Outline) -> Shape
-        ensures { IsCounted outline [] result }
+        ensures { IsBlank outline result }
     {
         Shape {
             outline,
@@ -35,7 +40,13 @@ impl Shape {
         ensures { OnOk result (IsBumped value.now self.old self.new) }
     {
         match stand(alloc, &self.outline, value)? {
-            Some(parts) => bump(alloc, &mut self.leaves, parts.constants, parts.captures),
+            Some(parts) => {
+                let Parts {
+                    constants,
+                    captures,
+                } = parts;
+                bump(&mut self.leaves, &constants, captures)
+            }
             None => Ok(()),
         }
     }
@@ -45,37 +56,47 @@ impl Shape {
         ensures { OnOk result (IsDropped value.now self.old self.new) }
     {
         match stand(alloc, &self.outline, value)? {
-            Some(parts) => drop_one(alloc, &mut self.leaves, parts.constants, parts.captures),
+            Some(parts) => {
+                let Parts {
+                    constants,
+                    captures,
+                } = parts;
+                drop_one(&mut self.leaves, &constants, captures)
+            }
             None => Ok(()),
         }
     }
 
-    /// One more observation, with these constants.
+    /// One more observation, with these constants. A new leaf has the values counted.
     pub(crate) fn watch(
         &mut self,
         alloc: Global,
+        values: &Values,
+        facts: &Facts,
         constants: Value,
         observer: &Value,
     ) -> Result<(), NoMemory>
-        ensures { OnOk result (IsWatched constants observer.now self.old self.new) }
+        ensures outline { OnOk result (self.new.outline ≡ self.old.outline) }
+        ensures watched { OnOk result (AreFacts (tree.keys values.now) facts.now
+            → IsWatched (tree.keys values.now) constants observer.now self.old self.new) }
     {
         let Some(more) = self.observations.checked_add(1) else {
             return Err(NoMemory);
         };
         self.observations = more;
-        watch(alloc, &mut self.leaves, constants, observer)
+        let joined = join(&mut self.leaves, &constants, observer)?;
+        if joined {
+            return Ok(());
+        }
+        let captured = captures_of(alloc, values, facts, &self.outline, &constants)?;
+        begin(alloc, &mut self.leaves, constants, captured, observer)
     }
 
     /// One observation fewer.
-    pub(crate) fn unwatch(
-        &mut self,
-        alloc: Global,
-        constants: &Value,
-        observer: &Value,
-    ) -> Result<(), NoMemory>
-        ensures { OnOk result (IsUnwatched constants.now observer.now self.old self.new) }
+    pub(crate) fn unwatch(&mut self, constants: &Value, observer: &Value)
+        ensures { IsUnwatched constants.now observer.now self.old self.new }
     {
         self.observations = self.observations.saturating_sub(1);
-        unwatch(alloc, &mut self.leaves, constants, observer)
+        unwatch(&mut self.leaves, constants, observer);
     }
 }

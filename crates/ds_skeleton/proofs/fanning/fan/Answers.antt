@@ -17,7 +17,7 @@ returns-then-is_over c vs a =
     let index = c.args.index.now in
     let h : (q : Entry) → list_any (same_entry q) c.in_ok-keys.keys.items ≡ (among q.key vs && catches q.key q.value m) =
     λ q. c.in_ok-keys.ensures.keys q ∙ ap (λ xs. list_any (met m q) xs) c.deref.ensures.value
-    ∙ met_is (tree.keys index.values) index.shapes.items c.requires m q
+    ∙ met_is (tree.keys index.values) index.shapes.items c.requires.index m q
     ∙ ap (λ t. t && catches q.key q.value m) (among_counts index.values vs a q.key) in (
       ltb-true most_wanted_weight c.weigh-weight.result (sym c.is_over.ensures ∙ c.if-is_over.true),
       c.weigh-weight.ensures
@@ -30,7 +30,7 @@ returns c vs a =
     let index = c.args.index.now in
     let h : (q : Entry) → list_any (same_entry q) c.in_ok-keys.keys.items ≡ (among q.key vs && catches q.key q.value m) =
     λ q. c.in_ok-keys.ensures.keys q ∙ ap (λ xs. list_any (met m q) xs) c.deref.ensures.value
-    ∙ met_is (tree.keys index.values) index.shapes.items c.requires m q
+    ∙ met_is (tree.keys index.values) index.shapes.items c.requires.index m q
     ∙ ap (λ t. t && catches q.key q.value m) (among_counts index.values vs a q.key) in (
       c.in_ok-list.ensures ∙ fan_is vs m c.in_ok-keys.keys.items c.in_ok-keys.ensures.ascending h,
       subst (λ w. w ≤ most_wanted_weight)

@@ -1,4 +1,4 @@
-use Rattle.std.proofs.Common.{◌≡◌, ◌<◌, Some, None, sym, ap, ◌∙◌, rules, arith}
+use Rattle.std.proofs.Common.{Some, sym, ap, ◌∙◌}
 use Rattle.ds_skeleton.proofs.Places.{found, missing}
 use Rattle.ds_skeleton.proofs.finding.find.Goals as goal
 

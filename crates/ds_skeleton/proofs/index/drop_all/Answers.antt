@@ -1,4 +1,4 @@
-use Rattle.std.proofs.Common.{◌≡◌, ◌<◌, ◌≤◌, length, sym, subst, arith, rules}
+use Rattle.std.proofs.Common.{◌≡◌, ◌≤◌, length, sym, subst, arith, rules}
 use Rattle.std.specs.List.{AllZip}
 use Rattle.ds_skeleton.specs.Shapes.{IsDropped}
 use Rattle.ds_skeleton.proofs.Walks.{walk_on, walk_ends, walked_whole}

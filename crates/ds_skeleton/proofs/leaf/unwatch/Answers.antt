@@ -1,38 +1,71 @@
-use Rattle.std.proofs.Common.{cond, false, ap, ◌∙◌}
-use Rattle.std.specs.BTreeMap as tree
+use Rattle.std.proofs.Common.{false, refl, sym}
 use Rattle.std.specs.BTreeSet as sorted
-use Rattle.pv_value.specs.Order.{order}
-use Rattle.pv_words.specs.Parts.{same}
-use Rattle.ds_skeleton.specs.Leaves.{number, captured_at, observed_at, leaf_at}
-use Rattle.ds_skeleton.proofs.Answered.{then_ok}
-use Rattle.ds_skeleton.proofs.Leaves.{put_alike, put_set, others_counted, others_seen}
+use Rattle.ds_skeleton.specs.Leaves.{Leaf}
+use Rattle.ds_skeleton.proofs.Leaves.{rewrites, stays_there, counted_still, seen_set, ends_after, goes_there}
+use Rattle.ds_skeleton.proofs.Leaves.{seen_no_more, none_stays, none_counted, none_seen, some_left, none_left}
 use Rattle.ds_skeleton.proofs.leaf.unwatch.Goals as goal
 
-pub returns-clause-counts : goal.returns-clause-counts
-returns-clause-counts c =
-    then_ok c.put_leaf.result
-    (λ put. put_alike (λ p k. captured_at (leaf_at c.args.leaves.now p) k)
-    (λ p k. captured_at (leaf_at c.take_leaf-leaf.new.leaves p) k)
-    (λ p k. captured_at (leaf_at c.put_leaf.new.leaves p) k) c.args.constants.now
-    (λ k. number (tree.get order c.take_leaf-leaf.result.captured k))
-    (others_counted c.args.leaves.now c.take_leaf-leaf.new.leaves c.args.constants.now c.take_leaf-leaf.ensures.others)
-    (λ p k. put p k
-    ∙ ap (λ v. cond (same v p) (number (tree.get order c.take_leaf-leaf.result.captured k))
-    (captured_at (leaf_at c.take_leaf-leaf.new.leaves p) k)) c.in_ok-place.ensures)
-    (λ q. c.take_leaf-leaf.ensures.counts q))
-    c.put_leaf.ensures.counts
+pub returns-in_default-clause-leaves : goal.returns-in_default-clause-leaves
+returns-in_default-clause-leaves c =
+    none_stays c.args.leaves.now c.get_mut.follows.lender-at-none c.args.constants.now c.args.observer.now
+    c.get_mut.follows.holds-at-none (sym c.in_default.ensures.value)
 
-pub returns-clause-observers : goal.returns-clause-observers
-returns-clause-observers c =
-    then_ok c.put_leaf.result
-    (λ put. put_set (λ p o. observed_at (leaf_at c.args.leaves.now p) o)
-    (λ p o. observed_at (leaf_at c.take_leaf-leaf.new.leaves p) o)
-    (λ p o. observed_at (leaf_at c.put_leaf.new.leaves p) o) c.args.constants.now c.args.observer.now false
-    (sorted.contains order c.remove.new.self)
-    (others_seen c.args.leaves.now c.take_leaf-leaf.new.leaves c.args.constants.now c.take_leaf-leaf.ensures.others)
-    (λ p o. put p o
-    ∙ ap (λ v. cond (same v p) (sorted.contains order c.remove.new.self o)
-    (observed_at (leaf_at c.take_leaf-leaf.new.leaves p) o)) c.in_ok-place.ensures)
-    (λ q. c.remove.ensures.updates.0 q ∙ ap (λ b. cond (same c.args.observer.now q) false b)
-    (c.take_leaf-leaf.ensures.observers q)))
-    c.put_leaf.ensures.observers
+pub returns-in_default-clause-counts : goal.returns-in_default-clause-counts
+returns-in_default-clause-counts c =
+    none_counted c.args.leaves.now c.get_mut.follows.lender-at-none c.get_mut.follows.holds-at-none
+
+pub returns-in_default-clause-observers : goal.returns-in_default-clause-observers
+returns-in_default-clause-observers c =
+    none_seen c.args.leaves.now c.get_mut.follows.lender-at-none c.args.constants.now c.args.observer.now
+    c.get_mut.follows.holds-at-none (sym c.in_default.ensures.value)
+
+pub returns-then-is_empty-clause-leaves : goal.returns-then-is_empty-clause-leaves
+returns-then-is_empty-clause-leaves c =
+    let was = c.in-Some.leaf.now in
+    let w : Leaf = record { observers = c.remove.new.self; captured = was.captured } in
+    let r = rewrites c.args.leaves.now (c.get_mut.follows.lender w) c.args.constants.now was w c.in-Some.ensures.value
+    (c.get_mut.follows.holds w) in
+    let ends = ends_after c.args.leaves.now (c.get_mut.follows.lender w) c.remove-then-is_empty.new.self
+    c.args.constants.now was w r c.remove-then-is_empty.ensures.updates.0 in
+    let none = none_left (sorted.keys c.remove.new.self) (c.is_empty.ensures.0 c.if-is_empty.true) in
+    goes_there c.args.leaves.now c.remove-then-is_empty.new.self c.args.constants.now c.args.observer.now was
+    c.remove.new.self ends c.remove.ensures.updates.0 none
+
+pub returns-then-is_empty-clause-observers : goal.returns-then-is_empty-clause-observers
+returns-then-is_empty-clause-observers c =
+    let was = c.in-Some.leaf.now in
+    let w : Leaf = record { observers = c.remove.new.self; captured = was.captured } in
+    let r = rewrites c.args.leaves.now (c.get_mut.follows.lender w) c.args.constants.now was w c.in-Some.ensures.value
+    (c.get_mut.follows.holds w) in
+    let ends = ends_after c.args.leaves.now (c.get_mut.follows.lender w) c.remove-then-is_empty.new.self
+    c.args.constants.now was w r c.remove-then-is_empty.ensures.updates.0 in
+    let none = none_left (sorted.keys c.remove.new.self) (c.is_empty.ensures.0 c.if-is_empty.true) in
+    seen_no_more c.args.leaves.now c.remove-then-is_empty.new.self c.args.constants.now c.args.observer.now was
+    c.remove.new.self ends c.remove.ensures.updates.0 none
+
+pub returns-else-is_empty-clause-leaves : goal.returns-else-is_empty-clause-leaves
+returns-else-is_empty-clause-leaves c =
+    let was = c.in-Some.leaf.now in
+    let w : Leaf = record { observers = c.remove.new.self; captured = was.captured } in
+    let r = rewrites c.args.leaves.now (c.get_mut.follows.lender w) c.args.constants.now was w c.in-Some.ensures.value
+    (c.get_mut.follows.holds w) in
+    let some = some_left c.is_empty.result (sorted.keys c.remove.new.self) c.is_empty.ensures.1 c.if-is_empty.false in
+    stays_there c.args.leaves.now (c.get_mut.follows.lender w) c.args.constants.now c.args.observer.now was w r
+    c.remove.ensures.updates.0 some
+
+pub returns-else-is_empty-clause-counts : goal.returns-else-is_empty-clause-counts
+returns-else-is_empty-clause-counts c =
+    let was = c.in-Some.leaf.now in
+    let w : Leaf = record { observers = c.remove.new.self; captured = was.captured } in
+    let r = rewrites c.args.leaves.now (c.get_mut.follows.lender w) c.args.constants.now was w c.in-Some.ensures.value
+    (c.get_mut.follows.holds w) in
+    counted_still c.args.leaves.now (c.get_mut.follows.lender w) c.args.constants.now was w r (λ q. refl)
+
+pub returns-else-is_empty-clause-observers : goal.returns-else-is_empty-clause-observers
+returns-else-is_empty-clause-observers c =
+    let was = c.in-Some.leaf.now in
+    let w : Leaf = record { observers = c.remove.new.self; captured = was.captured } in
+    let r = rewrites c.args.leaves.now (c.get_mut.follows.lender w) c.args.constants.now was w c.in-Some.ensures.value
+    (c.get_mut.follows.holds w) in
+    seen_set c.args.leaves.now (c.get_mut.follows.lender w) c.args.constants.now c.args.observer.now false was w r
+    c.remove.ensures.updates.0

@@ -1,8 +1,7 @@
-use Rattle.std.proofs.Common.{◌≡◌, ◌<◌, ◌≤◌, true, false, Some, is_some, slice_set, ap, sym, ◌∙◌, subst, arith}
+use Rattle.std.proofs.Common.{◌≡◌, ◌<◌, true, false, Some, is_some, slice_set, ap, sym, ◌∙◌, subst}
 use Rattle.std.specs.BTreeMap as tree
 use Rattle.ds_skeleton.specs.Shapes.{shape_at, AreInOrder}
 use Rattle.ds_skeleton.specs.Indexes.{IsIndexOf}
-use Rattle.ds_skeleton.proofs.Answered.{then_ok}
 use Rattle.ds_skeleton.proofs.Comings.{went_known, went_last}
 use Rattle.ds_skeleton.proofs.Entries.{some_is}
 use Rattle.ds_skeleton.proofs.Moves.{was_kept}
@@ -47,10 +46,8 @@ pub returns-clause-in_order : goal.returns-clause-in_order
 returns-clause-in_order c =
     let here = subst (IsAt c.args.place.now.outline c.in-Ok.at) c.deref.ensures.value
     (c.in-Ok.ensures.range, c.in-Ok.ensures.place) in
-    then_ok c.unwatch.result
-    (λ w. (replaced c.args.place.now.outline c.args.shapes.now.items c.in-Ok.at c.unwatch.new.self c.index_mut.result.now
-    c.requires.in_order here (w.outline ∙ ap (λ s. s.outline) c.index_mut.ensures.value)).in_order)
-    c.unwatch.ensures
+    (replaced c.args.place.now.outline c.args.shapes.now.items c.in-Ok.at c.unwatch.new.self c.index_mut.result.now
+    c.requires.in_order here (c.unwatch.ensures.outline ∙ ap (λ s. s.outline) c.index_mut.ensures.value)).in_order
 
 pub returns-clause-index : goal.returns-clause-index
 returns-clause-index c =
@@ -64,10 +61,9 @@ returns-clause-index c =
     ∙ ap Some (sym c.index_mut.ensures.value) in
     let many = subst (λ s. 1 < s.observations) (some_is c.index.result.now c.index_mut.result.now (sym read ∙ lent))
     c.if-index-le1.false in
-    then_ok c.unwatch.result
-    (λ w. went_known (tree.keys c.args.values.now) (tree.keys c.args.values.now) c.args.shapes.now.items
+    went_known (tree.keys c.args.values.now) (tree.keys c.args.values.now) c.args.shapes.now.items
     (slice_set c.args.shapes.now.items c.in-Ok.at c.unwatch.new.self) c.args.value.now c.args.place.now
-    c.index_mut.result.now c.unwatch.new.self c.requires.place c.requires.gone c.requires.index lent many w
-    (replaced c.args.place.now.outline c.args.shapes.now.items c.in-Ok.at c.unwatch.new.self c.index_mut.result.now
-    c.requires.in_order here (w.outline ∙ ap (λ s. s.outline) c.index_mut.ensures.value)))
+    c.index_mut.result.now c.unwatch.new.self c.requires.place c.requires.gone c.requires.index lent many
     c.unwatch.ensures
+    (replaced c.args.place.now.outline c.args.shapes.now.items c.in-Ok.at c.unwatch.new.self c.index_mut.result.now
+    c.requires.in_order here (c.unwatch.ensures.outline ∙ ap (λ s. s.outline) c.index_mut.ensures.value))

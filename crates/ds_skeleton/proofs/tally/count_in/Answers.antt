@@ -1,8 +1,9 @@
-use Rattle.std.proofs.Common.{◌≡◌, ◌+◌, ◌∷◌, cond, refl, ap, sym, ◌∙◌, subst}
+use Rattle.std.proofs.Common.{◌+◌, ◌∷◌, refl, ap, sym, ◌∙◌, subst}
 use Rattle.std.specs.List.{list_any}
 use Rattle.std.specs.BTreeMap as tree
 use Rattle.pv_value.specs.Order.{order}
 use Rattle.pv_words.specs.Parts.{same}
+use Rattle.ds_facts.specs.Keeping.{AreFacts}
 use Rattle.ds_skeleton.specs.Places.{same_entry}
 use Rattle.ds_skeleton.specs.Leaves.{number}
 use Rattle.ds_skeleton.specs.Indexes.{IsIndexOf, AreCounts}
@@ -19,7 +20,8 @@ returns-then-first-clause-whole c =
           keys_in order f c.args.value.now 1 c.args.index.now.values.entries c.count_value.new.values.entries none
           (c.in_ok-first.ensures.entries c.if-first.true);
       gone = no_key (same c.args.value.now) c.args.index.now.values.entries none;
-      index = c.requires;
+      index = c.requires.index;
+      facts = c.requires.facts;
     })
 
 pub returns-then-first-clause-values : goal.returns-then-first-clause-values
@@ -39,7 +41,8 @@ returns-then-first-clause-keys c vs h q =
           keys_in order f c.args.value.now 1 c.args.index.now.values.entries c.count_value.new.values.entries none
           (c.in_ok-first.ensures.entries c.if-first.true);
       gone = no_key (same c.args.value.now) c.args.index.now.values.entries none;
-      index = c.requires;
+      index = c.requires.index;
+      facts = c.requires.facts;
     }) q
     ∙ only_in_alike (tree.keys c.count_value.new.values) (tree.keys c.args.index.now.values) (c.args.value.now ∷ vs)
     vs q
@@ -48,8 +51,11 @@ returns-then-first-clause-keys c vs h q =
 
 pub returns-clause-whole : goal.returns-clause-whole
 returns-clause-whole c =
-    subst (λ ks. IsIndexOf ks ks c.args.index.now.shapes.items)
-    (sym (c.in_ok-first.ensures.keys c.if-first.false)) c.requires
+    let same = sym (c.in_ok-first.ensures.keys c.if-first.false) in
+    record {
+      index = subst (λ ks. IsIndexOf ks ks c.args.index.now.shapes.items) same c.requires.index;
+      facts = subst (λ ks. AreFacts ks c.args.index.now.facts) same c.requires.facts;
+    }
 
 pub returns-clause-values : goal.returns-clause-values
 returns-clause-values c vs h =

@@ -5,6 +5,7 @@ use Rattle.pv_value.specs.Plain.{Plain}
 use Rattle.pv_value.specs.Order.{order}
 use Rattle.pv_words.specs.Parts.{same}
 use Rattle.ds_space.specs.Lemmas.Keys.{same_self}
+use Rattle.ds_facts.specs.Keeping.{AreFacts}
 use Rattle.ds_skeleton.specs.Places.{same_entry, count}
 use Rattle.ds_skeleton.specs.Leaves.{number, kept}
 use Rattle.ds_skeleton.specs.Indexes.{IsIndexOf}
@@ -36,8 +37,11 @@ returns-clause-whole c =
     let many : 1 < number (tree.get order c.args.index.now.values c.in_ok-again.again) =
     subst (λ v. 1 < number (tree.get order c.args.index.now.values v)) (sym c.in_ok-again.ensures)
     (more_than_one _ (sym c.is_last.ensures ∙ c.if-is_last.false)) in
-    subst (λ ks. IsIndexOf ks ks c.args.index.now.shapes.items)
-    (sym (c.in_ok-count_down.ensures.keys many)) c.requires.whole
+    let same = sym (c.in_ok-count_down.ensures.keys many) in
+    record {
+      index = subst (λ ks. IsIndexOf ks ks c.args.index.now.shapes.items) same c.requires.whole.index;
+      facts = subst (λ ks. AreFacts ks c.args.index.now.facts) same c.requires.whole.facts;
+    }
 
 pub returns-clause-values : goal.returns-clause-values
 returns-clause-values c vs h =
