@@ -1,13 +1,16 @@
--- The counted index goes to other threads, and the host gave nothing before the links are served.
+-- The counted index and the guards' schema go to other threads, and the host gave nothing before the links are served.
 use denote.Param.Send.{sendable}
 use Rattle.std.proofs.Common.{◌≤◌, ◌∙◌, arith, rules}
 use Rattle.dsd_serve.specs.Serving.{rest_in}
 use Rattle.dsd_serve.proofs.Accepting.{accepts}
-use Rattle.dsd_serve.proofs.Sending.{skeleton_send}
+use Rattle.dsd_serve.proofs.Sending.{skeleton_send, schema_send}
 use Rattle.dsd_serve.proofs.serving.serve_and_tell.Goals as goal
 
 pub serve-requires-send-S : goal.serve-requires-send-S
 serve-requires-send-S g c = search (skeleton_send, sendable) depth 20
+
+pub serve-requires-send-J : goal.serve-requires-send-J
+serve-requires-send-J g c κs within = search (schema_send, sendable) depth 60 fits 20000
 
 pub returns-in_err-write_tally-clause-cut : goal.returns-in_err-write_tally-clause-cut
 returns-in_err-write_tally-clause-cut g c = λ e.
