@@ -1,3 +1,4 @@
 mod Alike
 mod Places
 mod Reading
+mod Weighed

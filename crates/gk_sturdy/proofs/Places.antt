@@ -6,23 +6,13 @@ use Rattle.std.proofs.lemmas.Option.{slice_get_past, slice_get-get_or}
 use Rattle.std.specs.Slice.{IsItemAt}
 use Rattle.std.specs.BTreeMap.{is_at}
 use Rattle.std.specs.Cmp.{eq_by_cmp_equiv}
-use Rattle.std.specs.Ordering.{is_eq}
-use Rattle.std.specs.declared.cmp.Ordering.{Ordering}
-use Rattle.std.specs.declared.cmp.Ordering.TheVariants.{Less, Equal, Greater}
 use Rattle.pv_value.specs.Plain.{Plain}
 use Rattle.pv_value.specs.Order.{order}
-use Rattle.pv_value.specs.Lemmas.OrderLaws.{order_total, order_same}
+use Rattle.pv_value.specs.Lemmas.OrderLaws.{order_total}
 use Rattle.pv_words.specs.Parts.{same}
+use Rattle.pv_words.specs.Lemmas.Same.{same_is}
 use Rattle.gk_sturdy.specs.Bindings.{Binding, binding_for, AreBoundOnce}
 use Rattle.gk_sturdy.specs.Kept.{place_at, place_of, IsKept}
-
-equal_is : (o : Ordering) → is_eq o ≡ true → o ≡ Equal
-equal_is Less e = absurd cc
-equal_is Equal e = refl
-equal_is Greater e = absurd cc
-
-same_is : (q r : Plain) → same q r ≡ true → q ≡ r
-same_is q r e = order_same q r (equal_is (order q r) e)
 
 same_turns : (q r : Plain) → same q r ≡ same r q
 same_turns q r = (eq_by_cmp_equiv order_total).symm q r

@@ -1,7 +1,8 @@
 //! What signed references give.
 ghost use Rattle.std.specs.Prelude.{◌≡◌, [], ◌∷◌, ◌++◌, map, Some, false, IfOk, OnOk};
+ghost use Rattle.std.specs.List.{AllByRecursion};
 ghost use Rattle.pv_words.specs.Words.{labelled};
-ghost use Rattle.sr_caveat.specs.Caps.{attenuated};
+ghost use Rattle.sr_caveat.specs.Caps.{attenuated, IsReadBack};
 ghost use Rattle.sr_caveat.specs.Written.{caveat_of};
 ghost use Rattle.gk_sturdy.specs.Chain.{due};
 ghost use Rattle.gk_sturdy.specs.Answers.{BadSig, if_within, answer_by, answer_of};
@@ -10,9 +11,10 @@ ghost use Rattle.gk_sturdy.specs.Answers.{answer_value, reply_to};
 use crate::bound::{Binding, Bindings};
 use crate::links::{Link, due, is_same};
 use crate::refs::{SturdyRef, read_ref};
-use pv_value::{Blob, NoMemory, Text, Value, weight};
+use pv_value::{Blob, NoMemory, Text, Value};
 use pv_words::labelled;
 use sr_caveat::{Cap, Caveat, Caveats, REFERENCE_CAVEATS, REFERENCE_WEIGHT, parse_caveat};
+use sr_weight::{cap_weight, weight_of_caveats};
 use std::alloc::Global;
 
 /// What a value is answered, as a signed reference.
@@ -109,7 +111,7 @@ fn bad_sig(alloc: Global, given: &Blob, due: &Link) -> Result<Why, NoMemory>
 }
 
 /// The reference with these caveats behind its own, where it is within the bounds. They are counted
-/// before any is read.
+/// before any is read, and weighed before any is copied. A guard among them is unknown.
 fn if_within(alloc: Global, cap: &Cap, behind: &[Value]) -> Result<Answer, NoMemory>
     ensures { IfOk result (λ a. a
         ≡ if_within (attenuated (map (caveat_of false) behind.now) cap.now)) }
@@ -118,21 +120,22 @@ fn if_within(alloc: Global, cap: &Cap, behind: &[Value]) -> Result<Answer, NoMem
     if count > REFERENCE_CAVEATS {
         return Ok(Answer::Rejected(Why::Caveats(count as u64)));
     }
-    let cap = attenuated(alloc, cap, behind)?;
-    let weight = weight(&cap.to_value(alloc)?);
+    let behind = parsed(alloc, behind)?;
+    let weight = cap_weight(cap).saturating_add(weight_of_caveats(&behind));
     if weight > REFERENCE_WEIGHT {
         return Ok(Answer::Rejected(Why::Heavy(weight)));
     }
-    Ok(Answer::Accepted(cap))
+    Ok(Answer::Accepted(attenuated(alloc, cap, &behind)?))
 }
 
-/// The reference with these caveats behind its own. A guard among them is unknown.
-fn attenuated(alloc: Global, cap: &Cap, behind: &[Value]) -> Result<Cap, NoMemory>
-    ensures { IfOk result (λ c. c ≡ attenuated (map (caveat_of false) behind.now) cap.now) }
+/// The reference with these caveats behind its own.
+fn attenuated(alloc: Global, cap: &Cap, behind: &[Caveat]) -> Result<Cap, NoMemory>
+    requires { AllByRecursion IsReadBack behind.now }
+    ensures { IfOk result (λ c. c ≡ attenuated behind.now cap.now) }
 {
     let mut all = Vec::new(alloc);
     add_copies(&mut all, cap.caveats.as_slice())?;
-    add_parsed(alloc, &mut all, behind)?;
+    add_copies(&mut all, behind)?;
     Ok(Cap {
         actor: cap.actor,
         entity: cap.entity,
@@ -149,11 +152,13 @@ fn add_copies(all: &mut Vec<Caveat>, more: &[Caveat]) -> Result<(), NoMemory>
     Ok(())
 }
 
-fn add_parsed(alloc: Global, all: &mut Vec<Caveat>, more: &[Value]) -> Result<(), NoMemory>
-    ensures { OnOk result (all.new.items ≡ all.old.items ++ map (caveat_of false) more.now) }
+/// The caveats that these values write. A guard is unknown.
+fn parsed(alloc: Global, list: &[Value]) -> Result<Vec<Caveat>, NoMemory>
+    ensures { IfOk result (λ cs. cs.items ≡ map (caveat_of false) list.now) }
 {
-    for caveat in more {
-        all.push(parse_caveat(alloc, caveat, false)?)?;
+    let mut caveats = Vec::new(alloc);
+    for caveat in list {
+        caveats.push(parse_caveat(alloc, caveat, false)?)?;
     }
-    Ok(())
+    Ok(caveats)
 }

@@ -1,2 +1,4 @@
 -- Lemmas on the definitions, which proofs above cite. A reader of the contracts needs none of them.
 pub mod Found
+pub mod Kinds
+pub mod Same

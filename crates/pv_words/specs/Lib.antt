@@ -1,3 +1,4 @@
+pub mod Kinds
 pub mod Lemmas
 pub mod Parts
 pub mod Words

@@ -2,8 +2,7 @@
 use Rattle.std.specs.Prelude.{ℕ, List, [], ◌∷◌}
 use Rattle.pv_value.specs.Plain.{Plain, Plains}
 pub use Rattle.sr_caveat.specs.declared.Kind.{Kind}
-pub use Rattle.sr_caveat.specs.declared.Kind.TheVariants.{Boolean, Double, SignedInteger, String, ByteString}
-pub use Rattle.sr_caveat.specs.declared.Kind.TheVariants.{Symbol, Embedded}
+pub use Rattle.sr_caveat.specs.declared.Kind.TheVariants.{Atom, Embedded}
 
 mutual
   pub data Pattern : Type 0 where

@@ -2,8 +2,10 @@
 use Rattle.std.specs.Prelude.{ℕ, List, [], ◌∷◌, codes}
 use Rattle.pv_value.specs.Plain.{Plain, symbol, sequence, dictionary, Plains, no_more, then_more}
 use Rattle.pv_value.specs.Plain.{PlainPairs, no_pairs, then_pair}
+use Rattle.pv_words.specs.declared.kinds.AtomKind.TheVariants.{Boolean, Double, SignedInteger, String, ByteString}
+use Rattle.pv_words.specs.declared.kinds.AtomKind.TheVariants.{Symbol}
 use Rattle.pv_words.specs.Words.{labelled, number}
-use Rattle.sr_caveat.specs.Patterns.{Kind, Boolean, Double, SignedInteger, String, ByteString, Symbol, Embedded}
+use Rattle.sr_caveat.specs.Patterns.{Kind, Atom, Embedded}
 use Rattle.sr_caveat.specs.Patterns.{Pattern, discard, of_kind, bind, all_of, none_of, literal, record_with}
 use Rattle.sr_caveat.specs.Patterns.{sequence_with, dictionary_with, Patterns, no_patterns, then_pattern}
 use Rattle.sr_caveat.specs.Patterns.{Template, attenuate, binding, constant, record_from, sequence_from, dictionary_of}
@@ -25,12 +27,12 @@ paired_with (then_more k ks) no_more = no_pairs
 paired_with (then_more k ks) (then_more x xs) = then_pair k x (paired_with ks xs)
 
 abbrev pub kind_name : Kind → List ℕ
-kind_name Boolean = codes "Boolean"
-kind_name Double = codes "Double"
-kind_name SignedInteger = codes "SignedInteger"
-kind_name String = codes "String"
-kind_name ByteString = codes "ByteString"
-kind_name Symbol = codes "Symbol"
+kind_name (Atom Boolean) = codes "Boolean"
+kind_name (Atom Double) = codes "Double"
+kind_name (Atom SignedInteger) = codes "SignedInteger"
+kind_name (Atom String) = codes "String"
+kind_name (Atom ByteString) = codes "ByteString"
+kind_name (Atom Symbol) = codes "Symbol"
 kind_name Embedded = codes "Embedded"
 
 abbrev mutual

@@ -4,8 +4,10 @@ use Rattle.std.specs.Prelude.{option_map, unwrap_or, codes, if◌then◌else◌}
 use Rattle.pv_value.specs.Plain.{Plain, symbol, record_of, sequence, dictionary, Plains, no_more, then_more}
 use Rattle.pv_value.specs.Plain.{PlainPairs, no_pairs, then_pair}
 use Rattle.sr_caveat.specs.Embedded.{has_embedded}
+use Rattle.pv_words.specs.declared.kinds.AtomKind.TheVariants.{Boolean, Double, SignedInteger, String, ByteString}
+use Rattle.pv_words.specs.declared.kinds.AtomKind.TheVariants.{Symbol}
 use Rattle.pv_words.specs.Words.{is_word, number_in}
-use Rattle.sr_caveat.specs.Patterns.{Kind, Boolean, Double, SignedInteger, String, ByteString, Symbol, Embedded}
+use Rattle.sr_caveat.specs.Patterns.{Kind, Atom, Embedded}
 use Rattle.sr_caveat.specs.Patterns.{Pattern, discard, of_kind, bind, all_of, none_of, literal, record_with}
 use Rattle.sr_caveat.specs.Patterns.{sequence_with, dictionary_with, Patterns, no_patterns, then_pattern}
 use Rattle.sr_caveat.specs.Patterns.{Template, attenuate, binding, constant, record_from, sequence_from, dictionary_of}
@@ -18,12 +20,12 @@ use Rattle.sr_caveat.specs.Patterns.{then_caveat, Rewrites, no_rewrites, then_re
 -- `Boolean`, `Double`, `SignedInteger`, `String`, `ByteString`, `Symbol`, `Embedded`
 abbrev pub kind_named : List ℕ → Option Kind
 kind_named s =
-    if is_word s (codes "Boolean") then Some Boolean
-    else if is_word s (codes "Double") then Some Double
-    else if is_word s (codes "SignedInteger") then Some SignedInteger
-    else if is_word s (codes "String") then Some String
-    else if is_word s (codes "ByteString") then Some ByteString
-    else if is_word s (codes "Symbol") then Some Symbol
+    if is_word s (codes "Boolean") then Some (Atom Boolean)
+    else if is_word s (codes "Double") then Some (Atom Double)
+    else if is_word s (codes "SignedInteger") then Some (Atom SignedInteger)
+    else if is_word s (codes "String") then Some (Atom String)
+    else if is_word s (codes "ByteString") then Some (Atom ByteString)
+    else if is_word s (codes "Symbol") then Some (Atom Symbol)
     else if is_word s (codes "Embedded") then Some Embedded
     else None
 

@@ -25,6 +25,7 @@ pub use limits::{
     REFERENCE_CAVEATS, REFERENCE_WEIGHT, VALUE_DEPTH, VALUE_WEIGHT, limits_are_as_defined,
 };
 use pv_value::{Entries, Text, Value};
+use pv_words::AtomKind;
 pub use spelling::{caveat_values, dictionary_with};
 use std::marker::Model;
 use std::sync::Arc;
@@ -66,12 +67,7 @@ pub enum PatternForm {
 /// The kinds that a pattern can ask for.
 #[derive(Clone, Copy, Debug, Drop)]
 pub enum Kind {
-    Boolean,
-    Double,
-    SignedInteger,
-    String,
-    ByteString,
-    Symbol,
+    Atom(AtomKind),
     Embedded,
 }
 

@@ -12,7 +12,7 @@ ghost use Rattle.sr_caveat.specs.View.{listed_patterns, view_pattern, keys_of};
 
 use crate::{CPat, Kind, PatternForm};
 use pv_value::{Entries, Entry, NoMemory, Node, Text, Value};
-use pv_words::is_word;
+use pv_words::{AtomKind, is_word};
 use std::alloc::Global;
 
 /// The pattern that a value writes, where it is of the grammar.
@@ -54,22 +54,22 @@ fn kind_named(name: &Text) -> Option<Kind>
     ensures { result ≡ kind_named name.now }
 {
     if is_word(name, b"Boolean") {
-        return Some(Kind::Boolean);
+        return Some(Kind::Atom(AtomKind::Boolean));
     }
     if is_word(name, b"Double") {
-        return Some(Kind::Double);
+        return Some(Kind::Atom(AtomKind::Double));
     }
     if is_word(name, b"SignedInteger") {
-        return Some(Kind::SignedInteger);
+        return Some(Kind::Atom(AtomKind::SignedInteger));
     }
     if is_word(name, b"String") {
-        return Some(Kind::String);
+        return Some(Kind::Atom(AtomKind::String));
     }
     if is_word(name, b"ByteString") {
-        return Some(Kind::ByteString);
+        return Some(Kind::Atom(AtomKind::ByteString));
     }
     if is_word(name, b"Symbol") {
-        return Some(Kind::Symbol);
+        return Some(Kind::Atom(AtomKind::Symbol));
     }
     if is_word(name, b"Embedded") {
         return Some(Kind::Embedded);

@@ -13,7 +13,7 @@ ghost use Rattle.sr_caveat.specs.View.{listed_patterns, listed_templates, listed
 
 use crate::{CPat, Caveat, Kind, PatternForm, Rewrite, Rule, TemplateForm, Tmpl};
 use pv_value::{Entries, Entry, Items, NoMemory, Text, Value};
-use pv_words::{labelled, number};
+use pv_words::{AtomKind, labelled, number};
 use std::alloc::Global;
 
 impl Caveat {
@@ -86,12 +86,12 @@ fn kind_value(alloc: Global, kind: Kind) -> Result<Value, NoMemory>
     ensures { IfOk result (λ v. v ≡ symbol (kind_name kind)) }
 {
     let name = match kind {
-        Kind::Boolean => "Boolean",
-        Kind::Double => "Double",
-        Kind::SignedInteger => "SignedInteger",
-        Kind::String => "String",
-        Kind::ByteString => "ByteString",
-        Kind::Symbol => "Symbol",
+        Kind::Atom(AtomKind::Boolean) => "Boolean",
+        Kind::Atom(AtomKind::Double) => "Double",
+        Kind::Atom(AtomKind::SignedInteger) => "SignedInteger",
+        Kind::Atom(AtomKind::String) => "String",
+        Kind::Atom(AtomKind::ByteString) => "ByteString",
+        Kind::Atom(AtomKind::Symbol) => "Symbol",
         Kind::Embedded => "Embedded",
     };
     Ok(Value::symbol(Text::from_str(alloc, name)?))

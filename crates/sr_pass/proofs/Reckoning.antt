@@ -17,6 +17,7 @@ use Rattle.sr_caveat.specs.Limits.{value_weight, value_depth}
 use Rattle.sr_caveat.specs.Caps.{cap_of, cap_value, attenuated}
 use Rattle.sr_caveat.specs.declared.caps.Cap.{Cap}
 use Rattle.sr_caveat.specs.Lemmas.Capped.{cap_is}
+use Rattle.sr_weight.specs.Lemmas.Appended.{appended_weight}
 use Rattle.sr_pass.specs.Filling.{is_reference, if_reference, reference_with, dictionary_under, with_first, filled}
 use Rattle.sr_pass.specs.Filling.{all_filled}
 use Rattle.sr_pass.specs.Passing.{fits, if_fits}
@@ -88,12 +89,6 @@ dictionary_sized ks w d (Some xs) h = by (length (listed ks) == length xs) refl
         (omega arith, omega arith)
 
 -- ---- references
-
-appended_weight : (cs ds : List Caveat)
-    → sizes_with 48 (caveat_values (caveats (cs ++ ds)))
-    ≡ sizes_with 48 (caveat_values (caveats cs)) + sizes_with 48 (caveat_values (caveats ds))
-appended_weight [] ds = omega arith
-appended_weight (c ∷ cs) ds = omega (arith, appended_weight cs ds)
 
 appended_depth : (cs ds : List Caveat)
     → deepest (caveat_values (caveats (cs ++ ds)))

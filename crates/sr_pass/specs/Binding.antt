@@ -1,24 +1,19 @@
 -- What a caveat's pattern binds of a value. Sturdyref document, "caveats".
 use Rattle.std.specs.Prelude.{Bool, true, false, List, [], ◌∷◌, Option, Some, None, option_map, option_and_then}
 use Rattle.std.specs.Prelude.{if◌then◌else◌}
-use Rattle.pv_value.specs.Plain.{Plain, boolean, double, integer, string, byte_string, symbol, record_of, sequence}
-use Rattle.pv_value.specs.Plain.{dictionary, embedded, Plains, no_more, then_more, PlainPairs}
+use Rattle.pv_value.specs.Plain.{Plain, record_of, sequence, dictionary, embedded, Plains, no_more, then_more}
+use Rattle.pv_value.specs.Plain.{PlainPairs}
+use Rattle.pv_words.specs.Kinds.{is_of_kind}
 use Rattle.pv_words.specs.Parts.{same, both, value_under}
 use Rattle.sr_caveat.specs.declared.Kind.{Kind}
-use Rattle.sr_caveat.specs.declared.Kind.TheVariants.{Boolean, Double, SignedInteger, String, ByteString, Symbol}
-use Rattle.sr_caveat.specs.declared.Kind.TheVariants.{Embedded}
+use Rattle.sr_caveat.specs.declared.Kind.TheVariants.{Atom, Embedded}
 use Rattle.sr_caveat.specs.Patterns.{Pattern, discard, of_kind, bind, all_of, none_of, literal, record_with}
 use Rattle.sr_caveat.specs.Patterns.{sequence_with, dictionary_with, Patterns, no_patterns, then_pattern}
 
 abbrev pub is_kind : Kind → Plain → Bool
-is_kind Boolean (boolean b) = true
-is_kind Double (double n) = true
-is_kind SignedInteger (integer z) = true
-is_kind String (string s) = true
-is_kind ByteString (byte_string s) = true
-is_kind Symbol (symbol s) = true
+is_kind (Atom k) v = is_of_kind k v
 is_kind Embedded (embedded x) = true
-is_kind k v = false
+is_kind Embedded v = false
 
 -- the fields of a record of this label, the items of a sequence, the pairs of a dictionary; none of another value
 abbrev pub fields_of : Plain → Plain → Option Plains

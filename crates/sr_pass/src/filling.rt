@@ -27,7 +27,7 @@ pub(crate) fn made(
     ensures { IfOk result (λ v. v
         ≡ option_and_then if_fits (filled template.now bindings.now)) }
 {
-    if !gives_small(alloc, template, bindings)? {
+    if !gives_small(template, bindings) {
         return Ok(None);
     }
     fill(alloc, template, bindings)

@@ -124,14 +124,9 @@ fn is_kind(kind: Kind, value: &Value) -> bool
     ensures { result ≡ is_kind kind value.now }
 {
     match (kind, &value.node) {
-        (Kind::Boolean, Node::Bool(_)) => true,
-        (Kind::Double, Node::Double(_)) => true,
-        (Kind::SignedInteger, Node::Int(_)) => true,
-        (Kind::String, Node::Str(_)) => true,
-        (Kind::ByteString, Node::Bytes(_)) => true,
-        (Kind::Symbol, Node::Sym(_)) => true,
+        (Kind::Atom(kind), _) => kind.has(value),
         (Kind::Embedded, Node::Emb(_)) => true,
-        _ => false,
+        (Kind::Embedded, _) => false,
     }
 }
 

@@ -7,6 +7,9 @@ use sr_pass::{NoNames, pass};
 use std::alloc::Global;
 use std::test::Fail;
 
+/// A template that names two bindings.
+const TWO: &str = "<arr [<ref 0> <ref 299>]>";
+
 /// The value of a text.
 fn value(alloc: Global, text: &str) -> Result<Value, Fail> {
     let (value, _) = read_text(alloc, text.as_bytes())?;
@@ -69,36 +72,82 @@ fn many_bindings(alloc: Global, template: &str) -> Result<Caveat, Fail> {
     Ok(parse_caveat(alloc, &written, true)?)
 }
 
-/// A sequence of twenty thousand sevens. Each weighs 51, and all together 1,020,050.
-fn sevens(alloc: Global) -> Result<Value, Fail> {
+/// A sequence of so many sevens. Each weighs 51, and the sequence 50 more than they.
+fn sevens(alloc: Global, count: usize) -> Result<Value, Fail> {
     let mut items = Vec::new(alloc);
-    for _ in 0..20_000 {
+    for _ in 0..count {
         items.push(Value::integer(7))?;
     }
     Ok(Value::sequence(Items::from_vec(alloc, items)?))
 }
 
-/// Whether the sevens, bound three hundred times, come out of the template as they were.
+/// Whether twenty thousand sevens, bound three hundred times, come out of the template as they
+/// were.
 fn gives_the_sevens(alloc: Global, template: &str) -> Result<bool, Fail> {
     let caveat = many_bindings(alloc, template)?;
-    let sent = sevens(alloc)?;
+    let sent = sevens(alloc, 20_000)?;
     match pass(alloc, &[caveat], &sent, &NoNames)? {
         Some(given) => Ok(given == sent),
         None => Ok(false),
     }
 }
 
-/// Whether nothing comes out of the template for the sevens, bound three hundred times.
-fn refuses_the_sevens(alloc: Global, template: &str) -> Result<bool, Fail> {
+/// Whether nothing comes out of the template for so many sevens, bound three hundred times.
+fn refuses_sevens(alloc: Global, count: usize, template: &str) -> Result<bool, Fail> {
     let caveat = many_bindings(alloc, template)?;
-    let sent = sevens(alloc)?;
+    let sent = sevens(alloc, count)?;
     Ok(pass(alloc, &[caveat], &sent, &NoNames)?.is_none())
 }
 
+/// Two sequences of so many sevens, in one.
+fn twice_the_sevens(alloc: Global, count: usize) -> Result<Value, Fail> {
+    let mut items = Vec::new(alloc);
+    items.push(sevens(alloc, count)?)?;
+    items.push(sevens(alloc, count)?)?;
+    Ok(Value::sequence(Items::from_vec(alloc, items)?))
+}
+
+/// Whether so many sevens, bound three hundred times, come twice out of a template that names two
+/// of the three hundred.
+fn gives_the_sevens_twice(alloc: Global, count: usize) -> Result<bool, Fail> {
+    let caveat = many_bindings(alloc, TWO)?;
+    let sent = sevens(alloc, count)?;
+    match pass(alloc, &[caveat], &sent, &NoNames)? {
+        Some(given) => Ok(given == twice_the_sevens(alloc, count)?),
+        None => Ok(false),
+    }
+}
+
+/// The template that names all three hundred, one after another.
+fn all_named(alloc: Global) -> Result<String, Fail> {
+    let mut text = String::from_str(alloc, "<arr [")?;
+    for i in 0..300 {
+        text.push_str(&format!(in alloc; "<ref {i}> ")?)?;
+    }
+    text.push_str("]>")?;
+    Ok(text)
+}
+
+/// Whether nothing comes out of that template for so many sevens.
+fn refuses_all(alloc: Global, count: usize) -> Result<bool, Fail> {
+    let template = all_named(alloc)?;
+    refuses_sevens(alloc, count, &template)
+}
+
+/// Twenty thousand sevens weigh 1,020,050, and no value may weigh more than 1,048,576.
 #[test]
 fn only_what_a_template_names_counts(rt: HostRuntime) -> Result<(), Fail> {
     assert!(rt; gives_the_sevens(rt.alloc(), "<ref 299>")?);
-    assert!(rt; refuses_the_sevens(rt.alloc(), "<arr [<ref 0> <ref 1>]>")?);
+    assert!(rt; refuses_sevens(rt.alloc(), 20_000, TWO)?);
+    assert!(rt; refuses_all(rt.alloc(), 20_000)?);
+    Ok(())
+}
+
+/// Two sequences of 10,278 sevens, in one, weigh 1,048,506, and two of 10,279 weigh 1,048,608.
+#[test]
+fn two_that_a_template_names_count_twice(rt: HostRuntime) -> Result<(), Fail> {
+    assert!(rt; gives_the_sevens_twice(rt.alloc(), 10_278)?);
+    assert!(rt; refuses_sevens(rt.alloc(), 10_279, TWO)?);
     Ok(())
 }
 

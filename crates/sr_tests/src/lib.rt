@@ -6,3 +6,5 @@
 mod caveats;
 #[cfg(test)]
 mod guards;
+#[cfg(test)]
+mod weights;

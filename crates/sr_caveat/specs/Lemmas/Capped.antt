@@ -7,7 +7,7 @@ use Rattle.std.specs.List.{AllByRecursion}
 use Rattle.pv_value.specs.Plain.{Plain, integer, sequence, Plains, no_more, then_more}
 use Rattle.pv_words.specs.Parts.{same}
 use Rattle.pv_words.specs.Words.{number, number_in}
-use Rattle.ds_space.specs.Lemmas.Keys.{same_is, same_self}
+use Rattle.pv_words.specs.Lemmas.Same.{same_is, same_self}
 use Rattle.sr_caveat.specs.Patterns.{Caveat, caveats}
 use Rattle.sr_caveat.specs.Spelled.{caveat_values}
 use Rattle.sr_caveat.specs.Caps.{Cap, cap_of, cap_value, caveats_from, cap_at, cap_read, if_spelled, IsReadBack}

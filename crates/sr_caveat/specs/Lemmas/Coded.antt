@@ -1,11 +1,12 @@
 -- How the logic stores patterns, templates and caveats: as trees of numbers, no two alike.
-use Rattle.std.specs.Prelude.{◌≡◌, ℕ, zero, suc, List, refl}
+use Rattle.std.specs.Prelude.{◌≡◌, ℕ, suc, List, refl}
 use Rattle.std.specs.Coded.{Coded, coded_list, coded_ℕ}
-use Rattle.std.proofs.Common.{ap, sym, ◌∙◌}
+use Rattle.std.proofs.Common.{ap}
 use base.Stored.{Gv, gnil, gnum, gcons}
 use Rattle.pv_value.specs.Lemmas.Coded.{plain_code}
 use Rattle.pv_value.specs.Plain.{Plains, sequence}
-use Rattle.sr_caveat.specs.Patterns.{Kind, Boolean, Double, SignedInteger, String, ByteString, Symbol, Embedded}
+use Rattle.pv_words.specs.Lemmas.Kinds as kinds
+use Rattle.sr_caveat.specs.Patterns.{Kind, Atom, Embedded}
 use Rattle.sr_caveat.specs.Patterns.{Pattern, discard, of_kind, bind, all_of, none_of, literal, record_with}
 use Rattle.sr_caveat.specs.Patterns.{sequence_with, dictionary_with, Patterns, no_patterns, then_pattern}
 use Rattle.sr_caveat.specs.Patterns.{Template, attenuate, binding, constant, record_from, sequence_from, dictionary_of}
@@ -22,34 +23,14 @@ keys_inj ks ls e = let f : sequence ks ≡ sequence ls = plain_code.inj (sequenc
 -- ---- kinds, by their numbers
 
 abbrev kind_number : Kind → ℕ
-kind_number Boolean = 0
-kind_number Double = 1
-kind_number SignedInteger = 2
-kind_number String = 3
-kind_number ByteString = 4
-kind_number Symbol = 5
-kind_number Embedded = 6
-
-abbrev kind_numbered : ℕ → Kind
-kind_numbered zero = Boolean
-kind_numbered (suc zero) = Double
-kind_numbered (suc (suc zero)) = SignedInteger
-kind_numbered (suc (suc (suc zero))) = String
-kind_numbered (suc (suc (suc (suc zero)))) = ByteString
-kind_numbered (suc (suc (suc (suc (suc zero))))) = Symbol
-kind_numbered (suc (suc (suc (suc (suc (suc n)))))) = Embedded
-
-numbered_number : (k : Kind) → kind_numbered (kind_number k) ≡ k
-numbered_number Boolean = refl
-numbered_number Double = refl
-numbered_number SignedInteger = refl
-numbered_number String = refl
-numbered_number ByteString = refl
-numbered_number Symbol = refl
-numbered_number Embedded = refl
+kind_number Embedded = 0
+kind_number (Atom k) = suc (kinds.kind_number k)
 
 kind_inj : (k l : Kind) → kind_number k ≡ kind_number l → k ≡ l
-kind_inj k l e = sym (numbered_number k) ∙ ap kind_numbered e ∙ numbered_number l
+kind_inj Embedded Embedded e = refl
+kind_inj (Atom k) (Atom l) e =
+    let f : kinds.kind_number k ≡ kinds.kind_number l = cc in ap Atom (kinds.kind_inj k l f)
+kind_inj k l e = absurd cc
 
 -- ---- patterns
 

@@ -3,8 +3,10 @@ use Rattle.std.proofs.Common.{◌≡◌, ℕ, List, [], ◌∷◌, Option, Some,
 use Rattle.std.specs.Prelude.{codes}
 use Rattle.pv_value.specs.Plain.{Plain, symbol, record_of, sequence, dictionary, Plains, no_more, then_more}
 use Rattle.pv_value.specs.Plain.{PlainPairs, no_pairs, then_pair}
+use Rattle.pv_words.specs.declared.kinds.AtomKind.TheVariants.{Boolean, Double, SignedInteger, String, ByteString}
+use Rattle.pv_words.specs.declared.kinds.AtomKind.TheVariants.{Symbol}
 use Rattle.pv_words.specs.Words.{labelled}
-use Rattle.sr_caveat.specs.Patterns.{Kind, Boolean, Double, SignedInteger, String, ByteString, Symbol, Embedded}
+use Rattle.sr_caveat.specs.Patterns.{Kind, Atom, Embedded}
 use Rattle.sr_caveat.specs.Patterns.{Pattern, discard, of_kind, bind, all_of, none_of, literal, record_with}
 use Rattle.sr_caveat.specs.Patterns.{sequence_with, dictionary_with, Patterns}
 use Rattle.sr_caveat.specs.Spelled.{kind_name, paired_with, pattern_value, pattern_values}
@@ -18,12 +20,12 @@ Named s k = kind_name k ≡ s
 
 kind_back : (s : List ℕ) → If (kind_named s) (Named s)
 kind_back s =
-    if_word (Named s) s (codes "Boolean") (Some Boolean) _ (λ e. sym e)
-    (if_word (Named s) s (codes "Double") (Some Double) _ (λ e. sym e)
-    (if_word (Named s) s (codes "SignedInteger") (Some SignedInteger) _ (λ e. sym e)
-    (if_word (Named s) s (codes "String") (Some String) _ (λ e. sym e)
-    (if_word (Named s) s (codes "ByteString") (Some ByteString) _ (λ e. sym e)
-    (if_word (Named s) s (codes "Symbol") (Some Symbol) _ (λ e. sym e)
+    if_word (Named s) s (codes "Boolean") (Some (Atom Boolean)) _ (λ e. sym e)
+    (if_word (Named s) s (codes "Double") (Some (Atom Double)) _ (λ e. sym e)
+    (if_word (Named s) s (codes "SignedInteger") (Some (Atom SignedInteger)) _ (λ e. sym e)
+    (if_word (Named s) s (codes "String") (Some (Atom String)) _ (λ e. sym e)
+    (if_word (Named s) s (codes "ByteString") (Some (Atom ByteString)) _ (λ e. sym e)
+    (if_word (Named s) s (codes "Symbol") (Some (Atom Symbol)) _ (λ e. sym e)
     (if_word (Named s) s (codes "Embedded") (Some Embedded) None (λ e. sym e) tt))))))
 
 abbrev Writes : Plain → Pattern → Type 0

@@ -8,9 +8,9 @@ pub returns : goal.returns
 returns c =
     if_ok_is c.fill.result _ _
     (made_fits c.args.template.now c.args.bindings.now
-    (sym c.in_ok-gives_small.ensures ∙ c.if-not-branch.false)) c.fill.ensures
+    (sym c.gives_small.ensures ∙ c.if-not-gives_small.false)) c.fill.ensures
 
-pub returns-then-not-branch : goal.returns-then-not-branch
-returns-then-not-branch c =
+pub returns-then-not-gives_small : goal.returns-then-not-gives_small
+returns-then-not-gives_small c =
     large_refused c.args.template.now c.args.bindings.now
-    (sym c.in_ok-gives_small.ensures ∙ c.if-not-branch.true)
+    (sym c.gives_small.ensures ∙ c.if-not-gives_small.true)

@@ -3,7 +3,7 @@ use Rattle.std.proofs.Common.{◌≡◌, ◌+◌, ◌≤◌, drop, min, map}
 use Rattle.pv_value.specs.View.{key_and_value}
 use Rattle.pv_value.specs.Weight.{sizes_with}
 use Rattle.sr_caveat.specs.View.{keys_of}
-use Rattle.sr_pass.proofs.sizes.weight_of_keys.Given as goal
+use Rattle.sr_weight.proofs.labels.weight_of_keys.Given as goal
 
 abbrev pub invariant-loop-e : goal.invariant-loop-e
 invariant-loop-e l =

@@ -5,7 +5,7 @@ use Rattle.pv_value.specs.declared.Entry.{Entry}
 use Rattle.pv_value.specs.Weight.{weight, sizes_with}
 use Rattle.sr_caveat.specs.View.{keys_of}
 use Rattle.sr_caveat.specs.Lemmas.Dropping.{drop_is}
-use Rattle.sr_pass.proofs.sizes.weight_of_keys.Goals as goal
+use Rattle.sr_weight.proofs.labels.weight_of_keys.Goals as goal
 
 pub loop-e-preserved : goal.loop-e-preserved
 unfolding weight

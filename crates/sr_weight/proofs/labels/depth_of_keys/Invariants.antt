@@ -3,7 +3,7 @@ use Rattle.std.proofs.Common.{◌≡◌, ◌≤◌, drop, min, max, map}
 use Rattle.pv_value.specs.View.{key_and_value}
 use Rattle.pv_value.specs.Depth.{deepest}
 use Rattle.sr_caveat.specs.View.{keys_of}
-use Rattle.sr_pass.proofs.sizes.depth_of_keys.Given as goal
+use Rattle.sr_weight.proofs.labels.depth_of_keys.Given as goal
 
 abbrev pub invariant-loop-e : goal.invariant-loop-e
 invariant-loop-e l =

@@ -1,6 +1,0 @@
-use Rattle.std.proofs.Common.{◌≡◌, ◌++◌, take, map, false}
-use Rattle.sr_caveat.specs.Written.{caveat_of}
-use Rattle.gk_sturdy.proofs.answering.add_parsed.Given as goal
-
-abbrev pub invariant-loop-caveat : goal.invariant-loop-caveat
-invariant-loop-caveat l = l.all.items ≡ l.initial.all.items ++ map (caveat_of false) (take l.caveat-index l.more)
