@@ -3,12 +3,13 @@ ghost use Rattle.std.specs.Prelude.{◌≡◌, option_map};
 ghost use Rattle.std.specs.Ordering.{eq_by_cmp};
 ghost use Rattle.pv_value.specs.Plain.{plains, pairs, sequence};
 ghost use Rattle.pv_value.specs.Order.{orders};
-ghost use Rattle.ps_schema.specs.Conforms.{is_of_kind, is_value};
+ghost use Rattle.pv_words.specs.Kinds.{is_of_kind};
+ghost use Rattle.ps_schema.specs.Conforms.{is_value};
 ghost use Rattle.ps_check.specs.Subjects.{seen, inside_of, label_of, fields_of, fields_under};
 ghost use Rattle.ps_check.specs.Subjects.{in_fields, items_of, elements_of, entries_of};
 
-use ps_schema::Kind;
 use pv_value::{Entries, Node, Value};
+use pv_words::AtomKind;
 
 /// What is held against a pattern: a value, or the sequence of a record's fields.
 #[derive(Clone, Copy)]
@@ -19,21 +20,13 @@ pub(crate) enum Subject<'a> {
 }
 
 impl<'a> Subject<'a> {
-    pub(crate) fn is_of_kind(self, kind: Kind) -> bool
+    pub(crate) fn is_of_kind(self, kind: AtomKind) -> bool
         ensures { result ≡ is_of_kind kind (seen self.entry) }
     {
         let Subject::Whole(value) = self else {
             return false;
         };
-        match (kind, &value.node) {
-            (Kind::Boolean, Node::Bool(_)) => true,
-            (Kind::Double, Node::Double(_)) => true,
-            (Kind::SignedInteger, Node::Int(_)) => true,
-            (Kind::String, Node::Str(_)) => true,
-            (Kind::ByteString, Node::Bytes(_)) => true,
-            (Kind::Symbol, Node::Sym(_)) => true,
-            _ => false,
-        }
+        kind.has(value)
     }
 
     pub(crate) fn is(self, literal: &Value) -> bool

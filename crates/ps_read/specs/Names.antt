@@ -4,14 +4,14 @@ use Rattle.std.specs.Prelude.{is_some, option_map, if◌then◌else◌}
 use Rattle.std.specs.List.{list_all}
 use Rattle.std.specs.Char.{is_ascii_alphabetic, is_ascii_alphanumeric}
 use Rattle.pv_value.specs.Plain.{symbol}
+use Rattle.pv_words.specs.declared.kinds.AtomKind.{AtomKind}
+use Rattle.pv_words.specs.declared.kinds.AtomKind.TheVariants.{Boolean, Double, SignedInteger, String, ByteString, Symbol}
 use Rattle.pv_words.specs.Words.{is_word}
 use Rattle.ps_schema.specs.Patterns.{PlainPattern, any_value, of_kind, literal, reference}
 use Rattle.ps_read.specs.Pieces.{pieces}
-use Rattle.ps_schema.specs.declared.Kind.{Kind}
-use Rattle.ps_schema.specs.declared.Kind.TheVariants.{Boolean, Double, SignedInteger, String, ByteString, Symbol}
 
 -- the words of kinds
-abbrev pub kind_named : List ℕ → Option Kind
+abbrev pub kind_named : List ℕ → Option AtomKind
 kind_named s =
     if is_word s (codes "bool") then Some Boolean
     else (if is_word s (codes "double") then Some Double

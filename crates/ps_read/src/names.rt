@@ -8,8 +8,9 @@ ghost use Rattle.ps_read.specs.Names.{are_names, symbol_pattern, equals_pattern,
 ghost use Rattle.ps_read.specs.Names.{is_point};
 ghost use Rattle.ps_schema.specs.View.{view_form};
 
-use ps_schema::{Form, Kind, Pattern};
+use ps_schema::{Form, Pattern};
 use pv_value::{NoMemory, Text, Value};
+use pv_words::AtomKind;
 use std::alloc::Global;
 
 pub(crate) fn pattern(form: Form) -> Pattern
@@ -54,21 +55,21 @@ pub(crate) fn word_pattern(word: &[u8]) -> Option<Pattern>
     }
 }
 
-fn kind_named(word: &[u8]) -> Option<Kind>
+fn kind_named(word: &[u8]) -> Option<AtomKind>
     ensures { result ≡ kind_named word.now }
 {
     if is(word, b"bool") {
-        Some(Kind::Boolean)
+        Some(AtomKind::Boolean)
     } else if is(word, b"double") {
-        Some(Kind::Double)
+        Some(AtomKind::Double)
     } else if is(word, b"int") {
-        Some(Kind::SignedInteger)
+        Some(AtomKind::SignedInteger)
     } else if is(word, b"string") {
-        Some(Kind::String)
+        Some(AtomKind::String)
     } else if is(word, b"bytes") {
-        Some(Kind::ByteString)
+        Some(AtomKind::ByteString)
     } else if is(word, b"symbol") {
-        Some(Kind::Symbol)
+        Some(AtomKind::Symbol)
     } else {
         None
     }

@@ -3,29 +3,19 @@
 use Rattle.std.specs.Prelude.{◌≡◌, ℕ, zero, suc, ◌*◌, Bool, true, false, ◌&&◌, ◌||◌, List, length, Option, Some, None}
 use Rattle.std.specs.Prelude.{if◌then◌else◌}
 use Rattle.std.specs.Ordering.{eq_by_cmp}
-use Rattle.pv_value.specs.Plain.{Plain, boolean, double, integer, string, byte_string, symbol, record_of, sequence}
-use Rattle.pv_value.specs.Plain.{set_of, dictionary, embedded, Plains, no_more, then_more, PlainPairs, no_pairs}
-use Rattle.pv_value.specs.Plain.{then_pair}
+use Rattle.pv_value.specs.Plain.{Plain, record_of, sequence, set_of, dictionary, embedded, Plains, no_more, then_more}
+use Rattle.pv_value.specs.Plain.{PlainPairs, no_pairs, then_pair}
 use Rattle.pv_value.specs.Order.{order}
 use Rattle.pv_value.specs.Weight.{node_count}
+use Rattle.pv_words.specs.Kinds.{is_of_kind}
 use Rattle.ps_schema.specs.Patterns.{PlainPattern, any_value, of_kind, literal, reference, embedded_as, record_with}
 use Rattle.ps_schema.specs.Patterns.{record_of_both, tuple, tuple_with_rest, set_of_all, dictionary_of_all}
 use Rattle.ps_schema.specs.Patterns.{dictionary_with, one_of, all_of, PlainPatterns, no_patterns, then_pattern}
-use Rattle.ps_schema.specs.Patterns.{PlainFields, no_fields, then_field, Kind}
-use Rattle.ps_schema.specs.Patterns.{Boolean, Double, SignedInteger, String, ByteString, Symbol}
+use Rattle.ps_schema.specs.Patterns.{PlainFields, no_fields, then_field}
 use Rattle.ps_schema.specs.Names.{pattern_under}
 use Rattle.ps_schema.specs.declared.Definition.{Definition}
 
 -- ---- values, by what is inside
-
-abbrev pub is_of_kind : Kind → Plain → Bool
-is_of_kind Boolean (boolean b) = true
-is_of_kind Double (double n) = true
-is_of_kind SignedInteger (integer z) = true
-is_of_kind String (string s) = true
-is_of_kind ByteString (byte_string s) = true
-is_of_kind Symbol (symbol s) = true
-is_of_kind k v = false
 
 abbrev pub is_value : Plain → Plain → Bool
 is_value w v = eq_by_cmp order v w

@@ -1,15 +1,14 @@
 -- What a pattern is. Preserves Schema, section "Patterns".
 use Rattle.std.specs.Prelude.{ℕ, List, [], ◌∷◌}
 use Rattle.pv_value.specs.Plain.{Plain}
-pub use Rattle.ps_schema.specs.declared.Kind.{Kind}
-pub use Rattle.ps_schema.specs.declared.Kind.TheVariants.{Boolean, Double, SignedInteger, String, ByteString, Symbol}
+use Rattle.pv_words.specs.declared.kinds.AtomKind.{AtomKind}
 
 mutual
   pub data PlainPattern : Type 0 where
     -- `any`
     any_value : PlainPattern
     -- `bool`, `double` and so on
-    of_kind : Kind → PlainPattern
+    of_kind : AtomKind → PlainPattern
     -- a value by itself
     literal : Plain → PlainPattern
     -- a name

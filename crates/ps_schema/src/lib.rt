@@ -23,6 +23,7 @@ pub use faults::SchemaFault;
 use indexed::Indexed;
 pub use laws::{one_verdict, ways_end};
 use pv_value::{Text, Value};
+use pv_words::AtomKind;
 use std::alloc::Global;
 use std::marker::Model;
 
@@ -42,7 +43,7 @@ pub enum Form {
     /// `any`, which each value matches.
     Any,
     /// `bool`, `double` and so on: each value of a kind.
-    OfKind(Kind),
+    OfKind(AtomKind),
     /// The value alone.
     Literal(Value),
     /// What the definition of the name matches.
@@ -75,17 +76,6 @@ pub enum Form {
 pub struct Field {
     pub key: Value,
     pub pattern: Pattern,
-}
-
-/// The kinds of atoms.
-#[derive(Clone, Copy, Debug, Drop)]
-pub enum Kind {
-    Boolean,
-    Double,
-    SignedInteger,
-    String,
-    ByteString,
-    Symbol,
 }
 
 /// A name, and the pattern that it stands for.

@@ -142,6 +142,13 @@ fn a_long_chain_of_names_is_judged_once(rt: HostRuntime) -> Result<(), Fail> {
 }
 
 #[test]
+fn a_chain_of_four_thousand_names_is_judged_once(rt: HostRuntime) -> Result<(), Fail> {
+    assert!(rt; is_at_the_end(rt.alloc(), 3_999, "1")?);
+    assert!(rt; !is_at_the_end(rt.alloc(), 3_999, "x")?);
+    Ok(())
+}
+
+#[test]
 fn the_first_misfit_is_told(rt: HostRuntime) -> Result<(), Fail> {
     assert!(rt; misfit(rt.alloc(), "version 1 . A = int") == Some((6, false)));
     assert!(rt; misfit(rt.alloc(), "version 1 . include x .") == Some((3, true)));
@@ -177,6 +184,34 @@ fn a_long_chain_is_a_schema(rt: HostRuntime) -> Result<(), Fail> {
     assert!(rt; schema.place(b"N0") == Some(0));
     assert!(rt; schema.place(b"N19999") == Some(19_999));
     assert!(rt; schema.place(b"N20000") == None);
+    Ok(())
+}
+
+/// The text of so many names, `N0` and so on, each of which stands for integers, but the last,
+/// which stands for lists of pairs of the first name and the one before the last.
+fn many_names(alloc: Global, count: usize) -> Result<String, Fail> {
+    let mut text = String::from_str(alloc, "version 1 .")?;
+    let last = count.saturating_sub(1);
+    for i in 0..last {
+        text.push_str(&format!(in alloc; " N{i} = int .")?)?;
+    }
+    let before = last.saturating_sub(1);
+    text.push_str(&format!(in alloc; " N{last} = [[N0 N{before}] ...] .")?)?;
+    Ok(text)
+}
+
+/// Whether the value of a text conforms to the last of so many names.
+fn is_of_many(alloc: Global, count: usize, value: &str) -> Result<bool, Fail> {
+    let schema = many_names(alloc, count)?;
+    let last = count.saturating_sub(1);
+    let name = format!(in alloc; "N{last}")?;
+    checks(alloc, &schema, &name, value)
+}
+
+#[test]
+fn a_value_is_judged_by_many_definitions(rt: HostRuntime) -> Result<(), Fail> {
+    assert!(rt; is_of_many(rt.alloc(), 20_000, "[[1 2] [3 -4]]")?);
+    assert!(rt; !is_of_many(rt.alloc(), 20_000, "[[1 2] [3 x]]")?);
     Ok(())
 }
 

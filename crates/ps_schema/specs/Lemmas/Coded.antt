@@ -1,10 +1,10 @@
 -- How the logic stores patterns: as trees of numbers, no two alike.
-use Rattle.std.specs.Prelude.{◌≡◌, ℕ, zero, suc, List, refl}
+use Rattle.std.specs.Prelude.{◌≡◌, ℕ, List, refl}
 use Rattle.std.specs.Coded.{Coded, coded_list, coded_ℕ}
-use Rattle.std.proofs.Common.{ap, sym, ◌∙◌}
+use Rattle.std.proofs.Common.{ap}
 use base.Stored.{Gv, gnil, gnum, gcons}
 use Rattle.pv_value.specs.Lemmas.Coded.{plain_code}
-use Rattle.ps_schema.specs.Patterns.{Kind, Boolean, Double, SignedInteger, String, ByteString, Symbol}
+use Rattle.pv_words.specs.Lemmas.Kinds.{kind_number, kind_inj}
 use Rattle.ps_schema.specs.Patterns.{PlainPattern, any_value, of_kind, literal, reference, embedded_as, record_with}
 use Rattle.ps_schema.specs.Patterns.{record_of_both, tuple, tuple_with_rest, set_of_all, dictionary_of_all}
 use Rattle.ps_schema.specs.Patterns.{dictionary_with, one_of, all_of, PlainPatterns, no_patterns, then_pattern}
@@ -12,37 +12,6 @@ use Rattle.ps_schema.specs.Patterns.{PlainFields, no_fields, then_field}
 
 abbrev pub text_code : Coded (List ℕ)
 text_code = coded_list coded_ℕ
-
--- ---- kinds, by their numbers
-
-abbrev kind_number : Kind → ℕ
-kind_number Boolean = 0
-kind_number Double = 1
-kind_number SignedInteger = 2
-kind_number String = 3
-kind_number ByteString = 4
-kind_number Symbol = 5
-
-abbrev kind_numbered : ℕ → Kind
-kind_numbered zero = Boolean
-kind_numbered (suc zero) = Double
-kind_numbered (suc (suc zero)) = SignedInteger
-kind_numbered (suc (suc (suc zero))) = String
-kind_numbered (suc (suc (suc (suc zero)))) = ByteString
-kind_numbered (suc (suc (suc (suc (suc n))))) = Symbol
-
-numbered_number : (k : Kind) → kind_numbered (kind_number k) ≡ k
-numbered_number Boolean = refl
-numbered_number Double = refl
-numbered_number SignedInteger = refl
-numbered_number String = refl
-numbered_number ByteString = refl
-numbered_number Symbol = refl
-
-kind_inj : (k l : Kind) → kind_number k ≡ kind_number l → k ≡ l
-kind_inj k l e = sym (numbered_number k) ∙ ap kind_numbered e ∙ numbered_number l
-
--- ---- patterns
 
 abbrev mutual
   pub code : PlainPattern → Gv
