@@ -4,9 +4,10 @@ use Rattle.std.proofs.Common.{ℕ, zero, suc, ◌+◌, ◌<◌, ◌≤◌, lengt
 use Rattle.std.specs.List.{list_any}
 use Rattle.std.proofs.lemmas.List.{at_drop_more}
 use Rattle.pv_value.specs.Plain.{Plain}
+use Rattle.pv_words.specs.Lemmas.Same.{same_is}
 use Rattle.pv_words.specs.Parts.{same}
 use Rattle.ds_space.specs.Changes.{among}
-use Rattle.ds_space.specs.Lemmas.Keys.{same_is, same_turns}
+use Rattle.ds_space.specs.Lemmas.Keys.{same_turns}
 use Rattle.ds_facts.specs.Atoms.{Entry, has_entry}
 use Rattle.ds_facts.specs.Keeping.{Places, keeps}
 

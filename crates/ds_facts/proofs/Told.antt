@@ -9,6 +9,7 @@ use Rattle.std.specs.List.{list_any}
 use Rattle.pv_value.specs.Plain.{Plain, integer, record_of, sequence, dictionary, Plains, no_more, then_more, plains}
 use Rattle.pv_value.specs.Plain.{PlainPairs, no_pairs, then_pair}
 use Rattle.pv_value.specs.Order.{order}
+use Rattle.pv_words.specs.Lemmas.Same.{same_is}
 use Rattle.pv_words.specs.Parts.{same, item_at, item_under, value_under}
 use Rattle.pv_words.specs.Words.{number}
 use Rattle.ds_shape.specs.declared.paths.Step.{Step}
@@ -17,7 +18,7 @@ use Rattle.ds_shape.specs.Paths.{part_by, part_at, with_first, parts_at, sequenc
 use Rattle.ds_shape.specs.Outlines.{Outline}
 use Rattle.ds_shape.specs.Lemmas.Orders.{plains_same}
 use Rattle.ds_space.specs.Changes.{among}
-use Rattle.ds_space.specs.Lemmas.Keys.{same_is, any_append}
+use Rattle.ds_space.specs.Lemmas.Keys.{any_append}
 use Rattle.ds_facts.specs.Atoms.{Entry, is_atom, entry_of, numbered, keyed, same_entry, has_entry}
 use Rattle.ds_facts.specs.Keeping.{Facts, AreFacts, keeps}
 use Rattle.ds_facts.specs.Nearness.{Near, Anywhere, Nowhere, Among, IsNearTo, IsNear, place_of, constant_entry}

@@ -7,11 +7,11 @@ use Rattle.std.proofs.lemmas.List.Kept.{IsStrictlySortedBy-filter}
 use Rattle.std.proofs.lemmas.Map.Views.{any-filter_same}
 use Rattle.pv_value.specs.Plain.{Plain}
 use Rattle.pv_value.specs.Order.{order}
+use Rattle.pv_words.specs.Lemmas.Same.{same_is, same_self}
 use Rattle.pv_words.specs.Parts.{same}
 use Rattle.ds_shape.specs.Paths.{sequence_at}
 use Rattle.ds_shape.specs.Outlines.{Outline, passes}
 use Rattle.ds_space.specs.Changes.{among}
-use Rattle.ds_space.specs.Lemmas.Keys.{same_is, same_self}
 use Rattle.ds_space.specs.Lemmas.Lists.{unique}
 use Rattle.ds_skeleton.specs.Places.{Parts, stand, stands, found, is_found, count}
 use Rattle.ds_skeleton.proofs.Truths.{same_truth, or_true}

@@ -6,10 +6,11 @@ use Rattle.std.specs.BTreeMap.{BTreeMap}
 use Rattle.std.proofs.lemmas.Bool.Decides.{nat_tests}
 use Rattle.pv_value.specs.Plain.{Plain}
 use Rattle.pv_value.specs.declared.Entry.{Entry}
+use Rattle.pv_words.specs.Lemmas.Same.{same_is}
 use Rattle.pv_words.specs.Parts.{same}
 use Rattle.ds_shape.specs.Outlines.{Outline}
 use Rattle.ds_space.specs.Changes.{among}
-use Rattle.ds_space.specs.Lemmas.Keys.{same_is, same_turns, any_none}
+use Rattle.ds_space.specs.Lemmas.Keys.{same_turns, any_none}
 use Rattle.ds_skeleton.specs.Places.{Place, Parts, same_outline, same_place, place_of, is_placed, stand, stands}
 use Rattle.ds_skeleton.specs.Places.{is_found}
 use Rattle.ds_skeleton.specs.Places.{catches_by, count}

@@ -16,13 +16,14 @@ use Rattle.pv_value.specs.Weight.{weight}
 use Rattle.pv_value.specs.Lemmas.EntryOrderLaws.{entry_order_total}
 use Rattle.pv_value.specs.Lemmas.Listed.{listed-plains}
 use Rattle.pv_value.specs.declared.Entry.{Entry}
+use Rattle.pv_words.specs.Lemmas.Same.{same_is}
 use Rattle.pv_words.specs.Parts.{same}
 use Rattle.ds_shape.specs.Outlines.{Outline}
 use Rattle.ds_space.specs.Wants.{captured}
 use Rattle.ds_space.specs.Changes.{among}
 use Rattle.ds_space.specs.declared.space.Fanned.{Fanned}
 use Rattle.ds_space.specs.Fans.{fan_for, fan_of, weight_of_fanned}
-use Rattle.ds_space.specs.Lemmas.Keys.{same_is, same_turns, any_flat}
+use Rattle.ds_space.specs.Lemmas.Keys.{same_turns, any_flat}
 use Rattle.ds_space.specs.Lemmas.Lists.{in_order, ascending_any}
 use Rattle.ds_skeleton.specs.Places.{Place, Parts, same_entry, same_outline, same_place, place_of, is_placed, stand}
 use Rattle.ds_skeleton.specs.Places.{stands}

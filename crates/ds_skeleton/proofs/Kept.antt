@@ -7,10 +7,11 @@ use Rattle.std.specs.Map.{keys_of, lookup}
 use Rattle.std.specs.BTreeSet as sorted
 use Rattle.std.proofs.lemmas.Bool.{lt-ltb}
 use Rattle.pv_value.specs.Plain.{Plain}
+use Rattle.pv_words.specs.Lemmas.Same.{same_is}
 use Rattle.pv_words.specs.Parts.{same}
 use Rattle.ds_shape.specs.Outlines.{Outline}
 use Rattle.ds_space.specs.Changes.{among}
-use Rattle.ds_space.specs.Lemmas.Keys.{same_is, same_turns}
+use Rattle.ds_space.specs.Lemmas.Keys.{same_turns}
 use Rattle.ds_skeleton.specs.Places.{Place, place_of, is_placed, is_outlined, has_outline, observes, is_observed}
 use Rattle.ds_skeleton.specs.Places.{same_outline, count}
 use Rattle.ds_skeleton.specs.Leaves.{Leaf, kept, observed_at, others_observe}

@@ -22,8 +22,9 @@ use Rattle.pv_value.specs.Order.{order}
 use Rattle.pv_value.specs.EntryOrder.{entry_order}
 use Rattle.pv_value.specs.Lemmas.EntryOrderLaws.{entry_order_total}
 use Rattle.pv_value.specs.declared.Entry.{Entry}
+use Rattle.pv_words.specs.Lemmas.Same.{same_is}
 use Rattle.pv_words.specs.Parts.{same}
-use Rattle.ds_space.specs.Lemmas.Keys.{same_is, same_turns, or_false, or_assoc}
+use Rattle.ds_space.specs.Lemmas.Keys.{same_turns, or_false, or_assoc}
 use Rattle.ds_skeleton.specs.Places.{same_entry}
 use Rattle.ds_skeleton.specs.Keys.{has_key}
 use Rattle.ds_skeleton.specs.Leaves.{Leaf, number}

@@ -9,9 +9,9 @@ use Rattle.std.specs.BTreeSet as sorted
 use Rattle.std.specs.BTreeSet.{BTreeSet}
 use Rattle.pv_value.specs.Plain.{Plain}
 use Rattle.pv_value.specs.Order.{order}
+use Rattle.pv_words.specs.Lemmas.Same.{same_is, same_self}
 use Rattle.pv_words.specs.Parts.{same}
 use Rattle.ds_space.specs.Changes.{among}
-use Rattle.ds_space.specs.Lemmas.Keys.{same_is, same_self}
 use Rattle.ds_skeleton.specs.Leaves.{Leaf, number, kept, captured_at, observed_at, leaf_at, has_leaf_at, others_observe}
 use Rattle.ds_skeleton.proofs.Truths.{same_truth, any_at, witness, not_true}
 

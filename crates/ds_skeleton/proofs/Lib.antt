@@ -13,7 +13,6 @@ pub mod Keys
 pub mod Lawful
 pub mod Leaves
 pub mod Moves
-pub mod Observers
 pub mod Parts
 pub mod Places
 pub mod Rows

@@ -218,7 +218,8 @@ IsGap o i xs =
 
 pub gap_in : (o : Outline) (xs : List Shape) (r : Result ℕ ℕ) (i : ℕ)
     → MatchResult r (HoldsAt (λ s. outline_order s.outline o ≡ Equal) xs) (λ j. IsGap o j xs) → r ≡ Err i → IsGap o i xs
-gap_in o xs r i h e = subst (λ q. MatchResult q (HoldsAt (λ s. outline_order s.outline o ≡ Equal) xs) (λ j. IsGap o j xs)) e h
+gap_in o xs r i h e =
+    subst (λ q. MatchResult q (HoldsAt (λ s. outline_order s.outline o ≡ Equal) xs) (λ j. IsGap o j xs)) e h
 
 equal_is : (s o : Outline) → outline_order s o ≡ Equal → s ≡ o
 equal_is s o e = outline_is s o (ap is_eq e)

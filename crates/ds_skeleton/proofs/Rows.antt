@@ -8,9 +8,9 @@ use Rattle.std.specs.Map.{values_of, lookup, remove_entry}
 use Rattle.std.specs.BTreeMap.{insert_entry, is_at}
 use Rattle.pv_value.specs.Plain.{Plain}
 use Rattle.pv_value.specs.declared.Entry.{Entry}
+use Rattle.pv_words.specs.Lemmas.Same.{same_self}
 use Rattle.pv_words.specs.Parts.{same}
 use Rattle.ds_space.specs.Changes.{among}
-use Rattle.ds_space.specs.Lemmas.Keys.{same_self}
 use Rattle.ds_skeleton.specs.Places.{catches, count}
 use Rattle.ds_skeleton.specs.Leaves.{kept}
 use Rattle.ds_skeleton.specs.Indexes.{only_in}

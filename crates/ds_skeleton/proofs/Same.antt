@@ -11,11 +11,12 @@ use Rattle.pv_value.specs.EntryOrder.{entry_order}
 use Rattle.pv_value.specs.Lemmas.OrderLaws.{order_total, order_same}
 use Rattle.pv_value.specs.Lemmas.EntryOrderLaws.{entry_order_total}
 use Rattle.pv_value.specs.declared.Entry.{Entry}
+use Rattle.pv_words.specs.Lemmas.Same.{same_is, same_self}
 use Rattle.pv_words.specs.Parts.{same}
 use Rattle.ds_shape.specs.Outlines.{Outline}
 use Rattle.ds_shape.specs.Keys.{outline_value}
 use Rattle.ds_shape.specs.Lemmas.Telling.{outline_tells}
-use Rattle.ds_space.specs.Lemmas.Keys.{same_is, same_self, same_turns}
+use Rattle.ds_space.specs.Lemmas.Keys.{same_turns}
 use Rattle.ds_skeleton.specs.Places.{Place, outline_order, same_outline, same_entry, same_place}
 
 pub both_eq : (r s : Ordering) → is_eq (ordering_then r s) ≡ (is_eq r && is_eq s)

@@ -9,9 +9,10 @@ use Rattle.std.specs.BTreeMap.{BTreeMap}
 use Rattle.pv_value.specs.Plain.{Plain}
 use Rattle.pv_value.specs.Order.{order}
 use Rattle.pv_value.specs.declared.Entry.{Entry}
+use Rattle.pv_words.specs.Lemmas.Same.{same_is, same_self}
 use Rattle.pv_words.specs.Parts.{same}
 use Rattle.ds_space.specs.Changes.{among}
-use Rattle.ds_space.specs.Lemmas.Keys.{same_is, same_self, same_turns}
+use Rattle.ds_space.specs.Lemmas.Keys.{same_turns}
 use Rattle.ds_skeleton.specs.Places.{catches, is_wanted, count}
 use Rattle.ds_skeleton.specs.Leaves.{number, kept}
 use Rattle.ds_skeleton.specs.Indexes.{only_in, AreCounts}

@@ -2,9 +2,9 @@
 use Rattle.std.proofs.Common.{◌≡◌, List, [], ◌∷◌, Bool, true, false, ◌||◌, not, refl, ap, sym, subst}
 use Rattle.std.specs.List.{list_any}
 use Rattle.pv_value.specs.Plain.{Plain}
+use Rattle.pv_words.specs.Lemmas.Same.{same_is, same_self}
 use Rattle.pv_words.specs.Parts.{same}
 use Rattle.ds_space.specs.Changes.{among}
-use Rattle.ds_space.specs.Lemmas.Keys.{same_is, same_self}
 
 clash : {A : Type 0} → true ≡ false → A
 clash e = cc

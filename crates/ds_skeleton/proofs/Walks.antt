@@ -1,7 +1,7 @@
 -- What a walk over all shapes does to what each place has.
 use Rattle.std.proofs.Common.{◌≡◌, ℕ, zero, suc, ◌+◌, ◌-◌, List, [], ◌∷◌, length, map, Bool, true, false, cond, ◌&&◌}
-use Rattle.std.proofs.Common.{◌++◌, ◌<◌, ◌≤◌, take, drop, Option, Some, None, is_some, option_map, option_and_then, slice_set}
-use Rattle.std.proofs.Common.{slice_index_or, refl, ap, sym, ◌∙◌, subst, arith}
+use Rattle.std.proofs.Common.{◌++◌, ◌<◌, ◌≤◌, take, drop, Option, Some, None, is_some, option_map, option_and_then}
+use Rattle.std.proofs.Common.{slice_index_or, slice_set, refl, ap, sym, ◌∙◌, subst, arith}
 use Rattle.std.specs.List.{AllZip}
 use Rattle.std.specs.List.Sorted.{IsStrictlySortedBy}
 use Rattle.std.proofs.lemmas.List.{drop_all}
@@ -160,14 +160,21 @@ walk_on R n S T t le w d r =
     let e : suc n ≡ n + 1 = omega arith in
     subst (λ m. WalkedTo R m S (slice_set T n t)) e (walk_next R n S T t le w d r)
 
-pub walk_ends : (R : Shape → Shape → Type 0) (n : ℕ) (S T : List Shape) → length S ≤ n → WalkedTo R n S T → AllZip R S T
+walk_ends : (R : Shape → Shape → Type 0) (n : ℕ) (S T : List Shape) → length S ≤ n → WalkedTo R n S T → AllZip R S T
 walk_ends R zero [] T le w = subst (λ U. AllZip R [] U) (sym w) tt
 walk_ends R zero (s ∷ ss) T le w = absurd (omega arith)
 walk_ends R (suc n) [] T le w = subst (λ U. AllZip R [] U) (sym w) tt
 walk_ends R (suc n) (s ∷ ss) [] le w = w
 walk_ends R (suc n) (s ∷ ss) (t ∷ ts) le w = (w.0, walk_ends R n ss ts (omega arith) w.1)
 
-pub walked_whole : (n : ℕ) (S T : List Shape) → length S ≡ n → length T ≡ n → take n (T ++ drop (length T) S) ≡ T
+walked_whole : (n : ℕ) (S T : List Shape) → length S ≡ n → length T ≡ n → take n (T ++ drop (length T) S) ≡ T
 walked_whole n S T e f =
     ap (λ U. take n (T ++ U)) (drop_all (length T) S (omega (arith, e, f)))
     ∙ ap (λ m. take m (T ++ [])) (sym f) ∙ take-append_seam T []
+
+-- the walk over all of them, that is at its end
+pub walked : (R : Shape → Shape → Type 0) (n len : ℕ) (S was T : List Shape) → length S ≡ len → length T ≡ len
+    → was ≡ S → length was ≤ n → WalkedTo R n was T → AllZip R S (take len (T ++ drop (length T) S))
+walked R n len S was T old new same le w =
+    subst (AllZip R S) (sym (walked_whole len S T old new))
+    (subst (λ U. AllZip R U T) same (walk_ends R n was T le w))

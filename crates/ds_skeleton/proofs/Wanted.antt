@@ -12,6 +12,7 @@ use Rattle.pv_value.specs.Order.{order}
 use Rattle.pv_value.specs.EntryOrder.{entry_order}
 use Rattle.pv_value.specs.WellFormed.{Ascend}
 use Rattle.pv_value.specs.declared.Entry.{Entry}
+use Rattle.pv_words.specs.Lemmas.Same.{same_is}
 use Rattle.pv_words.specs.Parts.{same}
 use Rattle.dp_pattern.specs.Patterns.{Pattern}
 use Rattle.dp_pattern.specs.Matching.{matched}
@@ -22,7 +23,7 @@ use Rattle.ds_shape.specs.Standing.{is_found as was_found}
 use Rattle.ds_shape.specs.Lemmas.Saying.{matched_captured}
 use Rattle.ds_space.specs.Wants.{observer_of, captured, is_key, gives, wanted}
 use Rattle.ds_space.specs.Changes.{among, only_over}
-use Rattle.ds_space.specs.Lemmas.Keys.{same_is, same_turns, any_same, any_none}
+use Rattle.ds_space.specs.Lemmas.Keys.{same_turns, any_same, any_none}
 use Rattle.ds_skeleton.specs.Places.{Parts, same_entry, place_of, placed, stand, stands, found, is_found, catches}
 use Rattle.ds_skeleton.specs.Places.{catches_by, is_wanted}
 use Rattle.ds_skeleton.specs.Indexes.{only_in}

@@ -13,10 +13,10 @@ use Rattle.pv_value.specs.EntryOrder.{entry_order}
 use Rattle.pv_value.specs.WellFormed.{Ascend}
 use Rattle.pv_value.specs.Sets.{ascending_by}
 use Rattle.pv_value.specs.declared.Entry.{Entry}
+use Rattle.pv_words.specs.Lemmas.Same.{same_is, same_self}
 use Rattle.pv_words.specs.Parts.{same}
 use Rattle.ds_space.specs.Wants.{wants, wanted, weight_of_key, weight_of_keys}
 use Rattle.ds_space.specs.Changes.{among, only_over}
-use Rattle.ds_space.specs.Lemmas.Keys.{same_is, same_self}
 use Rattle.ds_space.specs.Lemmas.Lists.{unique, wants_ascend, among_wants, in_order, ascending_any}
 use Rattle.ds_skeleton.specs.Places.{same_entry}
 use Rattle.ds_skeleton.specs.Indexes.{only_in}

@@ -63,6 +63,10 @@ found None c = None
 found (Some k) None = None
 found (Some k) (Some c) = Some (record { constants = k; captures = c })
 
+-- what stands in a value at the constant paths of the outline, where it passes the tests
+abbrev pub constants_in : Outline → Plain → Option Plain
+constants_in s v = if list_all (passes v) s.tests then sequence_at s.constants v else None
+
 -- what stands in a value at the constant paths and at the capture paths of the outline, where it passes the tests
 unfoldable pub stand : Outline → Plain → Option Parts
 stand s v =

@@ -2,10 +2,11 @@
 use Rattle.std.specs.Prelude.{◌≡◌, ℕ, ◌+◌, ◌-◌, Bool, true, false, ◌&&◌, ◌||◌, not, List, [], ◌∷◌, map}
 use Rattle.std.specs.Prelude.{Option, Some, None, option_map, option_and_then, is_some, if◌then◌else◌}
 use Rattle.std.specs.List.Sorted.{IsStrictlySortedBy}
+use Rattle.std.specs.BTreeMap.{BTreeMap}
 use Rattle.pv_value.specs.Plain.{Plain}
 use Rattle.pv_words.specs.Parts.{same}
 use Rattle.ds_shape.specs.Outlines.{Outline}
-use Rattle.ds_skeleton.specs.Places.{Place, outline_order, same_outline, stands, count}
+use Rattle.ds_skeleton.specs.Places.{Place, Parts, outline_order, same_outline, stands, count}
 use Rattle.ds_skeleton.specs.Leaves.{Leaf, leaf_at, has_leaf_at, captured_at, observed_at, others_observe}
 pub use Rattle.ds_skeleton.specs.declared.shape.Shape.{Shape}
 
@@ -27,6 +28,11 @@ leaf_of shapes p = option_and_then (λ s. leaf_at s.leaves p.constants) (shape_a
 
 abbrev pub has_leaf : List Shape → Place → Bool
 has_leaf shapes p = is_some (leaf_of shapes p)
+
+-- what was found of a value, where a leaf stands for its constants
+abbrev pub at_leaf : BTreeMap Plain Leaf → Option Parts → Option Parts
+at_leaf leaves None = None
+at_leaf leaves (Some e) = if has_leaf_at leaves e.constants then Some e else None
 
 -- the outlines ascend
 abbrev pub AreInOrder : List Shape → Type 0

@@ -1,11 +1,10 @@
 //! To whom a message goes.
-ghost use Rattle.std.specs.Prelude.{◌≡◌, ◌||◌, map, nat_lt, Some, List, OnOk, IfOk};
+ghost use Rattle.std.specs.Prelude.{◌≡◌, ◌||◌, map, Some, List, OnOk, IfOk};
 ghost use Rattle.std.specs.List.{list_any};
 ghost use Rattle.std.specs.List.Sorted.{IsStrictlySortedBy};
 ghost use Rattle.pv_value.specs.Plain.{Plain};
 ghost use Rattle.pv_value.specs.EntryOrder.{entry_order};
 ghost use Rattle.pv_value.specs.declared.Entry.{Entry};
-ghost use Rattle.ds_space.specs.Limits.{most_wanted_weight};
 ghost use Rattle.ds_space.specs.Spaces.{IsFan};
 ghost use Rattle.ds_skeleton.specs.Indexes.{IsWhole, AreCounts, met, met_by};
 ghost use Rattle.ds_skeleton.specs.Keys.{has_key, items_of, fanned_of};
@@ -14,9 +13,9 @@ use crate::index::Index;
 use crate::leaf::Leaves;
 use crate::listing::weigh;
 use crate::shape::Shape;
-use crate::standing::{Parts, stand};
+use crate::standing::Parts;
 use crate::touching::{Keys, put_in_order, put_observers};
-use ds_space::{Fan, FanList, Fanned, WANTED_WEIGHT};
+use ds_space::{Fan, FanList, Fanned, is_over};
 use pv_value::{Items, NoMemory, Node, Value};
 use std::alloc::Global;
 
@@ -40,7 +39,7 @@ fn put_met(alloc: Global, keys: &mut Keys, shape: &Shape, message: &Value) -> Re
     ensures { OnOk result ((q : Entry) → has_key keys.new.items q
         ≡ (has_key keys.old.items q || met message.now q shape.now)) }
 {
-    match stand(alloc, &shape.outline, message)? {
+    match shape.parts_of(alloc, message)? {
         Some(parts) => put_at(keys, &shape.leaves, parts),
         None => Ok(()),
     }
@@ -81,13 +80,6 @@ fn fan_list(alloc: Global, keys: Keys) -> Result<FanList, NoMemory>
         list.push(Fanned { observe, captures })?;
     }
     Ok(list)
-}
-
-/// Whether that is more than may be wanted, or sent on.
-pub(crate) fn is_over(weight: u64) -> bool
-    ensures { result ≡ nat_lt most_wanted_weight weight }
-{
-    weight > WANTED_WEIGHT
 }
 
 /// The observations among the values that a message matches.

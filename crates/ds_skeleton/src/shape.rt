@@ -1,13 +1,15 @@
 //! What the index has of one outline.
-ghost use Rattle.std.specs.Prelude.{◌≡◌, OnOk};
+ghost use Rattle.std.specs.Prelude.{◌≡◌, OnOk, IfOk};
 ghost use Rattle.std.specs.BTreeMap as tree;
 ghost use Rattle.ds_facts.specs.Keeping.{AreFacts};
+ghost use Rattle.ds_skeleton.specs.Places.{stand};
 ghost use Rattle.ds_skeleton.specs.Shapes.{IsBlank, IsBumped, IsDropped, IsWatched, IsUnwatched};
+ghost use Rattle.ds_skeleton.specs.Shapes.{at_leaf};
 
 use crate::capturing::captures_of;
 use crate::index::Values;
 use crate::leaf::{Leaves, begin, bump, drop_one, join, unwatch};
-use crate::standing::{Parts, stand};
+use crate::standing::{Parts, constants_in, with_captures};
 use ds_facts::Facts;
 use ds_shape::Outline;
 use pv_value::{NoMemory, Value};
@@ -35,11 +37,25 @@ impl Shape {
         }
     }
 
+    /// The parts of a value, where a leaf stands for its constants. Else no captures are made.
+    pub(crate) fn parts_of(&self, alloc: Global, value: &Value) -> Result<Option<Parts>, NoMemory>
+        ensures { IfOk result
+            (λ parts. parts ≡ at_leaf self.now.leaves (stand self.now.outline value.now)) }
+    {
+        let Some(constants) = constants_in(alloc, &self.outline, value)? else {
+            return Ok(None);
+        };
+        if self.leaves.contains_key(&constants) {
+            return with_captures(alloc, &self.outline, value, constants);
+        }
+        Ok(None)
+    }
+
     /// One more value.
     pub(crate) fn bump(&mut self, alloc: Global, value: &Value) -> Result<(), NoMemory>
         ensures { OnOk result (IsBumped value.now self.old self.new) }
     {
-        match stand(alloc, &self.outline, value)? {
+        match self.parts_of(alloc, value)? {
             Some(parts) => {
                 let Parts {
                     constants,
@@ -55,7 +71,7 @@ impl Shape {
     pub(crate) fn drop_one(&mut self, alloc: Global, value: &Value) -> Result<(), NoMemory>
         ensures { OnOk result (IsDropped value.now self.old self.new) }
     {
-        match stand(alloc, &self.outline, value)? {
+        match self.parts_of(alloc, value)? {
             Some(parts) => {
                 let Parts {
                     constants,

@@ -6,11 +6,11 @@ ghost use Rattle.std.specs.BTreeMap.{is_at};
 ghost use Rattle.ds_space.specs.Spaces.{IsApplied};
 ghost use Rattle.ds_space.specs.declared.space.SpaceEvent.TheVariants.{Add, Gone};
 
-use crate::fanning::{fan, is_over};
+use crate::fanning::fan;
 use crate::index::Index;
 use crate::listing::{came, left, weight_with, weight_without};
 use crate::tally::{count_in, count_out, take_back};
-use ds_space::{Applied, Fan, Space, SpaceEvent};
+use ds_space::{Applied, Fan, Space, SpaceEvent, is_over};
 use pv_value::{NoMemory, Value};
 use std::alloc::Global;
 use std::collections::BTreeMap;

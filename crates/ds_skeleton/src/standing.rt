@@ -1,7 +1,7 @@
 //! What values have at an outline.
 ghost use Rattle.std.specs.Prelude.{◌≡◌, Some, IfOk};
 ghost use Rattle.ds_shape.specs.Paths.{sequence_at};
-ghost use Rattle.ds_skeleton.specs.Places.{stand, found};
+ghost use Rattle.ds_skeleton.specs.Places.{stand, constants_in, found};
 
 use ds_shape::{Outline, captures_at, constants_at, passes};
 use pv_value::{NoMemory, Value};
@@ -15,7 +15,6 @@ pub(crate) struct Parts {
 }
 
 /// The parts of a value that passes the tests of the outline and has all its paths.
-#[tactic(auto, unfolding(crate::specs::Places::stand))]
 pub(crate) fn stand(
     alloc: Global,
     outline: &Outline,
@@ -23,17 +22,28 @@ pub(crate) fn stand(
 ) -> Result<Option<Parts>, NoMemory>
     ensures { IfOk result (λ parts. parts ≡ stand outline.now value.now) }
 {
-    if !passes(outline, value) {
-        return Ok(None);
-    }
-    match constants_at(alloc, outline, value)? {
+    match constants_in(alloc, outline, value)? {
         Some(constants) => with_captures(alloc, outline, value, constants),
         None => Ok(None),
     }
 }
 
+/// The constants of a value that passes the tests of the outline.
+pub(crate) fn constants_in(
+    alloc: Global,
+    outline: &Outline,
+    value: &Value,
+) -> Result<Option<Value>, NoMemory>
+    ensures { IfOk result (λ constants. constants ≡ constants_in outline.now value.now) }
+{
+    if !passes(outline, value) {
+        return Ok(None);
+    }
+    constants_at(alloc, outline, value)
+}
+
 /// The parts, where nothing of the captures is missing.
-fn with_captures(
+pub(crate) fn with_captures(
     alloc: Global,
     outline: &Outline,
     value: &Value,

@@ -18,7 +18,7 @@ use crate::finding::find;
 use crate::leaf::{Leaf, Leaves};
 use crate::observing::{Place, place_of};
 use crate::shape::Shape;
-use crate::standing::{Parts, stand};
+use crate::standing::Parts;
 use pv_value::{Entry, NoMemory, Value};
 use std::alloc::Global;
 use std::collections::{BTreeMap, BTreeSet};
@@ -120,7 +120,7 @@ fn put_touched(alloc: Global, keys: &mut Keys, shape: &Shape, value: &Value) -> 
     ensures { OnOk result ((q : Entry) → has_key keys.new.items q
         ≡ (has_key keys.old.items q || touched value.now q shape.now)) }
 {
-    match stand(alloc, &shape.outline, value)? {
+    match shape.parts_of(alloc, value)? {
         Some(parts) => put_last(keys, &shape.leaves, parts),
         None => Ok(()),
     }

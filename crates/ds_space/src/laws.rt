@@ -4,7 +4,7 @@ ghost use Rattle.ds_space.specs.Limits.{most_wanted_weight};
 ghost use Rattle.ds_space.specs.Laws.{WantsAscend, NothingOfNothing, WantsAreTheRule};
 ghost use Rattle.ds_space.specs.Laws.{ChangesAreExact};
 
-use crate::WANTED_WEIGHT;
+use crate::limits::WANTED_WEIGHT;
 
 /// What is wanted ascends strictly, and over nothing nothing is wanted.
 pub fn wants_are_in_order()

@@ -9,6 +9,7 @@ mod collecting;
 mod comparing;
 mod fanning;
 mod laws;
+mod limits;
 mod observing;
 mod plain;
 mod references;
@@ -17,9 +18,8 @@ mod standing;
 mod weighing;
 
 pub use laws::{changes_are_exact, limit_is_as_defined, wants_are_in_order, wants_are_the_rule};
+pub use limits::{WANTED_WEIGHT, is_over};
+pub use observing::{is_observer, observer_of};
 pub use plain::PlainSpace;
 pub use references::{Reference, reference_of, reference_value};
 pub use space::{Applied, Change, Changes, Fan, FanList, Fanned, Space, SpaceEvent};
-
-/// How much may be wanted over a space, and how much a message may fan out to.
-pub const WANTED_WEIGHT: u64 = 33_554_432;

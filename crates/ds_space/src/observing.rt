@@ -8,9 +8,11 @@ use pv_value::{NoMemory, Node, Text, Value};
 use pv_words::{is_word, worded};
 use std::alloc::Global;
 
-/// The pattern of an observation `<Observe p #:r>`, where r names a watcher's object or a
-/// connection's.
-pub(crate) fn observer_of(alloc: Global, value: &Value) -> Result<Option<DPat>, NoMemory>
+/// The pattern of an observation.
+///
+/// A value observes where it is `<Observe p #:r>`, r names an object of a watcher or of a
+/// connection, and p is a pattern. None says that it isn't such a record, or that p is no pattern.
+pub fn observer_of(alloc: Global, value: &Value) -> Result<Option<DPat>, NoMemory>
     ensures { IfOk result (λ p. p ≡ observer_of value.now) }
 {
     let Some((word, fields)) = worded(value) else {
@@ -37,8 +39,9 @@ fn observer_by(
     }
 }
 
-/// Whether it is an embedded reference to what may observe.
-fn is_observer(value: &Value) -> bool
+/// Whether it is an embedded reference to what may observe: to an object of a watcher or of a
+/// connection, actor 9 or above.
+pub fn is_observer(value: &Value) -> bool
     ensures { result ≡ is_observer value.now }
 {
     match &value.node {

@@ -1,17 +1,16 @@
 //! The plain space: it scans its rows at each event. An observation is read when its row comes.
-ghost use Rattle.std.specs.Prelude.{◌≡◌, IfOk, OnOk, None, nat_lt};
+ghost use Rattle.std.specs.Prelude.{◌≡◌, IfOk, OnOk, None};
 ghost use Rattle.std.specs.Ordering.{nat_cmp};
 ghost use Rattle.std.specs.Map.{lookup};
 ghost use Rattle.std.specs.BTreeMap.{is_at, insert_entry};
 ghost use Rattle.std.specs.BTreeMap as tree;
-ghost use Rattle.ds_space.specs.Limits.{most_wanted_weight};
 ghost use Rattle.ds_space.specs.Spaces.{IsApplied, IsFan};
 ghost use Rattle.ds_space.specs.declared.space.SpaceEvent.TheVariants.{Add, Gone};
 
-use crate::WANTED_WEIGHT;
 use crate::collecting::all_wanted;
 use crate::comparing::changes;
 use crate::fanning::fan_list;
+use crate::limits::is_over;
 use crate::space::{Applied, Fan, Space, SpaceEvent};
 use crate::standing::Standing;
 use crate::weighing::{weigh_fanned, weigh_keys};
@@ -119,13 +118,6 @@ impl Space for PlainSpace {
     fn fan(&self, alloc: Global, message: &Value) -> Result<Fan, NoMemory> {
         fan(alloc, &self.rows, message)
     }
-}
-
-/// Whether that is more than may be wanted, or sent on.
-fn is_over(weight: u64) -> bool
-    ensures { result ≡ nat_lt most_wanted_weight weight }
-{
-    weight > WANTED_WEIGHT
 }
 
 /// The observations among the values that a message matches.

@@ -1,4 +1,4 @@
-//! Reading atoms. Nothing here takes memory.
+//! Reading atoms, from behind their tags. Nothing here takes memory.
 ghost use Rattle.std.specs.Prelude.{◌≡◌, ◌≤◌, ◌<◌, ◌*◌, ◌^◌, length, IfOk};
 ghost use Rattle.std.specs.Int.{w64, from_be_bytes};
 ghost use Rattle.pv_read.specs.Answers.{Answers};
@@ -10,9 +10,10 @@ use crate::tags::DOUBLE_BYTES;
 use crate::writing::repeats_sign;
 use simdutf8::compat::from_utf8;
 
-/// The double behind its tag: the 8, and the eight bytes of its bits.
+/// The bits of the double behind its tag, and the bytes behind it: the 8, and the eight bytes of its
+/// bits.
 #[tactic(auto, unfolding(crate::specs::Reading::double_at))]
-pub(crate) fn read_double(bytes: &[u8]) -> Result<(u64, &[u8]), BinKind>
+pub fn read_double(bytes: &[u8]) -> Result<(u64, &[u8]), BinKind>
     ensures { Answers (λ x. (x.0, x.1.now)) result (double_at bytes.now) }
 {
     let Some((count, rest)) = bytes.split_first() else {
@@ -25,9 +26,9 @@ pub(crate) fn read_double(bytes: &[u8]) -> Result<(u64, &[u8]), BinKind>
     Ok((bits_of(bits), rest))
 }
 
-/// A text behind its count.
+/// The text behind its count, and the bytes behind it.
 #[tactic(auto, unfolding(crate::specs::Reading::text_at))]
-pub(crate) fn read_text(bytes: &[u8]) -> Result<(&str, &[u8]), BinKind>
+pub fn read_text(bytes: &[u8]) -> Result<(&str, &[u8]), BinKind>
     ensures { Answers (λ x. (x.0.now, x.1.now)) result (text_at bytes.now) }
 {
     let (text, rest) = read_counted(bytes)?;
@@ -37,9 +38,9 @@ pub(crate) fn read_text(bytes: &[u8]) -> Result<(&str, &[u8]), BinKind>
     Ok((text, rest))
 }
 
-/// An integer behind its count, in as few bytes as will do.
+/// The integer behind its count, in as few bytes as will do, and the bytes behind it.
 #[tactic(auto, unfolding(crate::specs::Reading::int_at))]
-pub(crate) fn read_int(bytes: &[u8]) -> Result<(i128, &[u8]), BinKind>
+pub fn read_int(bytes: &[u8]) -> Result<(i128, &[u8]), BinKind>
     ensures { Answers (λ x. (x.0, x.1.now)) result (int_at bytes.now) }
 {
     let (count, rest) = read_varint(bytes, 9)?;
@@ -53,9 +54,9 @@ pub(crate) fn read_int(bytes: &[u8]) -> Result<(i128, &[u8]), BinKind>
     Ok((int_of(digits), rest))
 }
 
-/// Bytes behind their count.
+/// The bytes behind their count, and those behind them.
 #[tactic(auto, unfolding(crate::specs::Reading::counted_at))]
-pub(crate) fn read_counted(bytes: &[u8]) -> Result<(&[u8], &[u8]), BinKind>
+pub fn read_counted(bytes: &[u8]) -> Result<(&[u8], &[u8]), BinKind>
     ensures { Answers (λ x. (x.0.now, x.1.now)) result (counted_at bytes.now) }
 {
     let (count, rest) = read_varint(bytes, 9)?;

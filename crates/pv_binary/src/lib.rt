@@ -9,6 +9,7 @@ mod tag;
 pub mod tags;
 mod writing;
 
+pub use atoms::{read_counted, read_double, read_int, read_text};
 pub use faults::{BinFault, BinKind};
 pub use laws::{one_of_three, reading_tells, spellings_are_unique};
 pub use reading::read;

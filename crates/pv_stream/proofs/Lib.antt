@@ -2,9 +2,7 @@ pub mod Alike
 pub mod Behind
 pub mod Exact
 pub mod One
-pub mod Powers
 pub mod Stopping
 pub mod TagBytes
 pub mod Unrepeated
-pub mod Utf8
 pub mod Walking

@@ -19,7 +19,8 @@ use Rattle.ds_shape.specs.Outlines.{Test, Outline, is_kind, is_there, passes}
 use Rattle.ds_shape.specs.Splitting.{Constant, kind_of, step_of, test_under, constant_under, tests, field_tests}
 use Rattle.ds_shape.specs.Splitting.{constants, field_constants, captures, field_captures, outline_of, constants_of}
 use Rattle.ds_shape.specs.Standing.{is_found, captured_by, Says}
-use Rattle.ds_shape.specs.Lemmas.Orders.{same_is, same_self, plains_same}
+use Rattle.ds_shape.specs.Lemmas.Orders.{plains_same}
+use Rattle.pv_words.specs.Lemmas.Same.{same_is, same_self}
 use Rattle.ds_shape.specs.Lemmas.Parts.{first_map, parts_append, parts_under}
 
 abbrev pub has : Plain → Constant → Bool

@@ -8,11 +8,11 @@ use Rattle.std.specs.List.Sorted.{IsStrictlySortedBy}
 use Rattle.pv_value.specs.Plain.{Plain}
 use Rattle.pv_value.specs.Order.{order}
 use Rattle.pv_value.specs.WellFormed.{Ascend}
+use Rattle.pv_words.specs.Lemmas.Same.{same_is}
 use Rattle.pv_words.specs.Parts.{same}
 use Rattle.ds_space.specs.Wants.{wants, wanted}
 use Rattle.ds_space.specs.Changes.{Change, Left, Came, among, only_over, AreChanges, without, lacking}
 use Rattle.ds_space.specs.Laws.{ChangesAreExact}
-use Rattle.ds_space.specs.Lemmas.Keys.{same_is}
 use Rattle.ds_space.specs.Lemmas.Lists.{unique, wants_ascend, among_wants}
 use Rattle.ds_space.specs.Lemmas.Walks.{lacking_ascends, lacking_among, only}
 

@@ -1,28 +1,12 @@
--- Values that compare alike are one, and tests of lists.
+-- Values are compared alike either way round, and tests of lists.
 use Rattle.std.proofs.Common.{◌≡◌, List, [], ◌∷◌, ◌++◌, map, Bool, true, false, cond, ◌||◌, refl, ap, sym, ◌∙◌}
-use Rattle.std.specs.declared.cmp.Ordering.{Ordering}
-use Rattle.std.specs.declared.cmp.Ordering.TheVariants.{Less, Equal, Greater}
-use Rattle.std.specs.Ordering.{is_eq}
 use Rattle.std.specs.List.{list_any, flat_map}
 use Rattle.std.specs.Map.Iter.{deref}
 use Rattle.std.specs.Borrow.{Bor}
 use Rattle.std.specs.Cmp.{eq_by_cmp_equiv}
-use Rattle.std.proofs.lemmas.Cmp.{tied_itself}
 use Rattle.pv_value.specs.Plain.{Plain}
-use Rattle.pv_value.specs.Order.{order}
-use Rattle.pv_value.specs.Lemmas.OrderLaws.{order_total, order_same}
+use Rattle.pv_value.specs.Lemmas.OrderLaws.{order_total}
 use Rattle.pv_words.specs.Parts.{same}
-
-Equal-is_eq : (o : Ordering) → is_eq o ≡ true → o ≡ Equal
-Equal-is_eq Less e = cc
-Equal-is_eq Equal e = refl
-Equal-is_eq Greater e = cc
-
-pub same_is : (x y : Plain) → same x y ≡ true → x ≡ y
-same_is x y e = order_same x y (Equal-is_eq (order x y) e)
-
-pub same_self : (x : Plain) → same x x ≡ true
-same_self x = ap is_eq (tied_itself order_total x)
 
 pub same_turns : (x y : Plain) → same x y ≡ same y x
 same_turns x y = (eq_by_cmp_equiv order_total).symm x y

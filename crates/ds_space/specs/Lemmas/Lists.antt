@@ -18,12 +18,13 @@ use Rattle.pv_value.specs.WellFormed.{Ascend}
 use Rattle.pv_value.specs.Lemmas.OrderLaws.{order_total, order_same}
 use Rattle.pv_value.specs.Lemmas.Ascending.{ascending_sorted}
 use Rattle.dp_pattern.specs.Patterns.{Pattern}
+use Rattle.pv_words.specs.Lemmas.Same.{same_is, same_self}
 use Rattle.pv_words.specs.Parts.{same}
 use Rattle.dp_pattern.specs.Matching.{matched}
 use Rattle.ds_space.specs.Wants.{observer_of, captured, key_of, keys_for, keys_by, is_key, gives, wanted, wants}
 use Rattle.ds_space.specs.Changes.{among}
 use Rattle.ds_space.specs.Laws.{WantsAscend, IsOfTheRule, WantsAreTheRule}
-use Rattle.ds_space.specs.Lemmas.Keys.{same_is, same_self, or_false, any_same, any_flat}
+use Rattle.ds_space.specs.Lemmas.Keys.{or_false, any_same, any_flat}
 
 pub unique : (xs ys : List Plain) → Ascend xs → Ascend ys → ((q : Plain) → among q xs ≡ among q ys) → xs ≡ ys
 unique xs ys s t e =

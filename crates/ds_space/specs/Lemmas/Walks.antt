@@ -10,11 +10,12 @@ use Rattle.pv_value.specs.Plain.{Plain}
 use Rattle.pv_value.specs.Order.{order}
 use Rattle.pv_value.specs.WellFormed.{Ascend}
 use Rattle.pv_value.specs.Lemmas.OrderLaws.{order_turn, order_chain}
+use Rattle.pv_words.specs.Lemmas.Same.{same_is}
 use Rattle.pv_words.specs.Parts.{same}
 use Rattle.ds_space.specs.Changes.{Change, Left, Came, among, only_over, AreChanges, skip_by, skipped, begins_with}
 use Rattle.ds_space.specs.Changes.{lacking}
 use Rattle.ds_space.specs.Wants.{wants}
-use Rattle.ds_space.specs.Lemmas.Keys.{same_is, same_turns}
+use Rattle.ds_space.specs.Lemmas.Keys.{same_turns}
 use Rattle.ds_space.specs.Lemmas.Lists.{wants_ascend, among_wants}
 
 abbrev AllAbove : Plain → List Plain → Type 0

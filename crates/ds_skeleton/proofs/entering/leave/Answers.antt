@@ -2,8 +2,8 @@ use Rattle.std.proofs.Common.{◌≡◌, ◌+◌, ◌∷◌, Bool, cond, ap, sym
 use Rattle.std.specs.BTreeMap as tree
 use Rattle.pv_value.specs.Plain.{Plain}
 use Rattle.pv_value.specs.Order.{order}
+use Rattle.pv_words.specs.Lemmas.Same.{same_is}
 use Rattle.pv_words.specs.Parts.{same}
-use Rattle.ds_space.specs.Lemmas.Keys.{same_is}
 use Rattle.ds_facts.specs.Lemmas.Members.{facts_are_members}
 use Rattle.ds_skeleton.specs.Places.{count}
 use Rattle.ds_skeleton.specs.Indexes.{goes_with}

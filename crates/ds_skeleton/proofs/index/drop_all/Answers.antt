@@ -1,7 +1,6 @@
-use Rattle.std.proofs.Common.{◌≡◌, ◌≤◌, length, sym, subst, arith, rules}
-use Rattle.std.specs.List.{AllZip}
+use Rattle.std.proofs.Common.{◌≡◌, length, arith, rules}
 use Rattle.ds_skeleton.specs.Shapes.{IsDropped}
-use Rattle.ds_skeleton.proofs.Walks.{walk_on, walk_ends, walked_whole}
+use Rattle.ds_skeleton.proofs.Walks.{walk_on, walked}
 use Rattle.ds_skeleton.proofs.index.drop_all.Goals as goal
 
 pub loop-shape-preserved : goal.loop-shape-preserved
@@ -14,10 +13,6 @@ pub returns : goal.returns
 returns c =
     let old : length c.args.shapes.now.items ≡ c.args.shapes.now.len = search rules in
     let new : length c.loop-shape.shape-items ≡ c.args.shapes.now.len = search rules in
-    let le : length c.deref_mut-shape-items.result.now ≤ c.loop-shape.shape-index = omega arith in
     let same : c.deref_mut-shape-items.result.now ≡ c.args.shapes.now.items = search rules in
-    subst (AllZip (IsDropped c.args.value.now) c.args.shapes.now.items)
-    (sym (walked_whole c.args.shapes.now.len c.args.shapes.now.items c.loop-shape.shape-items old new))
-    (subst (λ S. AllZip (IsDropped c.args.value.now) S c.loop-shape.shape-items) same
-    (walk_ends (IsDropped c.args.value.now) c.loop-shape.shape-index c.deref_mut-shape-items.result.now
-    c.loop-shape.shape-items le c.loop-shape.invariant))
+    walked (IsDropped c.args.value.now) c.loop-shape.shape-index c.args.shapes.now.len c.args.shapes.now.items
+    c.deref_mut-shape-items.result.now c.loop-shape.shape-items old new same (omega arith) c.loop-shape.invariant

@@ -2,7 +2,8 @@ use Rattle.std.proofs.Common.{refl, sym}
 use Rattle.std.specs.BTreeMap as tree
 use Rattle.pv_value.specs.Order.{order}
 use Rattle.ds_skeleton.specs.Leaves.{Leaf}
-use Rattle.ds_skeleton.proofs.Leaves.{rewrites, still_there, seen_alike, none_counted_less, counted_one_less, counted_down}
+use Rattle.ds_skeleton.proofs.Leaves.{rewrites, still_there, seen_alike}
+use Rattle.ds_skeleton.proofs.Leaves.{none_counted_less, counted_one_less, counted_down}
 use Rattle.ds_skeleton.proofs.leaf.drop_one.Goals as goal
 
 pub returns-in_default-clause-counts : goal.returns-in_default-clause-counts
@@ -25,7 +26,8 @@ returns-clause-counts c =
     counted_one_less c.args.leaves.now (c.get_mut.follows.lender w) c.args.constants.now c.args.captures was w
     (rewrites c.args.leaves.now (c.get_mut.follows.lender w) c.args.constants.now was w c.in-Some.ensures.value
     (c.get_mut.follows.holds w))
-    (counted_down (tree.get order was.captured) (tree.get order w.captured) c.args.captures c.in_ok-count_down.ensures.counts)
+    (counted_down (tree.get order was.captured) (tree.get order w.captured) c.args.captures
+    c.in_ok-count_down.ensures.counts)
 
 pub returns-clause-observers : goal.returns-clause-observers
 returns-clause-observers c =

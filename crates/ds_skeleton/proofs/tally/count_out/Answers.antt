@@ -3,8 +3,8 @@ use Rattle.std.specs.List.{list_any}
 use Rattle.std.specs.BTreeMap as tree
 use Rattle.pv_value.specs.Plain.{Plain}
 use Rattle.pv_value.specs.Order.{order}
+use Rattle.pv_words.specs.Lemmas.Same.{same_self}
 use Rattle.pv_words.specs.Parts.{same}
-use Rattle.ds_space.specs.Lemmas.Keys.{same_self}
 use Rattle.ds_facts.specs.Keeping.{AreFacts}
 use Rattle.ds_skeleton.specs.Places.{same_entry, count}
 use Rattle.ds_skeleton.specs.Leaves.{number, kept}

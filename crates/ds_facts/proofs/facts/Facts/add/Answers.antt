@@ -11,7 +11,8 @@ loop-entry-preserved c = record {
   members = λ e v.
       put_step (same_entry e) c.deref-entry-items.result.now c.loop-entry.entry-index c.entry-item.result (omega arith)
       c.entry-item.is
-      (keeps c.args.self.now.places e v || (list_any (same_entry e) c.deref-entry-items.result.now && same c.args.value.now v))
+      (keeps c.args.self.now.places e v
+      || (list_any (same_entry e) c.deref-entry-items.result.now && same c.args.value.now v))
       (keeps c.loop-entry.self.places e v) (keeps c.put.new.places e v) (same c.args.value.now v)
       (c.in_ok-put.ensures.keeps e v) (c.loop-entry.invariant.members e v);
   filled = λ h. c.in_ok-put.ensures.filled (c.loop-entry.invariant.filled h);

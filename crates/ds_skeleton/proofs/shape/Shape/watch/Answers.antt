@@ -1,8 +1,8 @@
 use Rattle.std.proofs.Common.{◌≡◌, cond, true, false, ◌&&◌, ◌||◌, refl, rules, ap, sym, ◌∙◌}
 use Rattle.std.specs.BTreeMap as tree
 use Rattle.pv_value.specs.Order.{order}
+use Rattle.pv_words.specs.Lemmas.Same.{same_is}
 use Rattle.pv_words.specs.Parts.{same}
-use Rattle.ds_space.specs.Lemmas.Keys.{same_is}
 use Rattle.ds_skeleton.specs.Places.{stands, count}
 use Rattle.ds_skeleton.specs.Leaves.{number, leaf_at, has_leaf_at, captured_at, observed_at}
 use Rattle.ds_skeleton.proofs.Answered.{then_three}

@@ -1,4 +1,0 @@
-use Rattle.pv_stream.proofs.passing.+read_varint.Given as goal
-
-abbrev pub decreases-read_varint : goal.decreases-read_varint
-decreases-read_varint l = l.left
