@@ -6,12 +6,12 @@ pub mod Freeing
 pub mod Keeps
 pub mod Least
 pub mod Lowest
+pub mod Members
 pub mod Placing
 pub mod Refaceting
 pub mod Removing
 pub mod Renewing
 pub mod Searching
-pub mod Sets
 pub mod Standing
 pub mod Stopping
 pub mod Taking

@@ -18,7 +18,7 @@ use Rattle.ac_table.specs.declared.table.LiveActor.{LiveActor}
 use Rattle.ac_table.specs.Lemmas.Entries.{is_at_same, lookup-filter}
 use Rattle.ac_table.proofs.Keeps.{IsRenewed, some_still, busy_same, owned_renewed}
 use Rattle.ac_table.proofs.Removing.{Ascend, ascend_from}
-use Rattle.ac_table.proofs.Sets.{sorted_same, first_has, or_false}
+use Rattle.ac_table.proofs.Members.{sorted_same, first_has, or_false}
 use Rattle.ac_table.proofs.Standing.{standing_renewed, find-filter, kept_by, key_in, passes, ascend_filter}
 use Rattle.ac_table.proofs.Weighing.{weighed_renewed}
 

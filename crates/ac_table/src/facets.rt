@@ -11,6 +11,7 @@ ghost use Rattle.ac_table.specs.Maps.{is_key};
 ghost use Rattle.ac_table.specs.Placed.{bare, tree_in, SameTree, SameRows, HasRow, has_at};
 ghost use Rattle.ac_table.specs.Placed.{SameFacets, KeepsLinks, LinksAt, is_child, has_some};
 
+use crate::sets::{find, free_all, insert_all, keeps_its_order, keeps_map_order, remove_all};
 use pv_value::NoMemory;
 use std::alloc::Global;
 use std::collections::{BTreeMap, BTreeSet};
@@ -68,7 +69,7 @@ fn link(all: &mut BTreeMap<u32, Facet>, facet: u32, number: u32) -> Result<(), N
     ensures kept { KeepsLinks (λ k. true) all.old.entries all.new.entries }
     ensures ordered { IsOrdered nat_cmp all.new }
 {
-    let _ = all.len();
+    keeps_map_order(all);
     let Some(it) = all.get_mut(&facet) else {
         return Ok(());
     };
@@ -82,7 +83,7 @@ fn unlink(all: &mut BTreeMap<u32, Facet>, facet: u32)
     ensures kept { KeepsLinks (λ k. not (k == facet)) all.old.entries all.new.entries }
     ensures ordered { IsOrdered nat_cmp all.new }
 {
-    let _ = all.len();
+    keeps_map_order(all);
     let Some(it) = all.get(&facet) else {
         return;
     };
@@ -91,75 +92,6 @@ fn unlink(all: &mut BTreeMap<u32, Facet>, facet: u32)
         return;
     };
     it.below.remove(&facet);
-}
-
-/// A facet is found; where it wasn't found before it is left to look at.
-fn find(facet: u32, found: &mut BTreeSet<u32>, left: &mut BTreeSet<u32>) -> Result<(), NoMemory>
-    ensures found { OnOk result ((g : ℕ) → is_key g found.new.keys
-        ≡ (is_key g found.old.keys || g == facet)) }
-    ensures left { OnOk result ((g : ℕ) → is_key g left.new.keys
-        ≡ (is_key g left.old.keys || (not (is_key facet found.old.keys) && g == facet))) }
-    ensures count { OnOk result (length left.new.keys + length found.old.keys
-        ≤ length left.old.keys + length found.new.keys) }
-    ensures ordered { IsOrderedSet nat_cmp found.new }
-{
-    let added = found.insert(facet)?;
-    if !added {
-        return Ok(());
-    }
-    left.insert(facet)?;
-    Ok(())
-}
-
-/// These handles too.
-fn insert_all(handles: &mut BTreeSet<u64>, more: &BTreeSet<u64>) -> Result<(), NoMemory>
-    ensures ordered { OnOk result (IsOrderedSet nat_cmp handles.new) }
-    ensures all { OnOk result ((h : ℕ) → is_key h handles.new.keys
-        ≡ (is_key h handles.old.keys || is_key h more.now.keys)) }
-{
-    let _ = handles.len();
-    for handle in more.iter() {
-        handles.insert(*handle)?;
-    }
-    Ok(())
-}
-
-/// These numbers are free, none of which was. For want of memory none of them is.
-fn free_all(free: &mut BTreeSet<u32>, numbers: &BTreeSet<u32>) -> Result<(), NoMemory>
-    requires { (n : ℕ) → is_key n numbers.now.keys ≡ true → is_key n free.old.keys ≡ false }
-    ensures freed { OnOk result ((n : ℕ) → is_key n free.new.keys
-        ≡ (is_key n free.old.keys || is_key n numbers.now.keys)) }
-    ensures same { OnErr result ((n : ℕ) → is_key n free.new.keys ≡ is_key n free.old.keys) }
-{
-    for number in numbers.iter() {
-        if free.insert(*number).is_err() {
-            take_all(free, numbers);
-            return Err(NoMemory);
-        }
-    }
-    Ok(())
-}
-
-/// None of these numbers is free.
-fn take_all(free: &mut BTreeSet<u32>, numbers: &BTreeSet<u32>)
-    ensures { (n : ℕ) → is_key n free.new.keys
-        ≡ (is_key n free.old.keys && not (is_key n numbers.now.keys)) }
-{
-    for number in numbers.iter() {
-        free.remove(number);
-    }
-}
-
-/// These facets go.
-fn remove_all(all: &mut BTreeMap<u32, Facet>, facets: &BTreeSet<u32>)
-    requires { IsOrdered nat_cmp all.old }
-    ensures gone { all.new.entries
-        ≡ filter (λ e. not (is_key e.0 facets.now.keys)) all.old.entries }
-    ensures ordered { IsOrdered nat_cmp all.new }
-{
-    for facet in facets.iter() {
-        all.remove(facet);
-    }
 }
 
 impl Facets {
@@ -286,7 +218,7 @@ impl Facets {
             ≤ length left.old.keys + length found.new.keys) }
         ensures ordered { OnOk result (IsOrderedSet nat_cmp found.new) }
     {
-        let _ = found.len();
+        keeps_its_order(found);
         if !self.is_child(facet, parent) {
             return Ok(());
         }
@@ -309,7 +241,7 @@ impl Facets {
             ≤ length left.old.keys + length found.new.keys) }
         ensures ordered { OnOk result (IsOrderedSet nat_cmp found.new) }
     {
-        let _ = found.len();
+        keeps_its_order(found);
         let Some(it) = self.all.get(&facet) else {
             return Ok(());
         };
@@ -340,7 +272,7 @@ impl Facets {
             ≡ (is_key h handles.old.keys || has_at facet h self.now)) }
         ensures ordered { OnOk result (IsOrderedSet nat_cmp handles.new) }
     {
-        let _ = handles.len();
+        keeps_its_order(handles);
         match self.all.get(&facet) {
             Some(it) => insert_all(handles, &it.rows),
             None => Ok(()),
@@ -372,7 +304,7 @@ impl Facets {
             ≡ filter (λ e. not (is_key e.0 facets.now.keys)) self.old) }
         ensures same { OnErr result (self.new ≡ self.old) }
     {
-        let _ = self.all.len();
+        keeps_map_order(&self.all);
         free_all(&mut self.free, facets)?;
         unlink(&mut self.all, facet);
         remove_all(&mut self.all, facets);

@@ -1,6 +1,6 @@
 //! An inbox, and what it comes to.
 ghost use Rattle.std.specs.Prelude.{◌≡◌, [], ◌∷◌, ◌++◌, ◌==◌, OnOk, OnErr, option_copied};
-ghost use Rattle.std.specs.Prelude.{slice_get, drop, length};
+ghost use Rattle.std.specs.Prelude.{slice_get, drop, length, ◌<◌, ◌^◌};
 ghost use Rattle.ac_table.specs.Sums.{top_load, load_waiting, load_from};
 
 use crate::batches::Batch;
@@ -34,6 +34,13 @@ impl Model for Inbox {
     ghost view = { λ i. i.batches.items };
 
     ghost invariant = { λ i. IsLoaded i.batches.items i.total i.senders.entries };
+}
+
+/// Fewer batches wait than 2^64. This holds of every inbox and is called where a proof rests on it.
+fn keeps_its_bound(batches: &VecDeque<Batch>)
+    ensures { length batches.now.items < 2 ^ 64 }
+{
+    let _ = batches.len();
 }
 
 impl Inbox {
@@ -88,7 +95,7 @@ impl Inbox {
         ensures unchanged { OnErr result (self.new ≡ self.old) }
     {
         let load = load_in(batch.events.as_slice());
-        let _waiting = self.batches.len();
+        keeps_its_bound(&self.batches);
         self.batches.reserve(1)?;
         add_sent(&mut self.senders, batch.from, load)?;
         self.total.add(load);

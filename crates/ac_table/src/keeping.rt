@@ -17,6 +17,7 @@ ghost use Rattle.ac_table.specs.Maps.{is_key, SetChangesAt};
 use crate::batches::{Batch, Row};
 use crate::facets::Facets;
 use crate::inbox::Inbox;
+use crate::sets::keeps_its_order;
 use crate::sum::Sum;
 use pv_value::{NoMemory, weight};
 use std::alloc::Global;
@@ -126,7 +127,7 @@ pub(crate) fn disown(own: &mut BTreeSet<u64>, handles: &BTreeSet<u64>)
         ≡ (is_key h own.old.keys && not (is_key h handles.now.keys)) }
     ensures ordered { IsOrderedSet nat_cmp own.new }
 {
-    let _ = own.len();
+    keeps_its_order(own);
     for handle in handles.iter() {
         own.remove(handle);
     }

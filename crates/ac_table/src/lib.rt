@@ -11,6 +11,7 @@ mod inbox;
 mod keeping;
 mod loads;
 mod senders;
+mod sets;
 mod sum;
 mod table;
 

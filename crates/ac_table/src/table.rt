@@ -1,7 +1,7 @@
 //! The table, as ordered maps.
 ghost use Rattle.std.specs.Prelude.{◌≡◌, ◌<◌, ◌≤◌, ◌^◌, ◌-◌, false, min, IfOk, OnOk, OnErr, Err};
 ghost use Rattle.std.specs.Prelude.{option_copied, MatchOption, None, Some, IfNone, ◌≢◌, []};
-ghost use Rattle.std.specs.Prelude.{vec_capacity, true};
+ghost use Rattle.std.specs.Prelude.{vec_capacity, true, ℕ, is_some};
 ghost use Rattle.ac_table.specs.declared.TableFault.TheVariants.{NoMemory as no_memory};
 ghost use Rattle.ac_table.specs.Faults.{actor_fault, facet_fault, row_fault, Faults, ExactFaults};
 ghost use Rattle.ac_table.specs.Sums.{top, top_load, load_for, load_sent, load_below, weight_owned};
@@ -9,6 +9,7 @@ ghost use Rattle.ac_table.specs.Tables.{opening, is_live, find_row, rows_of, has
 ghost use Rattle.ac_table.specs.Tables.{first_batch, has_facet, tree_of, faceted, IsStopped};
 ghost use Rattle.ac_table.specs.Facets.{IsLeastFree, IsTree, least_free};
 ghost use Rattle.ac_table.specs.Kept.{AreStopping};
+ghost use Rattle.ac_table.specs.Maps.{is_key};
 ghost use Rattle.std.specs.BTreeSet.{btree_set_len};
 ghost use Rattle.std.specs.List.Sorted.{IsStrictlySortedBy};
 ghost use Rattle.std.specs.Ordering.{nat_cmp};
@@ -23,6 +24,7 @@ use crate::handles::NextHandle;
 use crate::inbox::Inbox;
 use crate::keeping::{disown, list, pop_busy, push_busy, put_row, take_off_all, take_rows};
 use crate::loads::Load;
+use crate::sets::keeps_its_order;
 use crate::sum::Sum;
 use pv_value::{NoMemory, Value, weight};
 use std::alloc::Global;
@@ -189,6 +191,13 @@ impl Table {
         self.busy.first().copied()
     }
 
+    /// The actors for which a batch waits.
+    pub fn busy(&self) -> &BTreeSet<u32>
+        ensures { (a : ℕ) → is_key a result.now.keys ≡ is_some (first_batch a self.now) }
+    {
+        &self.busy
+    }
+
     /// How many batches wait.
     pub fn batches(&self) -> u64
         ensures { result ≡ min (waiting self.now) (2 ^ 64 - 1) }
@@ -349,7 +358,7 @@ impl Table {
             return Err(TableFault::NoActor);
         };
         let weight = weight(&value);
-        let _rows = it.own.len();
+        keeps_its_order(&it.own);
         let row = Row {
             handle,
             owner,

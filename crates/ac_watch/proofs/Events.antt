@@ -1,5 +1,6 @@
 -- What an event changes: a row comes, or goes, of a value that stands in another row too, or doesn't.
-use Rattle.std.proofs.Common.{◌≡◌, ◌≤◌, ℕ, ◌+◌, ◌-◌, ◌^◌, min, List, [], map, true, false, Some, None, refl, ap, sym, ◌∙◌, subst}
+use Rattle.std.proofs.Common.{◌≡◌, ◌≤◌, ℕ, ◌+◌, ◌-◌, ◌^◌, min, List, [], map, Bool, true, false, not}
+use Rattle.std.proofs.Common.{Some, None, refl, ap, sym, ◌∙◌, subst}
 use Rattle.std.specs.BTreeMap.{is_at}
 use Rattle.std.specs.Map.{values_of, lookup}
 use Rattle.std.specs.Ordering.{nat_cmp}
@@ -16,6 +17,15 @@ use Rattle.ac_watch.specs.Watching.{sequences, weight_of_all, weight_of_made}
 use Rattle.ac_watch.specs.Lemmas.Rows.{IsLonger, longer_by_row, longer_than_without}
 use Rattle.ac_watch.proofs.Wanting.{new_comes, new_goes, standing_comes, standing_goes}
 use Rattle.ac_watch.proofs.Weights.{standing_weight, new_weight, fitting, whole}
+
+-- the value of a row that wasn't the last with it stands still, and that of the last no more
+pub still_stands : (last stands : Bool) → last ≡ not stands → last ≡ false → stands ≡ true
+still_stands last true is many = refl
+still_stands last false is many = let clash : false ≡ true = sym many ∙ is in absurd cc
+
+pub stands_no_more : (last stands : Bool) → last ≡ not stands → last ≡ true → stands ≡ false
+stands_no_more last true is one = let clash : true ≡ false = sym one ∙ is in absurd cc
+stands_no_more last false is one = refl
 
 -- what is made of the sequences among the rows' values weighs so much
 abbrev pub weighs : List ℕ → Rows → ℕ

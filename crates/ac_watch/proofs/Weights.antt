@@ -12,9 +12,9 @@ use Rattle.std.proofs.lemmas.Map.Views.{any-filter_same}
 use Rattle.pv_value.specs.Plain.{Plain, boolean, double, integer, string, byte_string, symbol, record_of, sequence}
 use Rattle.pv_value.specs.Plain.{set_of, dictionary, embedded}
 use Rattle.pv_value.specs.Order.{order}
+use Rattle.pv_words.specs.Lemmas.Same.{same_is}
 use Rattle.pv_words.specs.Parts.{same}
 use Rattle.ds_space.specs.Changes.{among}
-use Rattle.ds_space.specs.Lemmas.Keys.{same_is}
 use Rattle.ds_space.specs.Lemmas.Lists.{unique, ascending_any, in_order}
 use Rattle.ac_watch.specs.Watching.{made, is_sequence, sequences, weight_of_all, weight_of_made}
 use Rattle.ac_watch.specs.Lemmas.Rows.{IsLonger}

@@ -1,28 +1,27 @@
 //! What a watcher has got.
-ghost use Rattle.std.specs.Prelude.{◌≡◌, [], IfOk, OnOk, None, option_copied};
-ghost use Rattle.std.specs.Map.{values_of, lookup};
-ghost use Rattle.std.specs.BTreeMap.{insert_entry, is_at};
+ghost use Rattle.std.specs.Prelude.{◌≡◌, [], IfOk, None, option_copied};
+ghost use Rattle.std.specs.Map.{lookup};
+ghost use Rattle.std.specs.BTreeMap.{is_at};
 ghost use Rattle.std.specs.Ordering.{nat_cmp};
-ghost use Rattle.ds_space.specs.Changes.{among};
 ghost use Rattle.ds_space.specs.Spaces.{IsNew, has_row};
 ghost use Rattle.ds_space.specs.declared.space.SpaceEvent.TheVariants.{Add, Gone};
 ghost use Rattle.ac_watch.specs.Watching.{made, value_at, IsWatched};
 
 use crate::keys::{all_came, all_left};
-use crate::weighing::{is_over, weight_with, weight_without};
-use ds_space::{Applied, SpaceEvent};
+use crate::weighing::{weight_with, weight_without};
+use ds_rows::Rows;
+use ds_space::{Applied, SpaceEvent, is_over};
 use lc_watch::Behaves;
 use pv_value::{Items, NoMemory, Node, Text, Value};
 use pv_words::item_under;
 use std::alloc::Global;
-use std::collections::BTreeMap;
 use std::marker::Model;
 
 /// The name of a watcher's behaviour, the rows that it has got, and what all that it wants weighs.
 #[derive(Drop)]
 pub struct Watching {
     name: Text,
-    rows: BTreeMap<u64, Value>,
+    rows: Rows,
     weight: u64,
 }
 
@@ -38,10 +37,10 @@ impl Model for Watching {
 
     ghost coded = { Prim.hlevel (codes, plain_code) };
 
-    ghost view = { λ w. record { name = w.name; got = w.rows.entries } };
+    ghost view = { λ w. record { name = w.name; got = w.rows } };
 
     ghost invariant = { λ w.
-        (w.weight ≡ weight_of_made w.name (sequences (values_of w.rows.entries)))
+        (w.weight ≡ weight_of_made w.name (sequences (values_of w.rows)))
         × (w.weight ≤ most_wanted_weight) };
 }
 
@@ -52,7 +51,7 @@ impl Watching {
     {
         Watching {
             name,
-            rows: BTreeMap::new(alloc),
+            rows: Rows::new(alloc),
             weight: 0,
         }
     }
@@ -61,7 +60,7 @@ impl Watching {
     pub fn has(&self, handle: u64) -> bool
         ensures { result ≡ has_row handle self.now.got }
     {
-        self.rows.contains_key(&handle)
+        self.rows.has(handle)
     }
 
     /// A row comes or goes. What is made of a sequence is wanted with the first row that has it,
@@ -117,8 +116,8 @@ impl Watching {
             mut rows,
             weight,
         } = self;
-        if stands(&rows, &value) {
-            put_row(&mut rows, handle, value)?;
+        if rows.stands(&value) {
+            rows.add(handle, value)?;
             return Ok(Applied::Done(Watching { name, rows, weight }, Vec::new(alloc)));
         }
         let made = made_of(alloc, behaves, &name, &value)?;
@@ -127,7 +126,7 @@ impl Watching {
             return Ok(Applied::Over(Watching { name, rows, weight }, after));
         }
         let changes = all_came(alloc, &value, &made)?;
-        put_row(&mut rows, handle, value)?;
+        rows.add(handle, value)?;
         let weight = after;
         Ok(Applied::Done(Watching { name, rows, weight }, changes))
     }
@@ -146,9 +145,9 @@ impl Watching {
             mut rows,
             weight,
         } = self;
-        match rows.remove(&handle) {
-            Some(value) => {
-                if stands(&rows, &value) {
+        match rows.remove(handle) {
+            Some((value, last)) => {
+                if !last {
                     return Ok(Applied::Done(Watching { name, rows, weight }, Vec::new(alloc)));
                 }
                 let made = made_of(alloc, behaves, &name, &value)?;
@@ -159,22 +158,6 @@ impl Watching {
             None => Ok(Applied::Done(Watching { name, rows, weight }, Vec::new(alloc))),
         }
     }
-}
-
-/// A row comes, or takes the place of the one that has its handle.
-fn put_row(rows: &mut BTreeMap<u64, Value>, handle: u64, value: Value) -> Result<(), NoMemory>
-    ensures { OnOk result
-        (rows.new.entries ≡ insert_entry nat_cmp rows.old.entries handle value) }
-{
-    rows.insert(handle, value)?;
-    Ok(())
-}
-
-/// Whether a row has this value.
-fn stands(rows: &BTreeMap<u64, Value>, value: &Value) -> bool
-    ensures { result ≡ among value.now (values_of rows.now.entries) }
-{
-    rows.values().any(|other| *value == *other)
 }
 
 /// What the behaviour of a name makes of a value.

@@ -1,9 +1,7 @@
 //! How much is wanted.
-ghost use Rattle.std.specs.Prelude.{◌≡◌, ◌+◌, ◌-◌, ◌^◌, ◌≤◌, min, nat_lt};
-ghost use Rattle.ds_space.specs.Limits.{most_wanted_weight};
+ghost use Rattle.std.specs.Prelude.{◌≡◌, ◌+◌, ◌-◌, ◌^◌, ◌≤◌, min};
 ghost use Rattle.ac_watch.specs.Watching.{weight_of_all};
 
-use ds_space::WANTED_WEIGHT;
 use pv_value::{Items, Value, weight};
 
 /// What the values weigh together, at most the greatest u64.
@@ -30,11 +28,4 @@ pub(crate) fn weight_without(weight: u64, made: &Items) -> u64
     ensures { result ≡ weight - weight_of_all made.now }
 {
     weight - weigh_all(made.as_slice())
-}
-
-/// Whether that is more than may be wanted.
-pub(crate) fn is_over(weight: u64) -> bool
-    ensures { result ≡ nat_lt most_wanted_weight weight }
-{
-    weight > WANTED_WEIGHT
 }

@@ -5,7 +5,7 @@ use Rattle.std.specs.Map.{lookup}
 use Rattle.std.specs.BTreeMap.{is_at}
 use Rattle.pv_value.specs.Plain.{Plain}
 use Rattle.pv_value.specs.Order.{order}
-use Rattle.ds_space.specs.Lemmas.Keys.{same_is}
+use Rattle.pv_words.specs.Lemmas.Same.{same_is}
 use Rattle.sr_caveat.specs.Caps.{Cap, cap_of}
 use Rattle.ac_world.specs.Limits.{most_readings}
 use Rattle.ac_world.specs.Readings.{AreRead, HaveRoom}

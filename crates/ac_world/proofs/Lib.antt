@@ -1,5 +1,7 @@
+pub mod Bare
 pub mod Changing
 pub mod Dropping
+pub mod Grouping
 pub mod Houses
 pub mod Housings
 pub mod Known

@@ -1,5 +1,5 @@
 -- What arrives of what is sent through references, and at which object. Syndicate Protocol, "capabilities".
-use Rattle.std.specs.Prelude.{List, Option, Some, None, option_map, option_and_then}
+use Rattle.std.specs.Prelude.{Bool, true, false, List, Option, Some, None, option_map, option_and_then}
 use Rattle.pv_value.specs.Plain.{Plain, record_of, sequence, embedded, no_more, then_more}
 use Rattle.ps_schema.specs.declared.Definition.{Definition}
 use Rattle.sr_caveat.specs.declared.caps.Cap.{Cap}
@@ -15,6 +15,11 @@ aim_by ds v c =
 -- a value that is sent through a reference: none where its caveats refuse the value, or it is no reference
 abbrev pub aim_at : List Definition → Plain → Plain → Option Aim
 aim_at ds v r = option_and_then (aim_by ds v) (cap_of r)
+
+-- a value as long as that of a reference with caveats
+abbrev pub has_caveats : Plain → Bool
+has_caveats (sequence (then_more a (then_more e (then_more c cs)))) = true
+has_caveats v = false
 
 -- the reference that `<Observe p #:r>` or `<resolve s #:r>` names
 abbrev pub observer_in : Plain → Option Plain

@@ -1,21 +1,24 @@
 -- What contracts know of a system actor, and of its turn, however the actor keeps what it has got.
-use Rattle.std.specs.Prelude.{◌≡◌, ℕ, ◌<◌, true, List, map}
+use Rattle.std.specs.Prelude.{◌≡◌, ℕ, ◌<◌, true, List, Option, Some, None, map}
+use Rattle.std.specs.BTreeMap.{is_at}
 use Rattle.std.specs.List.{AllByRecursion}
+use Rattle.std.specs.Map.{lookup}
+use Rattle.pv_value.specs.Plain.{Plain}
+use Rattle.pv_value.specs.Order.{order}
 use Rattle.ds_space.specs.Spaces.{Rows}
 use Rattle.ac_world.specs.declared.others.Other.{Other}
 use Rattle.ac_world.specs.declared.residents.Resident.{Resident as ResidentBy}
 use Rattle.ac_world.specs.declared.turning.Turning.{Turning as TurningBy}
 use Rattle.ac_table.specs.Tables.{is_live, tree_of}
 use Rattle.ac_world.specs.Behaviours.{Behaviour}
-use Rattle.ac_world.specs.Housing.{IsRooted, AreHouses}
+use Rattle.ac_world.specs.Housing.{Facets, IsRooted, AreHouses}
 use Rattle.ac_world.specs.Others.{rows_in, task_in}
 use Rattle.ac_world.specs.Watchers.{Watched, next_watcher, task_at}
 use Rattle.ac_world.specs.Worlds.{Resident}
 use Rattle.ac_world.specs.Turns.{Turning}
 
 abbrev pub resident_by : {S : Type 0} → (S → Rows) → ResidentBy S → Resident
-resident_by rows_of r =
-    record { got = rows_of r.system; handles = r.handles.entries; facets = r.facets.entries }
+resident_by rows_of r = record { got = rows_of r.system; handles = r.groups.handles; facets = r.groups.facets }
 
 abbrev pub turning_by : {S : Type 0} → (S → Rows) → TurningBy S → Turning
 turning_by rows_of t =
@@ -27,6 +30,11 @@ abbrev pub TurnsBy : {S : Type 0} → (S → Rows) → (S → Behaviour) → Tur
 TurnsBy rows_of behaviour old f new =
     (turning_by rows_of new ≡ f (behaviour old.resident.system) (turning_by rows_of old))
     × (behaviour new.resident.system ≡ behaviour old.resident.system)
+
+-- a facet is that of a group, or of no group whatever it is
+abbrev pub IsToldBy : Option Plain → Facets → Option ℕ → Type 0
+IsToldBy None fs f = Unit {0}
+IsToldBy (Some g) fs f = f ≡ lookup (is_at (order g)) fs
 
 -- an actor that takes its turn is live, and has its facets and those of its groups
 pub record Stands (a : ℕ) (t : Turning) : Type 0 where

@@ -1,4 +1,5 @@
 -- Lemmas on the definitions, which proofs here and above cite. A reader of the contracts needs none of them.
 pub mod Asking
 pub mod Entries
+pub mod Grouping
 pub mod Watchers

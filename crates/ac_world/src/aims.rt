@@ -1,8 +1,9 @@
 //! What arrives of what is sent through references, and where.
-ghost use Rattle.std.specs.Prelude.{◌≡◌, IfOk, option_copied, option_and_then};
-ghost use Rattle.ac_world.specs.Aims.{aim_by, aim_at, observer_in, observation_of};
+ghost use Rattle.std.specs.Prelude.{◌≡◌, false, IfOk, List, option_copied, option_and_then};
+ghost use Rattle.ps_schema.specs.declared.Definition.{Definition};
+ghost use Rattle.ac_world.specs.Aims.{aim_by, aim_at, observer_in, observation_of, has_caveats};
 
-use ds_space::Reference;
+use ds_space::{Reference, reference_of};
 use pv_value::{NoMemory, Node, Value};
 use sr_caveat::Cap;
 use sr_pass::{Judge, pass};
@@ -50,17 +51,31 @@ pub(crate) fn aim_through<J: Judge>(
     }
 }
 
-/// What arrives of a value that is sent through the reference that another value writes, which is
-/// read. The actor may be gone.
-pub fn aim_at<J: Judge>(
-    alloc: Global,
-    judge: &J,
-    value: &Value,
-    reference: &Value,
-) -> Result<Option<Aim>, NoMemory>
-    ensures { IfOk result (λ aim. aim ≡ aim_at (J.schema judge.now) value.now reference.now) }
+/// Whether a value is as long as that of a reference with caveats.
+pub(crate) fn has_caveats(reference: &Value) -> bool
+    ensures { result ≡ has_caveats reference.now }
 {
-    aim_through(alloc, judge, value, &Cap::of_value(alloc, reference)?)
+    match &reference.node {
+        Node::Seq(items) => items.as_slice().len() > 2,
+        _ => false,
+    }
+}
+
+/// What arrives of a value that is sent through a reference without caveats, as it is. To read one
+/// takes no memory.
+#[tactic(auto, using(crate::proofs::Bare::bare_aim))]
+pub(crate) fn aim_bare(value: &Value, reference: &Value) -> Result<Option<Aim>, NoMemory>
+    requires { has_caveats reference.now ≡ false }
+    ensures { IfOk result
+        (λ aim. (ds : List Definition) → aim ≡ aim_at ds value.now reference.now) }
+{
+    let Some(at) = reference_of(reference) else {
+        return Ok(None);
+    };
+    Ok(Some(Aim {
+        at,
+        value: value.copy()?,
+    }))
 }
 
 /// The observation o to which a key `[o c]` belongs.

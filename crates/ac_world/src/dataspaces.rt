@@ -55,6 +55,8 @@ impl<S: Space + Drop> System for Dataspace<S> {
 
     ghost grouped = { λ ds s. refl };
 
+    ghost first = { λ k g e. e };
+
     fn apply<B: Behaves>(
         self,
         alloc: Global,

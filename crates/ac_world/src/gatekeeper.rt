@@ -1,37 +1,36 @@
 //! The gatekeeper, which answers those who resolve signed references.
-ghost use Rattle.std.specs.Prelude.{◌≡◌, List, [], ◌∷◌, ◌&&◌, not, None, IfOk, refl};
+ghost use Rattle.std.specs.Prelude.{◌≡◌, List, [], ◌∷◌, ◌&&◌, None, IfOk, refl};
 ghost use Rattle.std.specs.Prelude.{if◌then◌else◌, codes};
-ghost use Rattle.std.specs.Map.{lookup, values_of};
+ghost use Rattle.std.specs.Map.{lookup};
 ghost use Rattle.std.specs.BTreeMap.{is_at};
 ghost use Rattle.std.specs.Ordering.{nat_cmp};
 ghost use Rattle.ps_schema.specs.declared.Definition.{Definition};
-ghost use Rattle.ds_space.specs.Changes.{among};
 ghost use Rattle.ds_space.specs.Wants.{is_observer as observes};
 ghost use Rattle.ds_space.specs.declared.space.SpaceEvent.TheVariants.{Add, Gone};
 ghost use Rattle.ac_world.specs.Behaviours.{asks as asks_for, answer_for, gatekeeper};
 ghost use Rattle.pv_words.specs.Words.{is_word};
+ghost use Rattle.ac_world.specs.Lemmas.Grouping.{ungrouped};
 ghost use Rattle.ac_world.specs.Staying.{StaysIn};
 ghost use Rattle.ac_world.specs.Systems.{IsAppliedBy};
 
-use crate::actors::FIRST_OTHER;
 use crate::aims::Aim;
 use crate::readings::Readings;
 use crate::systems::System;
-use ds_space::{Applied, Change, Changes, Fan, SpaceEvent, reference_of};
+use ds_rows::Rows;
+use ds_space::{Applied, Change, Changes, Fan, SpaceEvent, is_observer};
 use gk_sturdy::{Bindings, reply};
 use lc_watch::Behaves;
 use pv_value::{NoMemory, Node, Text, Value};
 use pv_words::{is_word, worded};
 use sr_pass::Judge;
 use std::alloc::Global;
-use std::collections::BTreeMap;
 use std::marker::Model;
 
 /// What is bound, and what the gatekeeper has got.
 #[derive(Drop)]
 pub struct Gatekeeper {
     pub(crate) bindings: Bindings,
-    rows: BTreeMap<u64, Value>,
+    rows: Rows,
 }
 
 impl Model for Gatekeeper {
@@ -44,7 +43,7 @@ impl Model for Gatekeeper {
 
     ghost coded = { Prim.hlevel (codes, plain_code, caveat_code) };
 
-    ghost view = { λ g. record { bindings = g.bindings; got = g.rows.entries } };
+    ghost view = { λ g. record { bindings = g.bindings; got = g.rows } };
 }
 
 impl Gatekeeper {
@@ -54,23 +53,8 @@ impl Gatekeeper {
     {
         Gatekeeper {
             bindings: Bindings::new(alloc),
-            rows: BTreeMap::new(alloc),
+            rows: Rows::new(alloc),
         }
-    }
-
-    /// Whether a row has this value.
-    fn stands(&self, value: &Value) -> bool
-        ensures { result ≡ among value.now (values_of self.now.got) }
-    {
-        self.rows.values().any(|other| *value == *other)
-    }
-
-    /// Whether a value asks, and no row has it: then it is wanted with the first row that has it,
-    /// and without the last one.
-    fn is_new(&self, value: &Value) -> bool
-        ensures { result ≡ (asks_for value.now && not (among value.now (values_of self.now.got))) }
-    {
-        asks(value) && !self.stands(value)
     }
 
     /// A row comes, under a handle that is new.
@@ -88,9 +72,10 @@ impl Gatekeeper {
             (λ g. record { bound = g.bindings; task = None })
             (record { bound = self.bindings; task = None })) }
     {
-        let is_new = self.is_new(&value);
-        let changes = change_if(alloc, is_new, Change::Came(value.copy()?))?;
-        self.rows.insert(handle, value)?;
+        let asked = asks(&value);
+        let came = Change::Came(value.copy()?);
+        let first = self.rows.add(handle, value)?;
+        let changes = change_if(alloc, asked && first, came)?;
         Ok(Applied::Done(self, changes))
     }
 
@@ -103,10 +88,10 @@ impl Gatekeeper {
             (λ g. record { bound = g.bindings; task = None })
             (record { bound = self.bindings; task = None })) }
     {
-        match self.rows.remove(&handle) {
-            Some(value) => {
-                let is_new = self.is_new(&value);
-                let changes = change_if(alloc, is_new, Change::Left(value))?;
+        match self.rows.remove(handle) {
+            Some((value, last)) => {
+                let asked = asks(&value);
+                let changes = change_if(alloc, asked && last, Change::Left(value))?;
                 Ok(Applied::Done(self, changes))
             }
             None => Ok(Applied::Done(self, Vec::new(alloc))),
@@ -127,6 +112,8 @@ impl System for Gatekeeper {
 
     ghost grouped = { λ ds g. refl };
 
+    ghost first = { ungrouped };
+
     fn apply<B: Behaves>(
         self,
         alloc: Global,
@@ -140,7 +127,7 @@ impl System for Gatekeeper {
     }
 
     fn has(&self, handle: u64) -> bool {
-        self.rows.contains_key(&handle)
+        self.rows.has(handle)
     }
 
     fn group(_key: &Value) -> Option<&Value> {
@@ -214,17 +201,4 @@ fn answer_for<J: Judge>(
     };
     let reply = reply(alloc, bindings, step)?;
     readings.aim_for(alloc, judge, &reply, key)
-}
-
-/// Whether a value is an embedded reference to an object of a watcher or of a connection.
-fn is_observer(value: &Value) -> bool
-    ensures { result ≡ observes value.now }
-{
-    let Node::Emb(inside) = &value.node else {
-        return false;
-    };
-    match reference_of(inside) {
-        Some(reference) => reference.actor >= FIRST_OTHER,
-        None => false,
-    }
 }

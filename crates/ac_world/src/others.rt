@@ -57,6 +57,8 @@ impl<S: Space + Drop> System for Other<Dataspace<S>> {
 
     ghost grouped = { λ ds o. other_group ds (task_in o) };
 
+    ghost first = { λ k g e. e };
+
     fn apply<B: Behaves>(
         self,
         alloc: Global,

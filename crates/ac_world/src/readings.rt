@@ -5,7 +5,7 @@ ghost use Rattle.ac_world.specs.Aims.{aim_at, aim_for, aim_of};
 ghost use Rattle.ac_world.specs.Limits.{most_readings};
 ghost use Rattle.ac_world.specs.Readings.{AreRead, HaveRoom};
 
-use crate::aims::{Aim, aim_at, aim_through, observer_in};
+use crate::aims::{Aim, aim_bare, aim_through, has_caveats, observer_in};
 use pv_value::{NoMemory, Node, Value};
 use sr_caveat::Cap;
 use sr_pass::Judge;
@@ -21,7 +21,7 @@ pub fn limit_is_as_defined()
     ensures { READINGS ≡ most_readings }
 {}
 
-/// Values that a system actor has sent through, and of each the reference that it writes, where it
+/// Values with caveats that a system actor has sent through, and of each the reference that it writes, where it
 /// is the value of one.
 ///
 /// Contracts see nothing of it.
@@ -72,8 +72,9 @@ impl Readings {
     ) -> Result<Option<Aim>, NoMemory>
         ensures { IfOk result (λ aim. aim ≡ aim_at (J.schema judge.now) value.now reference.now) }
     {
+        // Most have none: to read one takes no more than to look for it.
         if !has_caveats(reference) {
-            return aim_at(alloc, judge, value, reference);
+            return aim_bare(value, reference);
         }
         if let Some(cap) = self.by_value.get(reference) {
             return aim_through(alloc, judge, value, cap);
@@ -127,14 +128,5 @@ fn make_room(by_value: &mut BTreeMap<Value, Option<Cap>>)
 {
     if by_value.len() >= READINGS {
         by_value.clear();
-    }
-}
-
-/// Whether a value is as long as that of a reference with caveats. To read a shorter one, as most
-/// are, takes no more than to look for it, and what is kept has room for the others.
-fn has_caveats(reference: &Value) -> bool {
-    match &reference.node {
-        Node::Seq(items) => items.as_slice().len() > 2,
-        _ => false,
     }
 }

@@ -4,16 +4,14 @@ ghost use Rattle.std.specs.Prelude.{◌≡◌, []};
 
 use crate::readings::Readings;
 use crate::systems::System;
-use pv_value::Value;
+use ac_groups::Groups;
 use std::alloc::Global;
-use std::collections::BTreeMap;
 
 /// A system actor.
 #[derive(Drop)]
 pub struct Resident<Y: System + Drop> {
     pub system: Y,
-    pub handles: BTreeMap<Value, u64>,
-    pub facets: BTreeMap<Value, u32>,
+    pub groups: Groups,
     pub readings: Readings,
 }
 
@@ -21,13 +19,12 @@ impl<Y: System + Drop> Resident<Y> {
     /// It has no rows of its own, and has read nothing.
     pub fn new(alloc: Global, system: Y) -> Resident<Y>
         ensures system { result.system ≡ system }
-        ensures handles { result.handles.entries ≡ [] }
-        ensures facets { result.facets.entries ≡ [] }
+        ensures handles { result.groups.handles ≡ [] }
+        ensures facets { result.groups.facets ≡ [] }
     {
         Resident {
             system,
-            handles: BTreeMap::new(alloc),
-            facets: BTreeMap::new(alloc),
+            groups: Groups::new(alloc),
             readings: Readings::new(alloc),
         }
     }

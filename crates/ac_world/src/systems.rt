@@ -1,9 +1,10 @@
 //! System actors: what they do by what they have got.
-ghost use Rattle.std.specs.Prelude.{◌≡◌, ℕ, List, IfOk, Option, option_copied};
+ghost use Rattle.std.specs.Prelude.{◌≡◌, ℕ, List, IfOk, Option, Some, option_copied};
 ghost use Rattle.std.specs.Map.{values_of};
 ghost use Rattle.pv_value.specs.Plain.{Plain};
 ghost use Rattle.ds_space.specs.Spaces.{IsNew, has_row};
 ghost use Rattle.ps_schema.specs.declared.Definition.{Definition};
+ghost use Rattle.ac_world.specs.Aims.{observation_of};
 ghost use Rattle.ac_world.specs.Behaviours.{Behaviour};
 ghost use Rattle.ac_world.specs.Staying.{Lasting, StaysIn};
 ghost use Rattle.ac_world.specs.Systems.{IsAppliedBy, IsFanBy};
@@ -73,4 +74,7 @@ pub trait System {
 
     /// Its rows stand by these groups.
     ghost grouped: { (ds : List Definition) (s : Self) → (behaviour ds s).group ≡ grouping };
+
+    /// Each begins with what its keys begin with.
+    ghost first: { (k g : Plain) → grouping k ≡ Some g → observation_of k ≡ Some g };
 }

@@ -3,7 +3,7 @@ ghost use Rattle.std.specs.Prelude.{◌≡◌, true, IfOk, List, OnOk};
 ghost use Rattle.ac_table.specs.Tables.{has_facet};
 ghost use Rattle.ps_schema.specs.declared.Definition.{Definition};
 ghost use Rattle.ds_space.specs.Spaces.{IsNew};
-ghost use Rattle.ac_world.specs.Keeping.{Stands, TurnsBy, turning_by};
+ghost use Rattle.ac_world.specs.Keeping.{IsToldBy, Stands, TurnsBy, turning_by};
 ghost use Rattle.ac_world.specs.Housing.{housed};
 ghost use Rattle.ac_world.specs.Turns.{housing, vacating, left, came, changed_by, all_changed};
 ghost use Rattle.ac_world.specs.Turns.{applied, by_assertion, taken_in, say_all, culprit};
@@ -15,6 +15,7 @@ use crate::plans::Plan;
 use crate::residents::Resident;
 use crate::spreads::Spreads;
 use crate::systems::System;
+use ac_groups::Taken;
 use ac_table::Event;
 use ds_space::{Applied, Change, Changes, Fan, FanList, SpaceEvent};
 use lc_watch::Behaves;
@@ -31,9 +32,10 @@ pub struct Turning<Y: System + Drop> {
 }
 
 impl<Y: System + Drop> Turning<Y> {
-    /// The row for a key has gone; with the last of its group their facet goes.
-    fn vacate(&mut self, actor: u32, key: &Value) -> Result<(), NoMemory>
-        requires { Stands actor (turning_by Y.rows self.old) }
+    /// The row for a key has gone; with the last of its group their facet goes, which is told.
+    fn vacate(&mut self, actor: u32, key: &Value, facet: Option<u32>) -> Result<(), NoMemory>
+        requires stands { Stands actor (turning_by Y.rows self.old) }
+        requires facet { IsToldBy (Y.grouping key.now) self.old.resident.groups.facets facet }
         ensures stands { OnOk result (Stands actor (turning_by Y.rows self.new)) }
         ensures turns { OnOk result (turning_by Y.rows self.new
             ≡ vacating actor (Y.grouping key.now) (turning_by Y.rows self.old)) }
@@ -42,13 +44,13 @@ impl<Y: System + Drop> Turning<Y> {
         let Some(group) = Y::group(key) else {
             return Ok(());
         };
-        let Some(facet) = self.resident.facets.get(group).copied() else {
+        let Some(facet) = facet else {
             return Ok(());
         };
         if !self.plan.vacate(actor, facet)? {
             return Ok(());
         }
-        self.resident.facets.remove(group);
+        self.resident.groups.vacate(group);
         Ok(())
     }
 
@@ -61,33 +63,35 @@ impl<Y: System + Drop> Turning<Y> {
             (turning_by Y.rows self.old)) }
         ensures system { OnOk result (self.new.resident.system ≡ self.old.resident.system) }
     {
-        if let Some(handle) = self.resident.handles.remove(key) {
+        let Taken { handle, facet } = self.resident.groups.take(key);
+        if let Some(handle) = handle {
             self.plan.drop_row(actor, handle)?;
         }
-        self.vacate(actor, key)
+        self.vacate(actor, key, facet)
     }
 
-    /// The facet in which the row for a key is to stand: that of its group, made where it isn't
-    /// there.
-    fn house(&mut self, actor: u32, key: &Value) -> Result<u32, NoMemory>
-        requires { Stands actor (turning_by Y.rows self.old) }
+    /// The facet in which the row for a key is to stand: that of its group, which is told, made
+    /// where it isn't there.
+    fn house(&mut self, actor: u32, key: &Value, facet: Option<u32>) -> Result<u32, NoMemory>
+        requires stands { Stands actor (turning_by Y.rows self.old) }
+        requires facet { IsToldBy (Y.grouping key.now) self.old.resident.groups.facets facet }
         ensures stands { OnOk result (Stands actor (turning_by Y.rows self.new)) }
         ensures turns { OnOk result (turning_by Y.rows self.new
             ≡ housing actor (Y.grouping key.now) (turning_by Y.rows self.old)) }
         ensures there { IfOk result
             (λ facet. has_facet actor facet self.new.plan.table ≡ true) }
         ensures facet { IfOk result (λ facet. facet ≡ (housed actor (Y.grouping key.now)
-            self.old.resident.facets.entries self.old.plan.table).facet) }
+            self.old.resident.groups.facets self.old.plan.table).facet) }
         ensures system { OnOk result (self.new.resident.system ≡ self.old.resident.system) }
     {
         let Some(group) = Y::group(key) else {
             return Ok(0);
         };
-        if let Some(facet) = self.resident.facets.get(group) {
-            return Ok(*facet);
+        if let Some(facet) = facet {
+            return Ok(facet);
         }
         let facet = self.plan.found(actor)?;
-        self.resident.facets.insert(group.copy()?, facet)?;
+        self.resident.groups.house(group, facet)?;
         Ok(facet)
     }
 
@@ -115,9 +119,11 @@ impl<Y: System + Drop> Turning<Y> {
         let Some(Aim { at, value }) = system.aim(alloc, judge, behaves, readings, &key)? else {
             return Ok(());
         };
-        let facet = self.house(actor, &key)?;
-        let handle = self.plan.put(actor, facet, (at.actor, at.entity), value)?;
-        self.resident.handles.insert(key, handle)?;
+        // The row that is put gets the next handle.
+        let handle = self.plan.table.next_handle();
+        let facet = self.resident.groups.put(&key, handle)?;
+        let facet = self.house(actor, &key, facet)?;
+        self.plan.put(actor, facet, (at.actor, at.entity), value)?;
         Ok(())
     }
 
@@ -190,16 +196,14 @@ impl<Y: System + Drop> Turning<Y> {
         } = self;
         let Resident {
             system,
-            handles,
-            facets,
+            groups,
             readings,
         } = resident;
         match system.apply(alloc, behaves, event)? {
             Applied::Done(system, changes) => {
                 let resident = Resident {
                     system,
-                    handles,
-                    facets,
+                    groups,
                     readings,
                 };
                 let mut turning = Turning {
@@ -213,8 +217,7 @@ impl<Y: System + Drop> Turning<Y> {
             Applied::Over(system, weight) => {
                 let resident = Resident {
                     system,
-                    handles,
-                    facets,
+                    groups,
                     readings,
                 };
                 passed_over(actor, from, weight, resident, plan, spreads)

@@ -62,6 +62,8 @@ impl System for Watcher {
 
     ghost grouped = { λ ds w. refl };
 
+    ghost first = { λ k g e. e };
+
     fn apply<B: Behaves>(
         self,
         alloc: Global,

@@ -1,9 +1,11 @@
 //! The world and its changes.
 ghost use Rattle.std.specs.Prelude.{◌≡◌, ◌<◌, ◌≤◌, ◌^◌, ◌-◌, ◌+◌, [], length, min, true, false};
 ghost use Rattle.std.specs.Prelude.{IfOk, IfSome, OnOk, option_copied, option_map, unwrap_or};
+ghost use Rattle.std.specs.Prelude.{ℕ, is_some};
 ghost use Rattle.ac_world.specs.Outboxes.{plan_over};
 ghost use Rattle.std.specs.BTreeMap.{IsOrdered};
 ghost use Rattle.std.specs.Ordering.{nat_cmp};
+ghost use Rattle.ac_table.specs.Maps.{is_key};
 ghost use Rattle.ac_table.specs.Tables.{is_live, find_row, first_batch, lowest, waiting};
 ghost use Rattle.gk_sturdy.specs.Bindings.{bound};
 ghost use Rattle.ac_world.specs.Keeping.{resident_by, turning_by, Stands};
@@ -37,7 +39,7 @@ use lc_watch::Behaves;
 use pv_value::{NoMemory, Value};
 use sr_pass::Judge;
 use std::alloc::Global;
-use std::collections::BTreeMap;
+use std::collections::{BTreeMap, BTreeSet};
 use std::marker::Model;
 
 /// Live actors with their inboxes, rows, and what was delivered to whom.
@@ -162,6 +164,13 @@ impl<S: Space + Drop, J: Judge + Drop, B: Behaves + Drop> World<S, J, B> {
         ensures { result ≡ lowest self.now.table }
     {
         self.table.lowest()
+    }
+
+    /// The live actors for which a batch waits.
+    pub fn busy(&self) -> &BTreeSet<u32>
+        ensures { (a : ℕ) → is_key a result.now.keys ≡ is_some (first_batch a self.now.table) }
+    {
+        self.table.busy()
     }
 
     /// How many batches wait, at most the greatest u64.

@@ -4,9 +4,9 @@ use Rattle.std.specs.List.Sorted.{IsStrictlySortedBy}
 use Rattle.std.proofs.lemmas.Map.Views.{any-filter_same}
 use Rattle.pv_value.specs.Plain.{Plain}
 use Rattle.pv_value.specs.WellFormed.{Ascend}
+use Rattle.pv_words.specs.Lemmas.Same.{same_is}
 use Rattle.pv_words.specs.Parts.{same}
 use Rattle.ds_space.specs.Changes.{among, without}
-use Rattle.ds_space.specs.Lemmas.Keys.{same_is}
 use Rattle.ds_space.specs.Lemmas.Exact.{without_is}
 use Rattle.ds_space.specs.Lemmas.Walks.{lacking_ascends}
 

@@ -11,9 +11,10 @@ use Rattle.pv_value.specs.Plain.{Plain, sequence, then_more}
 use Rattle.pv_value.specs.Order.{order}
 use Rattle.pv_value.specs.WellFormed.{Ascend}
 use Rattle.pv_value.specs.Lemmas.OrderLaws.{order_total}
+use Rattle.pv_words.specs.Lemmas.Same.{same_is, same_self}
 use Rattle.pv_words.specs.Parts.{same}
 use Rattle.ds_space.specs.Changes.{among}
-use Rattle.ds_space.specs.Lemmas.Keys.{same_is, same_self, any_flat}
+use Rattle.ds_space.specs.Lemmas.Keys.{any_flat}
 use Rattle.ds_space.specs.Lemmas.Lists.{ascending_any, in_order}
 use Rattle.ac_watch.specs.Watching.{made, key_at, keys_from, keys_over, watcher_keys}
 

@@ -36,18 +36,6 @@ longer_by_row h v (r ∷ rs) none p = by (nat_cmp h r.0) refl none (longer_by_ro
         let rest : lookup (is_at (nat_cmp h)) rs ≡ None = grind (arith, is, none) in
         ap (λ b. p r.1 || b) (later rest p) ∙ turn (p r.1) (p v) (list_any p (values_of rs))
 
--- a row that isn't there leaves all
-pub same_without : (h : ℕ) (rows : Rows) → lookup (is_at (nat_cmp h)) rows ≡ None
-    → remove_entry (is_at (nat_cmp h)) rows ≡ rows
-same_without h [] none = refl
-same_without h (r ∷ rs) none = by (is_at (nat_cmp h) r.0) none (same_without h rs)
-  where
-    by : (b : Bool) → cond b (Some r.1) (lookup (is_at (nat_cmp h)) rs) ≡ None
-        → (lookup (is_at (nat_cmp h)) rs ≡ None → remove_entry (is_at (nat_cmp h)) rs ≡ rs)
-        → cond b rs (r ∷ remove_entry (is_at (nat_cmp h)) rs) ≡ r ∷ rs
-    by true none later = absurd cc
-    by false none later = ap (λ es. r ∷ es) (later none)
-
 pub longer_than_without : (h : ℕ) (v : Plain) (rows : Rows) → lookup (is_at (nat_cmp h)) rows ≡ Some v
     → IsLonger v (values_of (remove_entry (is_at (nat_cmp h)) rows)) (values_of rows)
 longer_than_without h v [] found p = absurd cc

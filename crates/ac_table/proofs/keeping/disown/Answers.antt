@@ -2,11 +2,11 @@ use Rattle.std.proofs.Common.{not, ◌&&◌, ◌∙◌, sym, ap}
 use Rattle.std.specs.Map.Iter.{deref}
 use Rattle.std.proofs.lemmas.Map.Iter.{iter_end}
 use Rattle.ac_table.specs.Maps.{is_key}
-use Rattle.ac_table.proofs.Sets.{less_step, and_true}
+use Rattle.ac_table.proofs.Members.{less_step, and_true}
 use Rattle.ac_table.proofs.keeping.disown.Goals as goal
 
 pub loop-handle-init : goal.loop-handle-init
-loop-handle-init c = record { own = λ h. sym (and_true _); ordered = c.len.ensures.ordered }
+loop-handle-init c = record { own = λ h. sym (and_true _); ordered = c.keeps_its_order.ensures.ordered }
 
 pub loop-handle-preserved : goal.loop-handle-preserved
 loop-handle-preserved c = record {

@@ -1,5 +1,5 @@
 use Rattle.std.proofs.Common.{◌∙◌, sym}
-use Rattle.ac_table.proofs.Sets.{on_ok, on_error}
+use Rattle.ac_table.proofs.Members.{on_ok, on_error}
 use Rattle.ac_table.proofs.Standing.{put_back}
 use Rattle.ac_table.proofs.keeping.put_row.Goals as goal
 

@@ -8,7 +8,7 @@ use Rattle.ac_table.specs.declared.facets.Facet.{Facet}
 use Rattle.ac_table.proofs.Freeing.{IsAdding, added_seen, placed_added_free, placed_added_end, ascend_seen}
 use Rattle.ac_table.proofs.Least.{least_number}
 use Rattle.ac_table.proofs.Placing.{placed_same}
-use Rattle.ac_table.proofs.Sets.{on_false}
+use Rattle.ac_table.proofs.Members.{on_false}
 use Rattle.ac_table.proofs.Trees.{root_there}
 use Rattle.ac_table.proofs.facets.Facets.add.Goals as goal
 

@@ -2,7 +2,7 @@ use Rattle.std.proofs.Common.{◌∙◌, sym, ap, ◌||◌}
 use Rattle.ac_table.specs.Maps.{is_key}
 use Rattle.ac_table.specs.Placed.{has_at}
 use Rattle.ac_table.proofs.Placing.{has-seen, rows_in}
-use Rattle.ac_table.proofs.Sets.{or_false, on_result}
+use Rattle.ac_table.proofs.Members.{or_false, on_result}
 use Rattle.ac_table.proofs.facets.Facets.add_rows.Goals as goal
 
 pub returns-in-Some-clause-rows : goal.returns-in-Some-clause-rows

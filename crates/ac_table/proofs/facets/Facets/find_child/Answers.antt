@@ -3,7 +3,7 @@ use Rattle.std.proofs.lemmas.Bool.Decides.{nat_tests}
 use Rattle.ac_table.specs.Maps.{is_key}
 use Rattle.ac_table.specs.Facets.{Tree}
 use Rattle.ac_table.specs.Placed.{tree_in, is_child}
-use Rattle.ac_table.proofs.Sets.{or_false, and_false}
+use Rattle.ac_table.proofs.Members.{or_false, and_false}
 use Rattle.ac_table.proofs.facets.Facets.find_child.Goals as goal
 
 -- one that is no child is none at its own number

@@ -4,7 +4,7 @@ use Rattle.std.specs.Map.Iter.{deref}
 use Rattle.std.proofs.lemmas.Map.Iter.{iter_end}
 use Rattle.ac_table.specs.Maps.{is_key}
 use Rattle.ac_table.specs.Placed.{tree_in, is_child}
-use Rattle.ac_table.proofs.Sets.{or_false, and_false, found_step, left_step}
+use Rattle.ac_table.proofs.Members.{or_false, and_false, found_step, left_step}
 use Rattle.ac_table.proofs.Placing.{childless, child_listed}
 use Rattle.ac_table.proofs.facets.Facets.look_below.Goals as goal
 
@@ -28,7 +28,7 @@ loop-child-init c = record {
   left = λ g. sym (ap (λ b. is_key g c.args.left.now.keys || b) (and_false (not (is_key g c.args.found.now.keys)))
       ∙ or_false (is_key g c.args.left.now.keys));
   count = omega arith;
-  ordered = c.len.ensures.ordered;
+  ordered = c.keeps_its_order.ensures.ordered;
 }
 
 pub loop-child-preserved : goal.loop-child-preserved

@@ -2,7 +2,7 @@ use Rattle.std.proofs.Common.{◌∙◌, sym, ap, subst, List, ℕ, map, true}
 use Rattle.ac_table.specs.Placed.{facet_seen, tree_in, HasRow, SameRows, FacetState}
 use Rattle.ac_table.proofs.Placing.{no_facet}
 use Rattle.ac_table.proofs.Refaceting.{rewritten, tree_rewritten, placed_rewritten, has_rewritten, same_rewritten}
-use Rattle.ac_table.proofs.Sets.{on_err}
+use Rattle.ac_table.proofs.Members.{on_err}
 use Rattle.ac_table.proofs.facets.Facets.put.Goals as goal
 
 pub returns-in_default-clause-put : goal.returns-in_default-clause-put

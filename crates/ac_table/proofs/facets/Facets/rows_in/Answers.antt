@@ -4,7 +4,7 @@ use Rattle.std.specs.Map.Iter.{deref}
 use Rattle.std.proofs.lemmas.Map.Iter.{iter_end}
 use Rattle.ac_table.specs.Maps.{is_key}
 use Rattle.ac_table.specs.Placed.{has_at}
-use Rattle.ac_table.proofs.Sets.{any_push}
+use Rattle.ac_table.proofs.Members.{any_push}
 use Rattle.ac_table.proofs.facets.Facets.rows_in.Goals as goal
 
 pub loop-facet-init : goal.loop-facet-init

@@ -11,7 +11,7 @@ add_sent-requires-clause-count c =
     let from = c.args.batch.from in
     let l = ap (λ (l : Load). l.count) c.load_in-load.ensures in
     sum_has_room (λ (b : Batch). (load_if_from from b).count) i.batches.items _ c.load_in-load.result.count
-    (ap (λ (l : Load). l.count) (c.self.invariant.each from)) (omega (arith, c.len-waiting.ensures, i.batches.ok))
+    (ap (λ (l : Load). l.count) (c.self.invariant.each from)) c.keeps_its_bound.ensures
     (omega (arith, l))
 
 pub add_sent-requires-clause-weight : goal.add_sent-requires-clause-weight
@@ -20,7 +20,7 @@ add_sent-requires-clause-weight c =
     let from = c.args.batch.from in
     let l = ap (λ (l : Load). l.weight) c.load_in-load.ensures in
     sum_has_room (λ (b : Batch). (load_if_from from b).weight) i.batches.items _ c.load_in-load.result.weight
-    (ap (λ (l : Load). l.weight) (c.self.invariant.each from)) (omega (arith, c.len-waiting.ensures, i.batches.ok))
+    (ap (λ (l : Load). l.weight) (c.self.invariant.each from)) c.keeps_its_bound.ensures
     (omega (arith, l))
 
 pub add-requires-clause-count : goal.add-requires-clause-count
@@ -28,7 +28,7 @@ add-requires-clause-count c =
     let i = c.self.inside in
     let l = ap (λ (l : Load). l.count) c.load_in-load.ensures in
     sum_has_room (λ (b : Batch). (load_of_batch b).count) i.batches.items _ c.load_in-load.result.count
-    (ap (λ (l : Load). l.count) c.self.invariant.all) (omega (arith, c.len-waiting.ensures, i.batches.ok))
+    (ap (λ (l : Load). l.count) c.self.invariant.all) c.keeps_its_bound.ensures
     (omega (arith, l))
 
 pub add-requires-clause-weight : goal.add-requires-clause-weight
@@ -36,7 +36,7 @@ add-requires-clause-weight c =
     let i = c.self.inside in
     let l = ap (λ (l : Load). l.weight) c.load_in-load.ensures in
     sum_has_room (λ (b : Batch). (load_of_batch b).weight) i.batches.items _ c.load_in-load.result.weight
-    (ap (λ (l : Load). l.weight) c.self.invariant.all) (omega (arith, c.len-waiting.ensures, i.batches.ok))
+    (ap (λ (l : Load). l.weight) c.self.invariant.all) c.keeps_its_bound.ensures
     (omega (arith, l))
 
 pub invariant_of-self-2 : goal.invariant_of-self-2

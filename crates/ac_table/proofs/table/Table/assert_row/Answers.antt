@@ -54,7 +54,7 @@ add-requires c = let i = c.self.inside in
     let was = sym c.in-Some.ensures.value in
     weight_fits s.row_weight c.weight-weight.result s.own.keys (rows_of c.args.owner (values_of i.rows.entries))
     (k.weighed c.args.owner s was) (k.owned c.args.owner s was)
-    (omega (arith, c.len-rows.ensures.len, c.len-rows.ensures.small)) (omega (arith, c.weight-weight.ensures))
+    (omega (arith, c.keeps_its_order.ensures.few)) (omega (arith, c.weight-weight.ensures))
 
 pub invariant_of-self-in_err-put_row : goal.invariant_of-self-in_err-put_row
 invariant_of-self-in_err-put_row c = let i = c.self.inside in

@@ -15,21 +15,21 @@ use Rattle.ac_watch.proofs.watching.Watching.add.Goals as goal
 
 pub invariant_of-result : goal.invariant_of-result
 invariant_of-result g c =
-    let none : lookup (is_at (nat_cmp c.args.handle)) c.self.inside.rows.entries ≡ None =
+    let none : lookup (is_at (nat_cmp c.args.handle)) c.self.inside.rows ≡ None =
     ap (λ (w : Watch). lookup (is_at (nat_cmp c.args.handle)) w.got) c.self.view_is ∙ c.requires in
     let stays =
-    one_more_weighs c.self.inside.name c.args.handle c.args.value c.self.inside.rows.entries _ none
-    c.in_ok-put_row.ensures (sym c.stands.ensures ∙ c.if-stands.true) in
+    one_more_weighs c.self.inside.name c.args.handle c.args.value c.self.inside.rows _ none
+    c.in_ok-add.ensures.added (sym c.stands.ensures ∙ c.if-stands.true) in
     (c.self.invariant.0 ∙ sym stays, c.self.invariant.1)
 
 pub returns-then-stands : goal.returns-then-stands
 returns-then-stands g c =
     let h = c.args.handle in
     let v = c.args.value in
-    let w : Watch = record { name = c.self.inside.name; got = c.self.inside.rows.entries } in
+    let w : Watch = record { name = c.self.inside.name; got = c.self.inside.rows } in
     let none : lookup (is_at (nat_cmp h)) w.got ≡ None =
     ap (λ (o : Watch). lookup (is_at (nat_cmp h)) o.got) c.self.view_is ∙ c.requires in
-    let more = c.in_ok-put_row.ensures in
+    let more = c.in_ok-add.ensures.added in
     let stands = sym c.stands.ensures ∙ c.if-stands.true in
     let all =
     follows (Add h v) w c.args.self _ _ c.self.view_is more
@@ -46,7 +46,7 @@ returns-then-is_over g c =
     let h = c.args.handle in
     let v = c.args.value in
     let after = c.weight_with-after.result in
-    let w : Watch = record { name = c.self.inside.name; got = c.self.inside.rows.entries } in
+    let w : Watch = record { name = c.self.inside.name; got = c.self.inside.rows } in
     let none : lookup (is_at (nat_cmp h)) w.got ≡ None =
     ap (λ (o : Watch). lookup (is_at (nat_cmp h)) o.got) c.self.view_is ∙ c.requires in
     let sum =
@@ -65,11 +65,11 @@ returns-then-is_over g c =
 pub invariant_of-result-2 : goal.invariant_of-result-2
 invariant_of-result-2 g c =
     let h = c.args.handle in
-    let none : lookup (is_at (nat_cmp h)) c.self.inside.rows.entries ≡ None =
+    let none : lookup (is_at (nat_cmp h)) c.self.inside.rows ≡ None =
     ap (λ (w : Watch). lookup (is_at (nat_cmp h)) w.got) c.self.view_is ∙ c.requires in
     let fits : c.weight_with-after.result ≤ most_wanted_weight =
     ltb-false most_wanted_weight c.weight_with-after.result (sym c.is_over.ensures ∙ c.if-is_over.false) in (
-      whole_weighs c.self.inside.name h c.args.value c.self.inside.rows.entries _ none c.in_ok-put_row-2.ensures
+      whole_weighs c.self.inside.name h c.args.value c.self.inside.rows _ none c.in_ok-add-2.ensures.added
           c.self.inside.weight c.weight_with-after.result c.in_ok-made.made c.self.invariant.0 c.in_ok-made.ensures
           (sym c.stands.ensures ∙ c.if-stands.false) c.weight_with-after.ensures fits,
       fits,
@@ -80,10 +80,10 @@ returns g c =
     let h = c.args.handle in
     let v = c.args.value in
     let after = c.weight_with-after.result in
-    let w : Watch = record { name = c.self.inside.name; got = c.self.inside.rows.entries } in
+    let w : Watch = record { name = c.self.inside.name; got = c.self.inside.rows } in
     let none : lookup (is_at (nat_cmp h)) w.got ≡ None =
     ap (λ (o : Watch). lookup (is_at (nat_cmp h)) o.got) c.self.view_is ∙ c.requires in
-    let more = c.in_ok-put_row-2.ensures in
+    let more = c.in_ok-add-2.ensures.added in
     let first = sym c.stands.ensures ∙ c.if-stands.false in
     let fits : after ≤ most_wanted_weight =
     ltb-false most_wanted_weight after (sym c.is_over.ensures ∙ c.if-is_over.false) in

@@ -1,4 +1,4 @@
-use Rattle.std.proofs.Common.{◌≡◌, [], ◌∷◌, ◌&&◌, not, cond, ap, sym, ◌∙◌, arith}
+use Rattle.std.proofs.Common.{◌≡◌, [], ◌∷◌, ◌&&◌, not, cond, ap, sym, ◌∙◌, arith, rules}
 use Rattle.std.specs.BTreeMap.{insert_entry}
 use Rattle.std.specs.Map.{values_of}
 use Rattle.std.specs.Ordering.{nat_cmp}
@@ -16,10 +16,14 @@ returns-clause-applied c =
     let v = c.args.value in
     let old : Rows = c.args.self.got in
     let new : Rows = insert_entry nat_cmp old c.args.handle v in
+    let first : c.in_ok-first.first ≡ not (among v (values_of old)) =
+    c.in_ok-first.ensures.first ∙ ap (λ (g : Gatekeeping). not (among v (values_of g.got))) c.self.view_is in
+    let both : c.if-asked.change_if ≡ (c.asks-asked.result && c.in_ok-first.first) = search rules in
     let items : c.in_ok-changes.changes.items ≡ cond (asks v && not (among v (values_of old))) (Came v ∷ []) [] =
-    c.in_ok-changes.ensures ∙ (λ i. cond (c.is_new-is_new.ensures i) (Came (c.in_ok-copy.ensures i) ∷ []) []) in
+    c.in_ok-changes.ensures ∙ ap (λ b. cond b (Came c.in_ok-copy.field-0 ∷ []) []) both
+    ∙ (λ i. cond (c.asks-asked.ensures i && first i) (Came (c.in_ok-copy.ensures i) ∷ []) []) in
     λ ds. (
-      c.in_ok-insert.ensures.entries
+      c.in_ok-first.ensures.added
           ∙ ap (λ (g : Gatekeeping). insert_entry nat_cmp g.got c.args.handle v) c.self.view_is,
       ap (λ (g : Gatekeeping). gatekeeper ds g.bindings) c.self.view_is,
       items ∙ sym (came_changes v (values_of old) (values_of new) (longer_by_row c.args.handle v old c.requires)),

@@ -1,4 +1,4 @@
-use Rattle.std.proofs.Common.{◌≡◌, [], ◌∷◌, ◌&&◌, not, cond, Some, None, ap, sym, ◌∙◌}
+use Rattle.std.proofs.Common.{◌≡◌, [], ◌∷◌, ◌&&◌, not, cond, Some, ap, sym, ◌∙◌, rules}
 use Rattle.std.specs.BTreeMap.{is_at}
 use Rattle.std.specs.Map.{values_of, lookup, remove_entry}
 use Rattle.std.specs.Ordering.{nat_cmp}
@@ -8,7 +8,7 @@ use Rattle.ds_space.specs.declared.space.Change.TheVariants.{Left}
 use Rattle.ac_world.specs.Behaviours.{asks, gatekeeper}
 use Rattle.ac_world.specs.Worlds.{Gatekeeping}
 use Rattle.ac_world.specs.Systems.{changes}
-use Rattle.ac_watch.specs.Lemmas.Rows.{longer_than_without, same_without}
+use Rattle.ac_watch.specs.Lemmas.Rows.{longer_than_without}
 use Rattle.ac_world.specs.Lemmas.Asking.{asked, left_changes, no_changes}
 use Rattle.ac_world.proofs.gatekeeper.Gatekeeper.remove.Goals as goal
 
@@ -16,15 +16,16 @@ pub returns-in-None-clause-applied : goal.returns-in-None-clause-applied
 returns-in-None-clause-applied c =
     let h = c.args.handle in
     let old : Rows = c.args.self.got in
-    let none : lookup (is_at (nat_cmp h)) old ≡ None =
-    ap (λ (g : Gatekeeping). lookup (is_at (nat_cmp h)) g.got) (sym c.self.view_is) ∙ sym c.in-None.ensures.value in
+    let removed : c.remove.new.self ≡ remove_entry (is_at (nat_cmp h)) old =
+    c.in-None.ensures.removed
+    ∙ ap (λ (g : Gatekeeping). remove_entry (is_at (nat_cmp h)) g.got) c.self.view_is in
+    let same : remove_entry (is_at (nat_cmp h)) old ≡ old =
+    sym removed ∙ c.in-None.ensures.unchanged ∙ ap (λ (g : Gatekeeping). g.got) c.self.view_is in
     λ ds. (
-      c.in-None.ensures.entries
-          ∙ ap (λ (g : Gatekeeping). remove_entry (is_at (nat_cmp h)) g.got) c.self.view_is,
+      removed,
       ap (λ (g : Gatekeeping). gatekeeper ds g.bindings) c.self.view_is,
       c.new.ensures.items ∙ sym (no_changes (values_of old))
-          ∙ ap (λ (rows : Rows). changes (asked (values_of old)) (asked (values_of rows)))
-          (sym (same_without h old none)),
+          ∙ ap (λ (rows : Rows). changes (asked (values_of old)) (asked (values_of rows))) (sym same),
       tt,
     )
 
@@ -34,16 +35,18 @@ returns-in_ok-changes-in-Some-clause-applied c =
     let v = c.in-Some.value in
     let old : Rows = c.args.self.got in
     let new : Rows = remove_entry (is_at (nat_cmp h)) old in
-    let rows : c.remove.new.self.entries ≡ new =
-    c.in-Some.ensures.entries ∙ ap (λ (g : Gatekeeping). remove_entry (is_at (nat_cmp h)) g.got) c.self.view_is in
+    let rows : c.remove.new.self ≡ new =
+    c.in-Some.ensures.removed ∙ ap (λ (g : Gatekeeping). remove_entry (is_at (nat_cmp h)) g.got) c.self.view_is in
     let found : lookup (is_at (nat_cmp h)) old ≡ Some v =
     ap (λ (g : Gatekeeping). lookup (is_at (nat_cmp h)) g.got) (sym c.self.view_is) ∙ sym c.in-Some.ensures.value in
-    let is_new : c.is_new-is_new.result ≡ (asks v && not (among v (values_of new))) =
-    c.is_new-is_new.ensures ∙ ap (λ (rs : Rows). asks v && not (among v (values_of rs))) rows in
+    let last : c.in-Some.last ≡ not (among v (values_of new)) =
+    c.in-Some.ensures.last ∙ ap (λ (rs : Rows). not (among v (values_of rs))) rows in
+    let both : c.if-asked.change_if ≡ (c.asks-asked.result && c.in-Some.last) = search rules in
     λ ds. (
       rows,
       ap (λ (g : Gatekeeping). gatekeeper ds g.bindings) c.self.view_is,
-      c.in_ok-changes-in-Some.ensures ∙ ap (λ b. cond b (Left v ∷ []) []) is_new
+      c.in_ok-changes-in-Some.ensures ∙ ap (λ b. cond b (Left v ∷ []) []) both
+          ∙ (λ i. cond (c.asks-asked.ensures i && last i) (Left v ∷ []) [])
           ∙ sym (left_changes v (values_of new) (values_of old) (longer_than_without h v old found)),
       tt,
     )

@@ -18,8 +18,8 @@ pub invariant_of-result : goal.invariant_of-result
 invariant_of-result g c =
     let watches : c.new.result.items ≡ [] = search rules in
     let got : c.new-3.result.system.got ≡ [] = search rules in
-    let handles : c.new-3.result.handles.entries ≡ [] = search rules in
-    let facets : c.new-3.result.facets.entries ≡ [] = search rules in
+    let handles : c.new-3.result.groups.handles ≡ [] = search rules in
+    let facets : c.new-3.result.groups.facets ≡ [] = search rules in
     let none : c.new-4.result.entries ≡ [] = search rules in (
       subst (λ (ws : List Watched). IsWorld 0 ws c.loop-actor.table) (sym watches)
           (first_world c.loop-actor.actor c.loop-actor.table (omega arith) c.loop-actor.invariant),

@@ -1,0 +1,5 @@
+pub mod Changes
+pub mod Entries
+pub mod Flat
+pub mod Members
+pub mod Pairs

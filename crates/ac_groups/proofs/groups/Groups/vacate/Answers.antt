@@ -1,0 +1,29 @@
+use Rattle.std.proofs.Common.{ap, ◌∙◌}
+use Rattle.std.specs.BTreeMap.{is_at}
+use Rattle.std.specs.Map.{remove_entry}
+use Rattle.pv_value.specs.Order.{order}
+use Rattle.ac_groups.specs.Groups.{Grouped}
+use Rattle.ac_groups.specs.Kept.{IsKept}
+use Rattle.ac_groups.proofs.Changes.{handles_still, facet_gone}
+use Rattle.ac_groups.proofs.groups.Groups.vacate.Goals as goal
+
+pub returns-clause-facets : goal.returns-clause-facets
+returns-clause-facets c =
+    let i = c.self.inside in
+    let k = c.self.invariant in
+    facet_gone i.groups c.vacate.new.groups k.groups_ascend c.vacate.ensures.ordered c.args.group.now
+    c.vacate.ensures.facets
+    ∙ ap (λ (v : Grouped). remove_entry (is_at (order c.args.group.now)) v.facets) c.self.view_is
+
+pub returns-clause-handles : goal.returns-clause-handles
+returns-clause-handles c =
+    let i = c.self.inside in
+    let k = c.self.invariant in
+    let new = c.vacate.new.groups in
+    let now : IsKept new i.others = record {
+      groups_ascend = c.vacate.ensures.ordered;
+      others_ascend = k.others_ascend;
+      none_bare = c.vacate.ensures.none_bare;
+      apart = k.apart;
+    } in
+    handles_still i.groups new i.others k now c.vacate.ensures.handles ∙ ap (λ (v : Grouped). v.handles) c.self.view_is
