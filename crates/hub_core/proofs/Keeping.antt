@@ -1,6 +1,7 @@
 -- What the hub's parts keep: the connections' numbers are small, the state is valid, and who may be over a limit is left
 -- to be looked at.
 use Rattle.std.proofs.Common.{◌≡◌, ℕ, ◌+◌, ◌<◌, ◌≤◌, ◌^◌, List, [], false, Option, Some, None, sym, subst, arith}
+use Rattle.std.proofs.Common.{ap, ◌∙◌, ◌⊎◌, inl, inr}
 use Rattle.std.specs.Prelude.{IfSome}
 use Rattle.std.specs.BTreeMap.{insert_entry, is_at}
 use Rattle.std.specs.Map.{remove_entry}
@@ -9,19 +10,25 @@ use Rattle.pv_value.specs.Plain.{Plain}
 use Rattle.sr_caveat.specs.Caps.{IsSound}
 use Rattle.gk_sturdy.specs.declared.bound.Binding.{Binding}
 use Rattle.ac_world.specs.declared.watched.Watched.{Watched}
-use Rattle.ac_world.specs.Worlds.{WorldState, arrived, ended_of, entry_of, binding, watching}
+use Rattle.ac_world.specs.Worlds.{WorldState, actor_of, arrived, ended_of, entry_of, binding, watching}
 use Rattle.ac_world.specs.Turns.{turn}
+use Rattle.ac_world.specs.declared.turns.Turned.{Turned}
 use Rattle.rl_ports.specs.Ports.{PortsState, ports_to}
 use Rattle.hub_machine.specs.declared.faults.Fault.{Fault}
+use Rattle.hub_machine.specs.Endings.{dismissed, overrun_of}
 use Rattle.hub_machine.specs.State.{State}
 use Rattle.hub_machine.specs.Machine.{actor_reference, is_barred, is_unwatchable}
 use Rattle.hub_valid.specs.Validity.{lived, AreValid, IsValidEntry}
 use Rattle.hub_valid.specs.Lemmas.Hubs.{opened_is_valid, nameless_is_valid, dismissed_is_valid, turned_is_valid}
 use Rattle.hub_valid.specs.Lemmas.Hubs.{bound_is_valid, watched_is_valid}
-use Rattle.hub_cascade.proofs.Ends.{unless_named}
+use Rattle.hub_laws.proofs.Leaving.{one_or_not}
+use Rattle.hub_laws.proofs.Presence.{dead_itself}
+use Rattle.hub_cascade.proofs.Ends.{unless_live, unless_named}
 use Rattle.hub_cascade.proofs.Looked.{within_nameless, within_dismissed, within_named, within_opened}
 use Rattle.hub_core.specs.declared.unlooked.Unlooked.{Unlooked}
 use Rattle.hub_core.specs.Looking.{AreLeft, and_one, and_turned}
+use Rattle.hub_core.specs.Work.{is_waited_for}
+use Rattle.hub_core.proofs.Idle.{ended_idle, zeroth}
 use Rattle.hub_core.proofs.Looking.{state_of, left_still, left_and_one, left_turned}
 use Rattle.hub_core.proofs.Small.{AreSmall, small_with, small_without, entry_at}
 use Rattle.hub_core.proofs.Watching.{may_watch, none_named}
@@ -38,7 +45,7 @@ kept_without k u w names less faults is kept =
       kept.1,
       nameless_is_valid k (state_of w names) kept.2,
       left_still u w w names (remove_entry (is_at (nat_cmp k)) names)
-          (λ j. within_nameless j k (state_of w names)) kept.3,
+          (λ j. within_nameless j k (state_of w names)) (λ j idle. inl idle) kept.3,
     )
 
 -- whoever goes
@@ -49,8 +56,18 @@ kept_dismissed a u w world names faults is kept =
       kept.0,
       kept.1,
       dismissed_is_valid a (state_of w names) kept.2,
-      left_still u w (ended_of a w) names names (λ j. within_dismissed j a (state_of w names)) kept.3,
+      left_still u w (ended_of a w) names names (λ j. within_dismissed j a (state_of w names)) idle kept.3,
     )
+  where
+    -- for the one that goes nothing waits, and nothing of it is over
+    idle : (j : ℕ) → is_waited_for j (state_of (ended_of a w) names) ≡ false
+        → (is_waited_for j (state_of w names) ≡ false) ⊎ (overrun_of j (state_of (ended_of a w) names) ≡ None)
+    idle j none = elim (one_or_not (actor_of j) a) [
+      | inl same ↦
+          inr (subst (λ b. overrun_of j (dismissed b (state_of w names)) ≡ None) same
+          (unless_live j (dismissed (actor_of j) (state_of w names)) (dead_itself (actor_of j) w)))
+      | inr apart ↦ inl (ended_idle (actor_of j) a w apart none)
+    ]
 
 -- names come, in a world that may have changed
 pub kept_with : (k : ℕ) (u v : Unlooked) (w world : WorldState) (names more : List (ℕ × PortsState))
@@ -61,15 +78,17 @@ kept_with k u v w world names more faults p is small kept valid left =
     subst (λ (es : List (ℕ × PortsState)). AreKept v world es faults) (sym is)
     (small_with k p names small kept.0, kept.1, valid, left)
 
-pub kept_turned : (a : ℕ) (u v : Unlooked) (w world : WorldState) (names : List (ℕ × PortsState))
-    (faults : List (ℕ × Fault)) → world ≡ (turn a w).world → v ≡ and_turned a u → AreKept u w names faults
-    → AreKept v world names faults
-kept_turned a u v w world names faults is unlooked kept =
+pub kept_turned : (a : ℕ) (d : Turned) (u v : Unlooked) (w world : WorldState) (names : List (ℕ × PortsState))
+    (faults : List (ℕ × Fault)) → world ≡ (turn a w).world → d ≡ (turn a w).turned → v ≡ and_turned a d u
+    → AreKept u w names faults → AreKept v world names faults
+kept_turned a d u v w world names faults is told unlooked kept =
     subst (λ (x : WorldState). AreKept v x names faults) (sym is) (
       kept.0,
       kept.1,
       turned_is_valid a (state_of w names) kept.2,
-      subst (λ (x : Unlooked). AreLeft x (turn a w).world names) (sym unlooked) (left_turned a u w names kept.3),
+      subst (λ (x : Unlooked). AreLeft x (turn a w).world names)
+          (sym (unlooked ∙ ap (λ (x : Turned). and_turned a x u) told))
+          (left_turned a u w names (zeroth (lived w) names kept.2.named) kept.3),
     )
 
 pub kept_bound : (b : Binding) (u : Unlooked) (s : State) (world : WorldState) → IsSound b.cap → is_barred b s ≡ false
@@ -80,7 +99,8 @@ kept_bound b u s world sound free is kept =
       kept.0,
       kept.1,
       bound_is_valid b s sound free kept.2,
-      left_still u s.world (binding b s.world) s.connections s.connections (λ j within. within) kept.3,
+      left_still u s.world (binding b s.world) s.connections s.connections (λ j within. within)
+          (λ j idle. inl idle) kept.3,
     )
 
 -- no connection has names then
@@ -94,7 +114,8 @@ kept_watched x u s world free is kept =
       kept.1,
       watched_is_valid x s free kept.2,
       left_still u s.world (watching x s.world) s.connections s.connections
-          (λ j within. unless_named j (state_of (watching x s.world) s.connections) (none j)) kept.3,
+          (λ j within. unless_named j (state_of (watching x s.world) s.connections) (none j))
+          (λ j idle. inr (unless_named j (state_of (watching x s.world) s.connections) (none j))) kept.3,
     )
 
 -- a connection's names are put back

@@ -1,10 +1,11 @@
 -- Who has something to do, by classes: class 0 is that of the system's actors, and each of the others that of the
 -- connections whose numbers leave the same rest.
-use Rattle.std.specs.Prelude.{ℕ, ◌+◌, ◌%◌, ◌==◌, nat_le, Bool, false, ◌||◌, ◌&&◌, Option, Some, None, is_some}
+use Rattle.std.specs.Prelude.{ℕ, ◌+◌, ◌-◌, ◌%◌, ◌==◌, nat_le, Bool, false, ◌||◌, ◌&&◌, Option, Some, None, is_some}
+use Rattle.std.specs.Prelude.{List, filter, if◌then◌else◌}
 use Rattle.std.specs.List.{list_any}
 use Rattle.std.specs.Map.{keys_of}
 use Rattle.ac_table.specs.Tables.{first_batch, lowest}
-use Rattle.ac_world.specs.Worlds.{actor_of, is_system}
+use Rattle.ac_world.specs.Worlds.{actor_of, entry_of, is_system}
 use Rattle.hub_machine.specs.Limits.{worn_handle}
 use Rattle.hub_machine.specs.State.{State}
 
@@ -14,6 +15,14 @@ class_of k = 1 + k % 63
 -- a batch waits for connection k
 abbrev pub is_waited_for : ℕ → State → Bool
 is_waited_for k s = is_some (first_batch (actor_of k) s.world.table)
+
+-- the connections with names for which a batch waits, ascending
+abbrev pub waited_for : State → List ℕ
+waited_for s = filter (λ k. is_waited_for k s) (keys_of s.connections)
+
+-- the connection whose actor this is, if it is one that has names
+abbrev pub named_by : ℕ → State → Option ℕ
+named_by a s = if nat_le 16 a && is_some (entry_of (a - 16) s.connections) then Some (a - 16) else None
 
 -- a batch waits for a connection of class p that has names, as each live one has
 abbrev pub is_in_connections : ℕ → State → Bool

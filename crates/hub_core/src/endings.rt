@@ -4,9 +4,11 @@ ghost use Rattle.std.specs.Map.{keys_of};
 ghost use Rattle.hub_machine.specs.Endings.{departed, departed_for, closed, failed, failed_where};
 ghost use Rattle.hub_machine.specs.Endings.{dismissed, spread_out, all_spread_out, overrun_by};
 ghost use Rattle.hub_machine.specs.Endings.{overrun_of, all_overrun, each_overrun, finished};
-ghost use Rattle.hub_core.specs.Looking.{AreWithin, AreWithinBut, AreLeft};
+ghost use Rattle.hub_core.specs.Looking.{AreWithin, AreWithinBut, IdleAreWithin, AreLeft};
+ghost use Rattle.hub_core.specs.Work.{waited_for};
 
 use crate::hub::Hub;
+use crate::packets::keeps_its_order;
 use crate::unlooked::Unlooked;
 use ac_world::{FIRST_CONNECTION, Load, Spread};
 use ds_space::Space;
@@ -170,6 +172,20 @@ impl<S: Space + Drop, J: Judge + Drop, B: Behaves + Drop> Hub<S, J, B> {
         Ok(numbers)
     }
 
+    /// The numbers of the connections with names for which a batch waits, ascending.
+    fn waited_for(&self, alloc: Global) -> Result<Vec<u32>, NoMemory>
+        ensures { IfOk result (λ ks. ks.items ≡ waited_for self.now) }
+    {
+        keeps_its_order(&self.connections);
+        let mut numbers = Vec::new(alloc);
+        for actor in self.world.busy().iter() {
+            if let Some(connection) = self.named_by(*actor) {
+                numbers.push(connection)?;
+            }
+        }
+        Ok(numbers)
+    }
+
     /// Who is left to be looked at.
     fn unlooked(&self) -> Unlooked
         ensures { AreLeft result self.now.world self.now.connections }
@@ -196,6 +212,16 @@ impl<S: Space + Drop, J: Judge + Drop, B: Behaves + Drop> Hub<S, J, B> {
         Ok(hub.looked())
     }
 
+    /// Each connection for which a batch waits is looked at, and those end who have to.
+    fn look_at_waiting(self, alloc: Global) -> Result<Hub<S, J, B>, NoMemory>
+        requires { IdleAreWithin self }
+        ensures { IfOk result (λ h. h ≡ each_overrun self) }
+    {
+        let waiting = self.waited_for(alloc)?;
+        let hub = self.all_overrun(alloc, &waiting)?;
+        Ok(hub.looked())
+    }
+
     /// Each live connection is looked at, and those end who have to.
     fn look_at_each(self, alloc: Global) -> Result<Hub<S, J, B>, NoMemory>
         ensures { IfOk result (λ h. h ≡ each_overrun self) }
@@ -212,6 +238,7 @@ impl<S: Space + Drop, J: Judge + Drop, B: Behaves + Drop> Hub<S, J, B> {
         match self.unlooked() {
             Unlooked::Nobody => Ok(self),
             Unlooked::One(connection) => self.look_at(alloc, connection),
+            Unlooked::Waiting => self.look_at_waiting(alloc),
             Unlooked::All => self.look_at_each(alloc),
         }
     }

@@ -10,6 +10,7 @@ ghost use Rattle.hub_machine.specs.Machine.{opened, actor_reference, is_to_space
 ghost use Rattle.hub_machine.specs.Machine.{bind_unless};
 ghost use Rattle.hub_machine.specs.Completeness.{IsComplete};
 ghost use Rattle.hub_machine.specs.Replays.{pending, lowest, first_failed, least};
+ghost use Rattle.hub_core.specs.Work.{named_by};
 
 use crate::unlooked::Unlooked;
 use ac_world::{Watched, World};
@@ -148,6 +149,17 @@ impl<S: Space + Drop, J: Judge + Drop, B: Behaves + Drop> Hub<S, J, B> {
         ensures small { result ≡ true → connection ≤ 2 ^ 31 }
     {
         self.ports(connection).is_some()
+    }
+
+    /// The connection whose actor this is, if it is one that has names.
+    pub(crate) fn named_by(&self, actor: u32) -> Option<u32>
+        ensures { result ≡ named_by actor self.now }
+    {
+        if actor >= 16 && self.connections.contains_key(&(actor - 16)) {
+            Some(actor - 16)
+        } else {
+            None
+        }
     }
 
     /// What guards judge by.

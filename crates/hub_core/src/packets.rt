@@ -29,7 +29,7 @@ use std::alloc::Global;
 use std::collections::BTreeMap;
 
 /// The connections' numbers ascend.
-fn keeps_its_order(connections: &BTreeMap<u32, Ports>)
+pub(crate) fn keeps_its_order(connections: &BTreeMap<u32, Ports>)
     ensures { IsOrdered nat_cmp connections.now }
 {
     let _ = connections.len();

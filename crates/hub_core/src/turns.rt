@@ -136,12 +136,13 @@ impl<S: Space + Drop, J: Judge + Drop, B: Behaves + Drop> Hub<S, J, B> {
             unlooked,
         } = self;
         let (world, turned) = world.turn(alloc, actor)?;
+        let unlooked = unlooked.and_turned(actor, &turned);
         let hub = Hub {
             world,
             connections,
             faults,
             stopped,
-            unlooked: unlooked.and_turned(actor),
+            unlooked,
         };
         hub.after_turn(alloc, actor, turned)
     }

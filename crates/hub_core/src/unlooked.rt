@@ -1,9 +1,10 @@
 //! Of whom it isn't known that no more is held and waits for them than may be.
 ghost use Rattle.std.specs.Prelude.{◌≡◌};
 ghost use Rattle.std.specs.List.{list_any};
-ghost use Rattle.hub_core.specs.Looking.{and_one, is_at_connection, and_acted, and_turned};
+ghost use Rattle.hub_core.specs.Looking.{and_one, and_waiting, is_at_connection, and_acted};
+ghost use Rattle.hub_core.specs.Looking.{and_turned};
 
-use ac_world::{Act, FIRST_CONNECTION};
+use ac_world::{Act, Turned};
 use hub_machine::DATASPACES;
 
 /// The connections that are left to be looked at at the step's end.
@@ -11,6 +12,8 @@ use hub_machine::DATASPACES;
 pub(crate) enum Unlooked {
     Nobody,
     One(u32),
+    /// Those for which a batch waits.
+    Waiting,
     All,
 }
 
@@ -56,14 +59,24 @@ impl Unlooked {
         }
     }
 
-    /// An actor took a turn.
-    pub(crate) fn and_turned(self, actor: u32) -> Unlooked
-        ensures { result ≡ and_turned actor self }
+    /// All for which a batch waits are left.
+    fn and_waiting(self) -> Unlooked
+        ensures { result ≡ and_waiting self }
     {
-        if actor < FIRST_CONNECTION {
-            Unlooked::All
-        } else {
-            self.and(actor - 16)
+        match self {
+            Unlooked::Nobody | Unlooked::Waiting => Unlooked::Waiting,
+            _ => Unlooked::All,
+        }
+    }
+
+    /// An actor took a turn, if one was taken: this became of it.
+    pub(crate) fn and_turned(self, actor: u32, turned: &Turned) -> Unlooked
+        ensures { result ≡ and_turned actor turned.now self }
+    {
+        match turned {
+            Turned::Ran(_) => self.and_waiting(),
+            Turned::Taken(_) => self.and(actor.saturating_sub(16)),
+            Turned::Idle | Turned::Gone => self,
         }
     }
 }

@@ -1,10 +1,11 @@
 //! Who has something to do, by classes: class 0 is that of the system's actors, and each of the
 //! others that of the connections whose numbers leave the same rest.
-ghost use Rattle.std.specs.Prelude.{◌≡◌, ℕ, ◌<◌, ◌≤◌, ◌^◌, ◌==◌, ◌||◌, ◌&&◌, true, false, get_or};
-ghost use Rattle.hub_core.specs.Work.{class_of, is_waited_for, is_work_left, is_in_connections};
+ghost use Rattle.std.specs.Prelude.{◌≡◌, ℕ, ◌<◌, ◌==◌, ◌||◌, ◌&&◌, true, false, get_or};
+ghost use Rattle.hub_core.specs.Work.{class_of, is_work_left, is_in_connections};
 ghost use Rattle.hub_core.specs.Work.{is_in_faults, has_work};
 
 use crate::hub::Hub;
+use crate::packets::keeps_its_order;
 use ac_world::FIRST_CONNECTION;
 use ds_space::Space;
 use hub_machine::WORN_HANDLE;
@@ -45,14 +46,6 @@ fn mark(classes: &mut [bool; CLASSES], connection: u32)
 }
 
 impl<S: Space + Drop, J: Judge + Drop, B: Behaves + Drop> Hub<S, J, B> {
-    /// Whether a batch waits for a connection.
-    fn is_waited_for(&self, connection: u32) -> bool
-        requires { connection ≤ 2 ^ 31 }
-        ensures { result ≡ is_waited_for connection self.now }
-    {
-        self.world.first(16 + connection).is_some()
-    }
-
     /// Whether something is left to do for the system's actors: a batch waits for one of them, or
     /// they are to stop.
     fn is_work_left(&self) -> bool
@@ -69,9 +62,10 @@ impl<S: Space + Drop, J: Judge + Drop, B: Behaves + Drop> Hub<S, J, B> {
         ensures { (p : ℕ) → p < 64 → get_or classes.new p false
             ≡ (is_in_connections p self.now || get_or classes.old p false) }
     {
-        for connection in self.connections.keys() {
-            if self.is_waited_for(*connection) {
-                mark(classes, *connection);
+        keeps_its_order(&self.connections);
+        for actor in self.world.busy().iter() {
+            if let Some(connection) = self.named_by(*actor) {
+                mark(classes, connection);
             }
         }
     }

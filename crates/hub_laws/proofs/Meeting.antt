@@ -14,12 +14,13 @@ use Rattle.pv_value.specs.Plain.{Plain}
 use Rattle.pv_value.specs.Order.{order}
 use Rattle.pv_value.specs.WellFormed.{Ascend}
 use Rattle.pv_value.specs.Lemmas.OrderLaws.{order_total, order_same}
+use Rattle.pv_words.specs.Lemmas.Same.{same_is, same_self}
 use Rattle.pv_words.specs.Parts.{same}
 use Rattle.ds_space.specs.Spaces.{Rows}
 use Rattle.ds_space.specs.declared.space.Change.{Change}
 use Rattle.ds_space.specs.declared.space.Change.TheVariants.{Left, Came}
 use Rattle.ds_space.specs.Changes.{among, without}
-use Rattle.ds_space.specs.Lemmas.Keys.{same_is, same_self, same_turns}
+use Rattle.ds_space.specs.Lemmas.Keys.{same_turns}
 use Rattle.ds_space.specs.Lemmas.Lists.{unique}
 use Rattle.ac_table.specs.declared.batches.Row.{Row}
 use Rattle.ac_table.specs.Tables.{TableState, find_row, is_live, without_row}

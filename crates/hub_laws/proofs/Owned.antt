@@ -4,8 +4,8 @@ use Rattle.std.proofs.Common.{refl, ap, sym, ◌∙◌, subst, arith}
 use Rattle.std.specs.Map.{keys_of, values_of}
 use Rattle.std.proofs.lemmas.Bool.Decides.{nat_tests}
 use Rattle.pv_value.specs.Plain.{Plain}
+use Rattle.pv_words.specs.Lemmas.Same.{same_is, same_self}
 use Rattle.pv_words.specs.Parts.{same}
-use Rattle.ds_space.specs.Lemmas.Keys.{same_is, same_self}
 use Rattle.ac_table.specs.declared.batches.Row.{Row}
 use Rattle.ac_table.specs.Tables.{find_row}
 use Rattle.ac_world.specs.Turns.{handle_for}

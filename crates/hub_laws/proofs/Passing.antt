@@ -7,9 +7,9 @@ use Rattle.std.proofs.lemmas.Map.Views.{any-filter_same}
 use Rattle.pv_value.specs.Plain.{Plain}
 use Rattle.pv_value.specs.Order.{order}
 use Rattle.pv_value.specs.WellFormed.{Ascend}
+use Rattle.pv_words.specs.Lemmas.Same.{same_is}
 use Rattle.pv_words.specs.Parts.{same}
 use Rattle.ds_space.specs.Changes.{among}
-use Rattle.ds_space.specs.Lemmas.Keys.{same_is}
 use Rattle.ac_world.specs.Behaviours.{Behaviour}
 use Rattle.hub_laws.specs.Wanting.{passing}
 

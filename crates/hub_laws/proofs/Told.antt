@@ -11,11 +11,12 @@ use Rattle.pv_value.specs.Plain.{Plain, sequence, plains}
 use Rattle.pv_value.specs.Order.{order}
 use Rattle.pv_value.specs.Lemmas.OrderLaws.{order_total}
 use Rattle.dp_pattern.specs.Patterns.{Pattern}
+use Rattle.pv_words.specs.Lemmas.Same.{same_is, same_self}
 use Rattle.pv_words.specs.Parts.{same}
 use Rattle.dp_pattern.specs.Matching.{matched}
 use Rattle.ds_space.specs.Changes.{among}
 use Rattle.ds_space.specs.Wants.{observer_of, captured, key_of, is_key, gives, wants}
-use Rattle.ds_space.specs.Lemmas.Keys.{same_is, same_self, or_false, any_same, any_flat, any_none}
+use Rattle.ds_space.specs.Lemmas.Keys.{or_false, any_same, any_flat, any_none}
 use Rattle.ds_space.specs.Lemmas.Lists.{wants_ascend, among_wants, in_order}
 use Rattle.gk_sturdy.specs.declared.bound.Binding.{Binding}
 use Rattle.ps_schema.specs.declared.Definition.{Definition}

@@ -15,6 +15,7 @@ use Rattle.pv_value.specs.Lemmas.OrderLaws.{order_total}
 use Rattle.pv_value.specs.Sets.{ascending_by}
 use Rattle.pv_value.specs.Order.{order}
 use Rattle.dp_pattern.specs.Patterns.{Pattern}
+use Rattle.pv_words.specs.Lemmas.Same.{same_is}
 use Rattle.pv_words.specs.Words.{is_word}
 use Rattle.ds_space.specs.declared.references.Reference.{Reference}
 use Rattle.ds_space.specs.References.{reference_of, is_observers}
@@ -24,7 +25,6 @@ use Rattle.sr_pass.specs.Passing.{passed}
 use Rattle.sr_caveat.specs.Lemmas.Capped.{cap_is, cap_sound}
 use Rattle.ds_space.specs.Wants.{is_observer, observer_of, key_of, wants}
 use Rattle.ds_space.specs.Changes.{among, without}
-use Rattle.ds_space.specs.Lemmas.Keys.{same_is}
 use Rattle.ds_space.specs.Lemmas.Lists.{of_the_rule, in_order, wants_ascend}
 use Rattle.gk_sturdy.specs.declared.bound.Binding.{Binding}
 use Rattle.gk_sturdy.specs.Answers.{reply_to}

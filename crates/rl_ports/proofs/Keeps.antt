@@ -5,29 +5,18 @@ use Rattle.std.proofs.Common.{length-append}
 use Rattle.std.proofs.lemmas.Bool.Decides.{nat_tests}
 use Rattle.std.proofs.lemmas.List.{map-append, length-map}
 use Rattle.std.specs.BTreeMap.{is_at}
-use Rattle.std.specs.Ordering.{is_eq}
-use Rattle.std.specs.declared.cmp.Ordering.{Ordering}
-use Rattle.std.specs.declared.cmp.Ordering.TheVariants.{Less, Equal, Greater}
 use Rattle.std.specs.List.{AllByRecursion}
 use Rattle.std.specs.Option.{option_or}
 use Rattle.pv_value.specs.Plain.{Plain}
 use Rattle.pv_value.specs.Order.{order}
 use Rattle.pv_value.specs.Weight.{weight}
-use Rattle.pv_value.specs.Lemmas.OrderLaws.{order_same}
 use Rattle.pv_words.specs.Parts.{same}
+use Rattle.pv_words.specs.Lemmas.Same.{same_is}
 use Rattle.rl_ports.specs.Limits.{most_exports, most_exports_weight}
 use Rattle.rl_ports.specs.Ports.{place_of, weight_of, told, export_fault, IsWhy, PortsFault, Exports, Weight, NoMemory}
 use Rattle.rl_ports.specs.Kept.{Export, number_at, references, AreOnce, IsWeighed, IsKept, fault_of}
 use Rattle.rl_ports.proofs.Places.{where_it, place-append, same_turns, once_push, once_pop}
 use Rattle.rl_ports.proofs.Weights.{weight_of-append, told_sum, told_newest, all_push, all_pop}
-
-equal_is : (o : Ordering) → is_eq o ≡ true → o ≡ Equal
-equal_is Less e = absurd cc
-equal_is Equal e = refl
-equal_is Greater e = absurd cc
-
-same_is : (r x : Plain) → same r x ≡ true → r ≡ x
-same_is r x e = order_same r x (equal_is (order r x) e)
 
 -- the map that has this number at the reference, and at each other one what it had
 abbrev pub Puts : List (Plain × ℕ) → List (Plain × ℕ) → Plain → Option ℕ → Type 0

@@ -5,8 +5,8 @@ use Rattle.std.specs.Prelude.{is_some, option_map, if◌then◌else◌}
 use Rattle.std.specs.Option.{option_or}
 use Rattle.std.specs.List.{AllByRecursion}
 use Rattle.pv_value.specs.Plain.{Plain}
+use Rattle.pv_words.specs.Lemmas.Same.{same_self}
 use Rattle.pv_words.specs.Parts.{same}
-use Rattle.ds_space.specs.Lemmas.Keys.{same_self}
 use Rattle.rl_ports.specs.Ports.{place_of, exported, fault_at}
 use Rattle.rl_wire.specs.Crossing.{all_exported, fault_out}
 

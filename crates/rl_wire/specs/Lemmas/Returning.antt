@@ -8,11 +8,11 @@ use Rattle.std.proofs.lemmas.List.{append-nil}
 use Rattle.std.proofs.lemmas.Option.{slice_get_within}
 use Rattle.pv_value.specs.Plain.{Plain, integer, sequence, embedded, Plains, no_more, then_more, plains, listed}
 use Rattle.pv_value.specs.Lemmas.Listed.{plains-listed}
+use Rattle.pv_words.specs.Lemmas.Same.{same_is}
 use Rattle.pv_words.specs.Words.{number, number_in}
 use Rattle.pv_words.specs.Parts.{same}
 use Rattle.ds_space.specs.declared.references.Reference.{Reference}
 use Rattle.ds_space.specs.References.{reference_of}
-use Rattle.ds_space.specs.Lemmas.Keys.{same_is}
 use Rattle.rl_ports.specs.Ports.{place_of, number_of}
 use Rattle.rl_wire.specs.Crossing.{is_own, foreign_of, foreign_in, actor_at, wire_value, reference_out, caveats_in}
 use Rattle.rl_wire.specs.Crossing.{with_caveats, wire_of, wire_where, reference_in, exports_with}

@@ -1,0 +1,10 @@
+pub mod Ending
+pub mod Events
+pub mod Got
+pub mod InOrder
+pub mod Inboxes
+pub mod Itself
+pub mod Outboxed
+pub mod Rows
+pub mod Said
+pub mod Taken

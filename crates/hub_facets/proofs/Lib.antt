@@ -1,0 +1,10 @@
+pub mod Changes
+pub mod Dwelling
+pub mod Found
+pub mod LawsHold
+pub mod Listed
+pub mod Steps
+pub mod Trees
+pub mod Turning
+pub mod Turns
+pub mod Worlds

@@ -1,0 +1,4 @@
+pub mod Drawn
+pub mod Laws
+pub mod Once
+pub mod Taking

@@ -1,0 +1,11 @@
+pub mod Barred
+pub mod Blamed
+pub mod Causes
+pub mod Counted
+pub mod Entered
+pub mod Few
+pub mod Runs
+pub mod Watched
+pub mod Weighed
+pub mod Weights
+pub mod Within
