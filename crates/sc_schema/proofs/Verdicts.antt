@@ -1,4 +1,4 @@
--- Of what a first value gives there is one verdict, and some where each text has one.
+-- Of what a first value gives there is one verdict, and some where its text has one.
 use Rattle.std.proofs.Common.{[], Some, None, refl, sym, ap, ◌∙◌}
 use Rattle.ps_read.specs.Laws.{OneSchema, NoFaultBeside}
 use Rattle.sc_schema.specs.Firsts.{OneVerdict, SomeVerdict}
@@ -12,4 +12,4 @@ one_verdict one none (Some text) None None is so = refl
 
 pub some_verdict : SomeVerdict
 some_verdict None has = (Some [], refl)
-some_verdict (Some text) has = has text
+some_verdict (Some text) has = has

@@ -5,14 +5,14 @@ use Rattle.pv_binary.specs.OneOfThree.{AreBytes}
 use Rattle.rl_stream.specs.Nexts.{Decider}
 use Rattle.sc_events.specs.Limits.{most_input}
 use Rattle.sc_events.specs.declared.inputs.Form.{Form}
-use Rattle.sc_schema.specs.Firsts.{HasVerdict, OneVerdict, SomeVerdict}
+use Rattle.sc_schema.specs.Firsts.{HasFirstVerdict, OneVerdict, SomeVerdict}
 use Rattle.sc_schema.specs.Lemmas.Courses as values
 use Rattle.sc_schema.specs.Lemmas.Courses.{IsSomeReading, IsOneReading}
 use Rattle.sc_script.specs.Runs.{Course, limit, stops, doing}
 use Rattle.sc_script.specs.Scripts.{IsCourseOf}
 
 pub some_course : IsSomeReading → SomeVerdict → (N : Decider) (form : Form) (bytes : List ℕ) → AreBytes bytes
-    → ((text : List ℕ) → HasVerdict text) → (c : Course) × IsCourseOf N form bytes c
+    → HasFirstVerdict form bytes → (c : Course) × IsCourseOf N form bytes c
 some_course some verdict N form bytes are has = elim (leb_tells (length bytes) most_input) [
   | inl l ↦ let c = values.some_course (doing N) form bytes some verdict are has in (c.0, inr (l.1, c.1))
   | inr l ↦ (stops (limit 1), inl (l.1, refl))

@@ -6,7 +6,7 @@ use Rattle.pv_binary.specs.OneOfThree.{AreBytes}
 use Rattle.sc_events.specs.declared.inputs.Form.{Form}
 use Rattle.sc_events.specs.Events.{event_of}
 use Rattle.sc_events.specs.Readings.{AreReadAs}
-use Rattle.sc_schema.specs.Firsts.{first_text, IsVerdict, HasVerdict, OneVerdict, SomeVerdict}
+use Rattle.sc_schema.specs.Firsts.{first_text, IsVerdict, HasFirstVerdict, OneVerdict, SomeVerdict}
 use Rattle.sc_schema.specs.Courses.{CourseOf, goes, stops, goes_on, Doing, after_value, after_values, course_of}
 use Rattle.sc_schema.specs.Courses.{IsCourseOfValues}
 
@@ -60,11 +60,11 @@ IsOneReading =
     → AreReadAs form bytes ws b → (vs ≡ ws) × (a ≡ b)
 
 module _ {S C : Type 0} (d : Doing S C) (form : Form) (bytes : List ℕ) where
-  pub some_course : IsSomeReading → SomeVerdict → AreBytes bytes → ((text : List ℕ) → HasVerdict text)
+  pub some_course : IsSomeReading → SomeVerdict → AreBytes bytes → HasFirstVerdict form bytes
       → (c : CourseOf S C) × IsCourseOfValues d form bytes c
   some_course some verdict are has =
       let r = some form bytes are in
-      let v = verdict (first_text r.0) has in
+      let v = verdict (first_text r.0) (has r.0 r.1 r.2) in
       (course_of d v.0 r.0 r.1, (r.0, r.1, r.2, v.0, v.1, refl))
 
   pub same_course : IsOneReading → OneVerdict → (c e : CourseOf S C) → IsCourseOfValues d form bytes c

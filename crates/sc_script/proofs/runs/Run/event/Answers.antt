@@ -3,7 +3,12 @@ use Rattle.std.proofs.Common.{sym, ap, ◌∙◌}
 use Rattle.sc_events.specs.declared.events.ScriptEvent.TheVariants.{Bytes}
 use Rattle.sc_script.proofs.PartsPassed.{runs_so, stops_so}
 use Rattle.sc_script.proofs.EventCourses.{bind_part, watch_part, open_part, bytes_part, close_part, turn_part, drain_part}
+use Rattle.sc_script.proofs.EventCourses.{bad_bytes, bad_close, bad_turn, bad_schema}
 use Rattle.sc_script.proofs.runs.Run.event.Goals as goal
+use Rattle.sc_script.proofs.runs.Run.event.Goals.{in_default-via-in-Bytes+else-was_opened}
+use Rattle.sc_script.proofs.runs.Run.event.Goals.{in_default-via-in-Close+else-was_opened-2}
+use Rattle.sc_script.proofs.runs.Run.event.Goals.{in_default-via-in-Turn+else-may_turn}
+use Rattle.sc_script.proofs.runs.Run.event.Goals.{in_default-via-in-Schema+else-place-eq0}
 
 pub bind-requires : goal.bind-requires
 bind-requires g c = c.requires c.in-Bind.binding c.in-Bind.is
@@ -81,3 +86,17 @@ pub returns-in-Drain-clause-stop : goal.returns-in-Drain-clause-stop
 returns-in-Drain-clause-stop g c =
     stops_so _ _ _ (drain_part c.args.self c.args.place c.args.event c.in-Drain.turns c.in-Drain.is)
     c.drain.result c.drain.ensures.stop
+
+pub returns-in_default-clause-stop : goal.returns-in_default-clause-stop
+returns-in_default-clause-stop g c =
+    elim c.in_default.branch [
+      | in_default-via-in-Bytes+else-was_opened w ↦
+          bad_bytes c.args.self c.args.place c.args.event w.in-Bytes.connection w.in-Bytes.bytes w.in-Bytes.is
+          w.if-was_opened.ensures
+      | in_default-via-in-Close+else-was_opened-2 w ↦
+          bad_close c.args.self c.args.place c.args.event w.in-Close.connection w.in-Close.is w.if-was_opened-2.ensures
+      | in_default-via-in-Turn+else-may_turn w ↦
+          bad_turn c.args.self c.args.place c.args.event w.in-Turn.actor w.in-Turn.is w.if-may_turn.ensures
+      | in_default-via-in-Schema+else-place-eq0 w ↦
+          bad_schema c.args.self c.args.place c.args.event _ w.in-Schema.is w.if-place-eq0.false
+    ]
