@@ -17,5 +17,5 @@ pub mod waits;
 
 pub use host::RealHost;
 pub use links::{TcpSink, TcpSource};
-pub use spawner::{ScopeSpawner, start_in};
+pub use spawner::{STACK_BYTES, ScopeSpawner, start_in};
 pub use streams::{ReadSource, WriteSink};

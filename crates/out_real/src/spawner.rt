@@ -3,7 +3,16 @@ ghost use Rattle.std.specs.Prelude.{◌≡◌, None};
 
 use out_ports::ports::{Run, Spawner};
 use std::sync::Wait;
-use std::thread::Scope;
+use std::thread::{Builder, Scope};
+
+/// The stack of each thread, 256 MiB: as many addresses, and as much memory as it has touched.
+///
+/// It is to hold what a walk over the deepest value takes. What is read nests at most 64 deep, but
+/// what watchers make of what they made goes on until it weighs more than 33,554,432, and a level
+/// of it weighs 105 at least: so no value has 320,000 levels, with what stands around it in a key.
+/// That is 838 bytes for each, which is what each of ten thousand levels has in the 8 MiB of a
+/// first thread, in which tests let so deep a value cross.
+pub const STACK_BYTES: usize = 268_435_456;
 
 /// Starts each job by a closure, which is to call [`start_in`] for a scope that it holds. The scope
 /// ends once all jobs have ended.
@@ -52,11 +61,15 @@ impl<J, F: Fn(J) -> bool> Spawner<J> for ScopeSpawner<F> {
     }
 }
 
-/// Starts a thread of the scope for the job, or drops it and answers false where none can be made.
+/// Starts a thread of the scope for the job, with a stack of [`STACK_BYTES`], or drops it and
+/// answers false where none can be made.
 pub fn start_in<'s, E, Rt: Wait + Sync, J: Run + Send + Drop + 's>(
     rt: &'s Rt,
     scope: &Scope<'s, E>,
     job: J,
 ) -> bool {
-    scope.spawn(move || job.run(rt)).is_ok()
+    Builder::new()
+        .stack_size(STACK_BYTES)
+        .spawn_scoped(scope, move || job.run(rt))
+        .is_ok()
 }

@@ -31,6 +31,12 @@ pub struct GateDesk<'g, T: Replayed> {
     ghost first: { (view pass).name ≡ 0 },
 }
 
+/// That the hub was told that no connection is to come any more: [`GateDesk::stop`] alone makes one.
+#[derive(Drop)]
+pub struct Stopped {
+    _told: (),
+}
+
 /// The number of the connection that came, by the reply to its arrival, where one did.
 fn number_in(reply: Reply) -> Option<u32>
     ensures { result ≡ number_in reply }
@@ -141,7 +147,7 @@ impl<'g, S: Space + Drop, J: Judge + Drop, B: Behaves + Drop> GateDesk<'g, Serve
     }
 
     /// No connection is to come any more, and workers end once nothing is left to do.
-    pub fn stop<R: Wait>(&mut self, rt: &R) -> Result<(), NoMemory>
+    pub fn stop<R: Wait>(&mut self, rt: &R) -> Result<Stopped, NoMemory>
         ensures done { OnOk result (IsDone steps.Stop
             (pairs_by (view self.old.pass))
             (pairs_by (view self.new.pass)) (is_spent (view self.new.pass))) }
@@ -154,7 +160,7 @@ impl<'g, S: Space + Drop, J: Judge + Drop, B: Behaves + Drop> GateDesk<'g, Serve
     {
         let answer = self.commit(rt, Step::Stop)?;
         drop(answer);
-        Ok(())
+        Ok(Stopped { _told: () })
     }
 }
 

@@ -8,5 +8,5 @@
 mod gate_desk;
 mod jobs;
 
-pub use gate_desk::GateDesk;
+pub use gate_desk::{GateDesk, Stopped};
 pub use jobs::{Half, Session, Worker, serve_reads, serve_writes};

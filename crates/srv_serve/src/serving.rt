@@ -9,7 +9,7 @@ use lc_watch::Behaves;
 use out_ports::ports::{Listen, Run, Spawner};
 use out_real::{ScopeSpawner, start_in};
 use sr_pass::Judge;
-use srv_desk::{GateDesk, Worker};
+use srv_desk::{GateDesk, Stopped, Worker};
 use srv_loop::{Desk, NoMemory, Tally, accept_all};
 use srv_session::Served;
 use std::alloc::Global;
@@ -83,6 +83,10 @@ impl<'a, Li: Listen, J: Drop, D: Desk<Li::R, Li::W, Job = J>> Work<D, J> for Acc
 
 /// A desk that has workers.
 trait Team<V> {
+    /// That the workers were told to end: whoever has one has told them, since nothing else makes
+    /// one.
+    type Told: Drop;
+
     /// Between the first and the second the workers were told to end.
     ghost told: { Self → Self → Type 0 };
 
@@ -90,7 +94,7 @@ trait Team<V> {
     fn worker(&mut self) -> V;
 
     /// Tells all workers to end once nothing is left to do.
-    fn end_workers<Rt: Wait>(&mut self, rt: &Rt) -> Result<(), NoMemory>
+    fn end_workers<Rt: Wait>(&mut self, rt: &Rt) -> Result<Self::Told, NoMemory>
         ensures { OnOk result (told self.old self.new) };
 }
 
@@ -100,6 +104,8 @@ impl<'g, S: Space + Drop, J: Judge + Drop, B: Behaves + Drop> Team<Worker<'g, Se
     ghost use Rattle.hub_machine.specs.declared.steps.Step.TheVariants as steps;
     ghost use Rattle.srv_desk.specs.Desks.{pairs_by, is_spent, IsDone};
 
+    type Told = Stopped;
+
     ghost told = { λ before now. IsDone steps.Stop (pairs_by (view before.pass))
         (pairs_by (view now.pass)) (is_spent (view now.pass)) };
 
@@ -107,7 +113,7 @@ impl<'g, S: Space + Drop, J: Judge + Drop, B: Behaves + Drop> Team<Worker<'g, Se
         Worker::new(self.alloc(), self.seat(0))
     }
 
-    fn end_workers<Rt: Wait>(&mut self, rt: &Rt) -> Result<(), NoMemory> {
+    fn end_workers<Rt: Wait>(&mut self, rt: &Rt) -> Result<Stopped, NoMemory> {
         self.stop(rt)
     }
 }
@@ -175,7 +181,7 @@ fn work_and_end<Rt, D, V, J, K, A>(
     desk: &mut D,
     work: K,
     has_workers: bool,
-) -> (A, Result<(), NoMemory>)
+) -> (A, Result<D::Told, NoMemory>)
 where
     Rt: Threads + Wait + Sync,
     D: Team<V>,
@@ -195,7 +201,7 @@ fn beside_workers<Rt, D, V, J, K, A>(
     desk: &mut D,
     work: K,
     workers: u32,
-) -> (A, Result<(), NoMemory>)
+) -> (A, Result<D::Told, NoMemory>)
 where
     Rt: Threads + Wait + Sync,
     V: Run + Send + Drop,
@@ -207,7 +213,7 @@ where
     thread::scope(
         thread::scope_env(),
         rt,
-        move |scope| -> (A, Result<(), NoMemory>)
+        move |scope| -> (A, Result<D::Told, NoMemory>)
             ensures { K.gives work result.0 }
         {
             let has_workers = start_workers(rt, scope, desk, workers);
@@ -267,8 +273,8 @@ where
         listener,
         connections,
     };
-    let ((tally, listener), stopped) = beside_workers(rt, &mut desk, work, workers);
+    let ((tally, listener), told) = beside_workers(rt, &mut desk, work, workers);
     take_back(listener);
-    stopped?;
+    let _told = told?;
     tally
 }
