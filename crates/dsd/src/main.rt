@@ -7,13 +7,16 @@ ghost use Rattle.std.specs.declared.io.ErrorKind.TheVariants.{OutOfMemory};
 use dsd_serve::dsd_main;
 use out_ports::ports::Sink;
 use out_ports::streams::write_all;
-use out_real::{ReadSource, RealHost, WriteSink};
+use out_real::{ReadSource, RealHost, STACK_BYTES, WriteSink};
 use std::env;
 use std::io::{self, ErrorKind};
 use std::process::ExitCode;
 use std::rt::Env;
+use std::thread::{self, Builder};
 
-/// Does what the words after the program's name say, and ends with the status.
+/// Does what the words after the program's name say, in a thread of its own, and ends with the
+/// status: the stack of a program's first thread isn't the program's to choose. Where there can be
+/// no such thread, nothing is done, and memory is wanting.
 fn main(rt: HostRuntime) -> ExitCode {
     let mut diag = WriteSink::new(rt.stderr());
     let words = match words_of(&rt) {
@@ -23,15 +26,29 @@ fn main(rt: HostRuntime) -> ExitCode {
     let mut input = ReadSource::new(rt.stdin());
     let mut out = WriteSink::new(rt.stdout());
     let mut host = RealHost::new(&rt);
-    let status = dsd_main(
-        &rt,
-        rt.alloc(),
-        &words,
-        &mut input,
-        &mut out,
-        &mut diag,
-        &mut host,
-    );
+    let status = thread::scope(thread::scope_env(), &rt, |scope| {
+        let started = Builder::new()
+            .stack_size(STACK_BYTES)
+            .spawn_scoped(scope, || {
+                dsd_main(
+                    &rt,
+                    rt.alloc(),
+                    &words,
+                    &mut input,
+                    &mut out,
+                    &mut diag,
+                    &mut host,
+                )
+            });
+        match started {
+            Ok(thread) => Some(thread.join(&rt)),
+            Err(_) => None,
+        }
+    });
+    let status = match status {
+        Some(status) => status,
+        None => refuse(&mut diag, ErrorKind::OutOfMemory),
+    };
     ExitCode::from(status)
 }
 
@@ -44,7 +61,8 @@ fn words_of<R: Env + AllocGlobal>(rt: &R) -> io::Result<Vec<String>> {
     Ok(words)
 }
 
-/// Says why the words can't be read, and answers the status: 5 for want of memory, and else 2.
+/// Says why nothing is done, and answers the status: 5 for want of memory, and 2 for words that
+/// can't be read.
 fn refuse<E: Sink>(diag: &mut E, kind: ErrorKind) -> u8
     ensures known { Contains (2 ∷ 5 ∷ []) result }
     ensures memory { (result ≡ 5) ↔ (kind ≡ OutOfMemory) }

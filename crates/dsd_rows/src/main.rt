@@ -32,17 +32,18 @@
 //! call is given, an arrow `=>`, and what it answers. `data/README` has all of it.
 #![tactic(auto)]
 
-ghost use Rattle.std.specs.Prelude.{◌≡◌, ◌≢◌, ◌≤◌, ◌⊎◌, [], length, None, IfOk, IfErr, OnOk};
+ghost use Rattle.std.specs.Prelude.{◌≡◌, ◌≢◌, ◌≤◌, [], length, None, IfOk, IfErr};
 ghost use Rattle.row_cases.specs.Findings.{capped_sum};
 ghost use Rattle.row_cases.specs.Tables.{table_named as codec_table_named};
 ghost use Rattle.row_cases.specs.declared.faults.Fault.TheVariants as fault;
 ghost use Rattle.row_schemas.specs.Tables.{table_named};
+ghost use Rattle.dsd_rows.specs.Counts.{IsRunOf, RanEach};
 ghost use Rattle.dsd_rows.specs.Files.{FileHolds, TableHolds};
 
 mod ran;
 
-use crate::ran::Ran;
-use row_cases::{Fault, Findings, one_difference};
+use crate::ran::{AllRan, Ran};
+use row_cases::{Fault, Findings, Tally, one_difference};
 use row_schemas::find_table;
 use std::alloc::{AllocError, Global};
 use std::process::ExitCode;
@@ -51,7 +52,7 @@ use std::{fs, io};
 
 /// The folders of data, each with files of one kind.
 #[derive(Clone, Copy)]
-enum Folder {
+pub enum Folder {
     Rows,
     Steps,
     Tables,
@@ -69,77 +70,64 @@ impl Folder {
 
 fn main(rt: HostRuntime) -> ExitCode {
     match run(&rt) {
-        Ok(ran) if ran.cases.is_clean() => ExitCode::SUCCESS,
+        Ok(ran) if ran.cases().is_clean() => ExitCode::SUCCESS,
         _ => ExitCode::FAILURE,
     }
 }
 
-/// Runs all files, and prints what came of each. Where nothing differs, a file of each folder at
-/// least was run.
-fn run<R: Runtime + AllocGlobal>(rt: &R) -> io::Result<Ran>
-    ensures { IfOk result (λ ran. ran.cases.failed ≡ 0 → 3 ≤ ran.files) }
+/// Runs all files, and prints what came of each. Of each folder a file at least was run, where no
+/// case of it failed.
+fn run<R: Runtime + AllocGlobal>(rt: &R) -> io::Result<AllRan>
+    ensures { IfOk result RanEach }
 {
-    let mut ran = Ran::nothing();
-    run_folder(rt, Folder::Rows, &mut ran)?;
-    run_folder(rt, Folder::Steps, &mut ran)?;
-    run_folder(rt, Folder::Tables, &mut ran)?;
-    let files = ran.files;
-    let (passed, failed) = (ran.cases.passed, ran.cases.failed);
+    let ran = AllRan {
+        rows: run_folder(rt, Folder::Rows)?,
+        steps: run_folder(rt, Folder::Steps)?,
+        tables: run_folder(rt, Folder::Tables)?,
+    };
+    let files = ran.files();
+    let Tally { passed, failed } = ran.cases();
     println!(rt; "rows: {files} files, {passed} passed, {failed} failed")?;
     Ok(ran)
 }
 
 /// Runs the files of a folder, in the order of their names. One that can't be listed, or in which
 /// nothing lies, is one difference.
-fn run_folder<R: Runtime + AllocGlobal>(rt: &R, folder: Folder, ran: &mut Ran) -> io::Result<()>
-    ensures some { OnOk result ((capped_sum ran.old.files 1 ≤ ran.new.files)
-        ⊎ (1 ≤ ran.new.cases.failed)) }
-    ensures more { ran.old.files ≤ ran.new.files }
-    ensures lasting { ran.old.cases.failed ≤ ran.new.cases.failed }
+fn run_folder<R: Runtime + AllocGlobal>(rt: &R, folder: Folder) -> io::Result<Ran>
+    ensures { IfOk result (IsRunOf folder) }
 {
-    let name = folder.name();
-    match names_in(rt, name) {
-        Ok(names) if !names.is_empty() => run_files(rt, folder, &names, ran),
-        Ok(_) => fail_folder(rt, name, "nothing lies in it", ran),
-        Err(_) => fail_folder(rt, name, "it can't be listed", ran),
+    match names_in(rt, folder.name()) {
+        Ok(names) if !names.is_empty() => run_files(rt, folder, &names),
+        Ok(_) => fail_folder(rt, folder, "nothing lies in it"),
+        Err(_) => fail_folder(rt, folder, "it can't be listed"),
     }
 }
 
 /// A difference for a folder, of which no file is run.
-fn fail_folder<R: Runtime + AllocGlobal>(
-    rt: &R,
-    folder: &str,
-    why: &str,
-    ran: &mut Ran,
-) -> io::Result<()>
-    ensures failed { OnOk result (1 ≤ ran.new.cases.failed) }
-    ensures same { ran.new.files ≡ ran.old.files }
-    ensures lasting { ran.old.cases.failed ≤ ran.new.cases.failed }
+fn fail_folder<R: Runtime + AllocGlobal>(rt: &R, folder: Folder, why: &str) -> io::Result<Ran>
+    ensures folder { IfOk result (λ ran. ran.folder ≡ folder) }
+    ensures failed { IfOk result (λ ran. 1 ≤ ran.cases.failed) }
 {
-    println!(rt; "{folder}: {why}")?;
+    let name = folder.name();
+    println!(rt; "{name}: {why}")?;
+    let mut ran = Ran::nothing(folder);
     ran.add_fault(&one_difference(rt.alloc(), why)?);
-    Ok(())
+    Ok(ran)
 }
 
-/// Runs the files of these names.
-fn run_files<R: Runtime + AllocGlobal>(
-    rt: &R,
-    folder: Folder,
-    names: &[String],
-    ran: &mut Ran,
-) -> io::Result<()>
-    ensures files { OnOk result
-        (ran.new.files ≡ capped_sum ran.old.files (length names.now)) }
-    ensures more { ran.old.files ≤ ran.new.files }
-    ensures lasting { ran.old.cases.failed ≤ ran.new.cases.failed }
+/// Runs the files of these names, each of which is counted.
+fn run_files<R: Runtime + AllocGlobal>(rt: &R, folder: Folder, names: &[String]) -> io::Result<Ran>
+    ensures folder { IfOk result (λ ran. ran.folder ≡ folder) }
+    ensures files { IfOk result (λ ran. ran.files ≡ capped_sum 0 (length names.now)) }
 {
+    let mut ran = Ran::nothing(folder);
     for name in names {
         let name = name.as_str();
         let findings = findings_of(rt, folder, name)?;
         print_findings(rt, folder.name(), name, &findings)?;
         ran.add(&findings);
     }
-    Ok(())
+    Ok(ran)
 }
 
 /// Prints what differs in a file, and how many of it passed and failed.

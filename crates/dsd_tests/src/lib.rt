@@ -1,10 +1,12 @@
 //! Tests of the top call that no file of rows can bring about: with threads at hand, over a sink of
-//! another kind, and sessions of `serve` beside one another, which no clause says. Calls of the
-//! crates below it are made by rows.
+//! another kind, sessions of `serve` beside one another, and how deep a value the stack of a thread
+//! holds, which no clause says. Calls of the crates below it are made by rows.
 #![tactic(auto)]
 
 #[cfg(test)]
 mod beside;
+#[cfg(test)]
+mod deep;
 #[cfg(test)]
 mod fronts;
 #[cfg(test)]

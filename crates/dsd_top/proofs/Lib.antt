@@ -3,6 +3,7 @@ pub mod Causes
 pub mod Fronts
 pub mod InForm
 pub mod Kept
+pub mod LoadEvents
 pub mod Minted
 pub mod Readiness
 pub mod Readings
