@@ -20,12 +20,12 @@ def sent(connection, events):
     return record("bytes", integer(connection), byte_string(sequence(*events)))
 
 
-def assertion(value, handle):
-    return sequence(integer(0), record("A", value, integer(handle)))
+def assertion(value, handle, oid=0):
+    return sequence(integer(oid), record("A", value, integer(handle)))
 
 
-def retraction(handle):
-    return sequence(integer(0), record("R", integer(handle)))
+def retraction(handle, oid=0):
+    return sequence(integer(oid), record("R", integer(handle)))
 
 
 def message(oid, value):
@@ -39,6 +39,12 @@ def own(entity):
 
 def exported(oid, *caveats):
     return embedded(sequence(integer(1), integer(oid), *caveats))
+
+
+def many_caveats():
+    """As many caveats as a reference may have, nearly as heavy as they may be. They let pass all that is sent here."""
+    literals = sequence(*(record("lit", integer(n)) for n in range(11)))
+    return [record("reject", record("and", literals))] * 32
 
 
 def observation_by(label, observer):
