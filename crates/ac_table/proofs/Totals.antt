@@ -1,7 +1,7 @@
 -- What all batches of an inbox come to, and what those of each sender do.
 use Rattle.std.proofs.Common.{◌≡◌, ℕ, ◌+◌, ◌^◌, ◌<◌, Bool, true, false, ◌==◌, List, [], ◌∷◌, ◌++◌, length}
 use Rattle.std.proofs.Common.{refl, ap, sym, ◌∙◌, arith, if◌then◌else◌}
-use Rattle.ac_table.specs.Inboxes.{IsLoaded, AddsAt}
+use Rattle.ac_table.specs.Inboxes.{IsLoaded, AddsAt, KeepsSome}
 use Rattle.ac_table.specs.Lemmas.Sums.{sum_of-top, sum_of-push, sum_of-fits, whole_of}
 use Rattle.ac_table.specs.Sums.{Load, nothing, both, top, top_load, load_in, load_from, load_waiting, sum_of, sums_of}
 use Rattle.ac_table.specs.Sums.{load_of_batch, load_if_from}
@@ -65,11 +65,12 @@ sums-push f bs b =
 
 pub loaded_push : (bs : List Batch) (b : Batch) (l total new : Load) (senders more : List (ℕ × Load))
     → IsLoaded bs total senders → l ≡ top_load (load_in b.events) → new ≡ both total l → AddsAt b.from l senders more
-    → IsLoaded (bs ++ b ∷ []) new more
-loaded_push bs b l total new senders more k l_is new_is adds = record {
+    → KeepsSome more → IsLoaded (bs ++ b ∷ []) new more
+loaded_push bs b l total new senders more k l_is new_is adds kept = record {
   all = new_is ∙ ap (λ (x : Load). both x l) k.all ∙ ap (both (sums_of load_of_batch bs)) l_is
       ∙ sym (sums-push load_of_batch bs b);
   each = λ a. adds a ∙ ap (λ (x : Load). both x (if b.from == a then l else nothing)) (k.each a)
       ∙ ap (λ (l : Load). both (sums_of (load_if_from a) bs) (if b.from == a then l else nothing)) l_is
       ∙ if_told (sums_of (load_if_from a) bs) b a ∙ sym (sums-push (load_if_from a) bs b);
+  kept = kept;
 }

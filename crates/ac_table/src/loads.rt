@@ -33,6 +33,12 @@ impl Load {
             weight: self.weight.saturating_add(other.weight),
         }
     }
+
+    pub(crate) fn is_nothing(self) -> bool
+        ensures { result ≡ (self.count == 0 && self.weight == 0) }
+    {
+        self.count == 0 && self.weight == 0
+    }
 }
 
 fn load_of(event: &Event) -> Load

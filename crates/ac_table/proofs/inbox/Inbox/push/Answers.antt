@@ -50,4 +50,5 @@ invariant_of-self-2 c =
     c.load_in-load.ensures ∙ ap (λ (es : List Event). top_load (load_in es)) c.as_slice.ensures.events in
     subst (λ (bs : List Batch). IsLoaded bs c.add.new.self c.add_sent.new.senders.entries) (sym more)
     (loaded_push i.batches.items b l i.total c.add.new.self i.senders.entries c.add_sent.new.senders.entries
-    c.self.invariant loaded c.add.ensures c.in_ok-add_sent.ensures.added)
+    c.self.invariant loaded c.add.ensures c.in_ok-add_sent.ensures.added
+    (c.add_sent.ensures.kept c.self.invariant.kept))
