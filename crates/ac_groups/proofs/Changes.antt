@@ -22,7 +22,8 @@ handles_of gs others = all_handles gs.entries others.entries
 -- ---- handles under groups
 
 -- a key of each form
-each_key : (P : Plain → Type 0) → ((o c : Plain) → P (pair o c)) → ((q : Plain) → parts q ≡ None → P q) → (q : Plain) → P q
+each_key : (P : Plain → Type 0) → ((o c : Plain) → P (pair o c)) → ((q : Plain) → parts q ≡ None → P q) → (q : Plain)
+    → P q
 each_key P f g q = by (parts q) refl
   where
     by : (x : Option (Plain × Plain)) → parts q ≡ x → P q

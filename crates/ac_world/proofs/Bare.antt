@@ -1,5 +1,6 @@
 -- A reference without caveats is read as its two numbers, and lets each value pass as it is.
-use Rattle.std.proofs.Common.{◌≡◌, ℕ, ◌^◌, cond, Bool, true, false, ◌&&◌, nat_lt, List, [], Option, Some, None, refl, ap, sym, ◌∙◌}
+use Rattle.std.proofs.Common.{◌≡◌, ℕ, ◌^◌, cond, Bool, true, false, ◌&&◌, nat_lt, List, [], Option, Some}
+use Rattle.std.proofs.Common.{None, refl, ap, sym, ◌∙◌}
 use Rattle.std.proofs.Common.{◌∷◌, length, option_map, option_and_then, pos, ◌<◌, arith}
 use Rattle.std.proofs.lemmas.Bool.{lt-ltb}
 use Rattle.std.proofs.lemmas.Bool.Decides.{nat_tests}
@@ -57,7 +58,8 @@ with_numbers ds v m n = by (nat_lt m (2 ^ 32)) refl (nat_lt n (2 ^ 63)) refl
 pub bare_aim : (ds : List Definition) (v r : Plain) → has_caveats r ≡ false → aim_at ds v r ≡ as_it_is v (reference_of r)
 bare_aim ds v (sequence (then_more (integer (pos m)) (then_more (integer (pos n)) no_more))) h = with_numbers ds v m n
 bare_aim ds v (sequence (then_more (integer (pos m)) (then_more e no_more))) h =
-    ap (λ o. option_and_then (aim_by ds v) (option_and_then (if_spelled (sequence (then_more (integer (pos m)) (then_more e no_more)))) o))
+    ap (λ o. option_and_then (aim_by ds v)
+    (option_and_then (if_spelled (sequence (then_more (integer (pos m)) (then_more e no_more)))) o))
     (no_object (number_in (integer (pos m))))
 bare_aim ds v (sequence (then_more a (then_more e (then_more c cs)))) h = absurd cc
 bare_aim ds v r h = refl

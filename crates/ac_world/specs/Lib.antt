@@ -1,6 +1,7 @@
 pub mod Aims
 pub mod Behaviours
 pub mod Housing
+pub mod Judging
 pub mod Keeping
 pub mod Lemmas
 pub mod Limits

@@ -21,8 +21,8 @@ pub fn limit_is_as_defined()
     ensures { READINGS ≡ most_readings }
 {}
 
-/// Values with caveats that a system actor has sent through, and of each the reference that it writes, where it
-/// is the value of one.
+/// Values with caveats that a system actor has sent through, and of each the reference that it
+/// writes, where it is the value of one.
 ///
 /// Contracts see nothing of it.
 #[derive(Drop)]

@@ -8,6 +8,7 @@ ghost use Rattle.std.specs.Ordering.{nat_cmp};
 ghost use Rattle.ac_table.specs.Maps.{is_key};
 ghost use Rattle.ac_table.specs.Tables.{is_live, find_row, first_batch, lowest, waiting};
 ghost use Rattle.gk_sturdy.specs.Bindings.{bound};
+ghost use Rattle.ac_world.specs.Judging.{IsJudged};
 ghost use Rattle.ac_world.specs.Keeping.{resident_by, turning_by, Stands};
 ghost use Rattle.ac_world.specs.Limits.{most_watchers};
 ghost use Rattle.ac_world.specs.Others.{rows_in, task_in};
@@ -195,11 +196,13 @@ impl<S: Space + Drop, J: Judge + Drop, B: Behaves + Drop> World<S, J, B> {
         Ok(self)
     }
 
-    /// The next watcher is live, and observes. No connection has come yet. For want of memory the
-    /// world is gone.
+    /// The next watcher is live, and observes. No connection has come yet, and the watcher was
+    /// judged: it watches a pattern at a dataspace, asserts at another one by a known behaviour, and
+    /// meets no other watcher. For want of memory the world is gone.
     pub fn watch(mut self, alloc: Global, given: Watched) -> Result<World<S, J, B>, NoMemory>
         requires first { self.opened ≡ 0 }
         requires few { length self.watches < most_watchers }
+        requires judged { IsJudged given self.watches }
         ensures { IfOk result (λ w. w ≡ watching given self) }
     {
         let actor = FIRST_OTHER + self.watches.len() as u32;

@@ -1,4 +1,5 @@
 pub mod Idle
+pub mod Judging
 pub mod Keeping
 pub mod Looking
 pub mod Small

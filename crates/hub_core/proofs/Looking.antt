@@ -150,7 +150,8 @@ left_turned a u w names none left = by (is_live a w.table) (first_batch a w.tabl
     nobody = record { world = w; turned = turned.Gone }
 
     by : (c : Bool) (o : Option Batch)
-        → AreLeft (and_turned a (cond c (turn_first a o w) nobody).turned u) (cond c (turn_first a o w) nobody).world names
+        → AreLeft (and_turned a (cond c (turn_first a o w) nobody).turned u) (cond c (turn_first a o w) nobody).world
+        names
     by true None = left
     by true (Some b) = left_with a b u w names none left
     by false o = left

@@ -1,7 +1,8 @@
 use Rattle.std.proofs.Common.{None, Some, refl, sym, ◌∙◌}
 use Rattle.pv_words.specs.Parts.{same}
 use Rattle.ac_groups.specs.Kept.{Group}
-use Rattle.ac_groups.proofs.Members.{written, written_out, none_there, handle_set, facets_stay, nothing, bare_handle, bare_facet}
+use Rattle.ac_groups.proofs.Members.{written, written_out, none_there, handle_set, facets_stay}
+use Rattle.ac_groups.proofs.Members.{nothing, bare_handle, bare_facet}
 use Rattle.ac_groups.proofs.group.take.Goals as goal
 
 pub returns-in_default-clause-handles : goal.returns-in_default-clause-handles

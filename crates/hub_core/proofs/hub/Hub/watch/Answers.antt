@@ -1,6 +1,7 @@
 -- A watcher that may begin leaves a valid state, and begins before anybody comes.
 use Rattle.std.proofs.Common.{sym, ◌∙◌}
 use Rattle.hub_machine.specs.State.{State}
+use Rattle.hub_core.proofs.Judging.{judged}
 use Rattle.hub_core.proofs.Keeping.{kept_watched}
 use Rattle.hub_core.proofs.Watching.{may_watch, free_inside}
 use Rattle.hub_core.proofs.hub.Hub.watch.Goals as goal
@@ -26,6 +27,17 @@ watch-requires-clause-few g c =
     } in
     (may_watch c.args.watched s (free_inside c.args.watched s c.args.self c.self.view_is
     (sym c.in_ok-is_unwatchable.ensures ∙ c.if-branch.false))).1
+
+pub watch-requires-clause-judged : goal.watch-requires-clause-judged
+watch-requires-clause-judged g c =
+    let s : State = record {
+      world = c.self.inside.world;
+      connections = c.self.inside.connections.entries;
+      faults = c.self.inside.faults.entries;
+      stopped = c.self.inside.stopped;
+    } in
+    judged c.args.watched s (free_inside c.args.watched s c.args.self c.self.view_is
+    (sym c.in_ok-is_unwatchable.ensures ∙ c.if-branch.false))
 
 pub invariant_of-hub : goal.invariant_of-hub
 invariant_of-hub g c =
