@@ -62,6 +62,8 @@ where
         × (H.port_faults host.old ≤ H.port_faults host.new)
         × (H.faults host.old ≤ H.faults host.new) }
     ensures unwritten { result ≢ 0 → result ≢ 4 → O.held out.new ≡ O.held out.old }
+    ensures unfinished { (O.finishes out.new ≡ O.finishes out.old)
+        × (E.finishes diag.new ≡ E.finishes diag.old) }
     ensures silent { result ≡ 0 → E.held diag.new ≡ E.held diag.old }
     ensures said { result ≢ 0 → SaysWhyFront (texts words.now) (H.files host.old) result
         (E.held diag.old) (E.held diag.new) }
@@ -166,6 +168,8 @@ where
     ensures cut { result ≡ 4 → IfTold (command_of (texts words.now)) (I.left input.old)
         (λ c bytes. IsCut (H.files host.old) c bytes (O.held out.old) (O.held out.new)) }
     ensures unwritten { result ≢ 0 → result ≢ 4 → O.held out.new ≡ O.held out.old }
+    ensures unfinished { (O.finishes out.new ≡ O.finishes out.old)
+        × (E.finishes diag.new ≡ E.finishes diag.old) }
     ensures unasked { begins_with_serve (texts words.now) ≡ false
         → file_of (command_of (texts words.now)) ≡ None → host.new ≡ host.old }
     ensures same_host { begins_with_serve (texts words.now) ≡ false →

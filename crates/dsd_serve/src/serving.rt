@@ -64,6 +64,7 @@ fn write_tally<O: Sink>(alloc: Global, tally: &Tally, out: &mut O) -> Result<(),
     ensures write_failed { IsErrOf result fault.WriteFailed →
         Rose (O.faults out.old) (O.faults out.new) }
     ensures unwritten { IsErrOf result fault.NoMemory → O.held out.new ≡ O.held out.old }
+    ensures unfinished { O.finishes out.new ≡ O.finishes out.old }
 {
     let Ok(line) = served_line(alloc, u64::from(tally.served), rest_of(tally)) else {
         return Err(Fault::NoMemory);
@@ -124,6 +125,7 @@ where
         Rose (O.faults out.old) (O.faults out.new) }
     ensures unwritten { IfErr result (λ why. status_for why ≢ 4 →
         O.held out.new ≡ O.held out.old) }
+    ensures unfinished { O.finishes out.new ≡ O.finishes out.old }
     ensures unopened { IfErr result (λ why. status_for why ≢ 4 → status_for why ≢ 5 →
         (H.address host.new ≡ H.address host.old)
         × (H.gave host.new ≡ H.gave host.old) × (H.stops host.new ≡ H.stops host.old)) }

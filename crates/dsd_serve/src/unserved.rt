@@ -40,6 +40,7 @@ pub(crate) fn tell_why<E: Sink>(diag: &mut E, why: Unserved) -> u8
     ensures said { AppendsFront (E.held diag.old) (E.held diag.new) (line_for why) }
     ensures said_all { (Rose (E.faults diag.old) (E.faults diag.new) → ⊥)
         → Appends (E.held diag.old) (E.held diag.new) (line_for why) }
+    ensures unfinished { E.finishes diag.new ≡ E.finishes diag.old }
 {
     match why {
         Unserved::Of(fault) => refuse(diag, fault),

@@ -53,7 +53,7 @@ pub told_write : (n : Notice) → Contains (statuses_told n) (status_of WriteFai
 told_write Usage = (1, lit< tt, refl)
 told_write Version = (1, lit< tt, refl)
 told_write (Reference m) = (2, lit< tt, refl)
-told_write (Load l) = (2, lit< tt, refl)
+told_write (Load l) = (1, lit< tt, refl)
 
 always_told : (k : ℕ) → Contains (0 ∷ 4 ∷ []) k → IsStatus k
 always_told k (zero, l, e) = (0, lit< tt, e)
@@ -70,12 +70,10 @@ told_status (Reference m) k (suc (suc zero), l, e) = (4, lit< tt, e)
 told_status (Reference m) k (suc (suc (suc zero)), l, e) = (5, lit< tt, e)
 told_status (Reference m) k (suc (suc (suc (suc i))), l, e) = absurd (omega (arith, l))
 told_status (Load d) k (zero, l, e) = (0, lit< tt, e)
-told_status (Load d) k (suc zero, l, e) = (1, lit< tt, e)
-told_status (Load d) k (suc (suc zero), l, e) = (4, lit< tt, e)
-told_status (Load d) k (suc (suc (suc zero)), l, e) = (5, lit< tt, e)
-told_status (Load d) k (suc (suc (suc (suc zero))), l, e) = (6, lit< tt, e)
-told_status (Load d) k (suc (suc (suc (suc (suc zero)))), l, e) = (7, lit< tt, e)
-told_status (Load d) k (suc (suc (suc (suc (suc (suc i))))), l, e) = absurd (omega (arith, l))
+told_status (Load d) k (suc zero, l, e) = (4, lit< tt, e)
+told_status (Load d) k (suc (suc zero), l, e) = (5, lit< tt, e)
+told_status (Load d) k (suc (suc (suc zero)), l, e) = (6, lit< tt, e)
+told_status (Load d) k (suc (suc (suc (suc i))), l, e) = absurd (omega (arith, l))
 
 -- what the words ask for has the statuses that are said
 pub notice_known : (o : Option Request) (n : Notice) (k : ℕ) → Some (Tell n) ≡ o → Contains (statuses_told n) k

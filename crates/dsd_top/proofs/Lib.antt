@@ -3,13 +3,13 @@ pub mod Causes
 pub mod Fronts
 pub mod InForm
 pub mod Kept
-pub mod LoadEvents
 pub mod Minted
 pub mod Readiness
 pub mod Readings
 pub mod Refusals
 pub mod Reported
 pub mod Saying
+pub mod Stopped
 pub mod Telling
 pub mod Verifying
 pub mod Within

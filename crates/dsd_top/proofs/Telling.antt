@@ -8,6 +8,7 @@ use Rattle.sc_script.specs.declared.faults.ScriptFault.TheVariants as stopped
 use Rattle.sc_script.specs.Scripts.{StopsAt}
 use Rattle.dsd_top.specs.Asked.{Loading}
 use Rattle.dsd_top.specs.Commands.{usage, version, IsTextOf, HasText, IsRightlyAsked, Minting}
+use Rattle.dsd_top.specs.Loading.{StopsALoad}
 use Rattle.dsd_top.specs.Minting.{IsReferenceLine, IsFound}
 use Rattle.dsd_top.specs.Statuses.{IsShown, IsShownFront, IsToldFault, from_words, from_script, status_of}
 use Rattle.dsd_top.specs.Statuses.{statuses_told}
@@ -43,11 +44,12 @@ load_stops l (stopped.Limit w) h = h
 load_stops l (stopped.Schema k) h = h
 load_stops l stopped.NoMemory h = tt
 
-load_status : (l : Loading) (e : ScriptFault) → Contains (statuses_told (Load l)) (status_of (from_script e))
-load_status l (stopped.Bad k) = (1, lit< tt, refl)
-load_status l (stopped.Limit w) = (4, lit< tt, refl)
-load_status l (stopped.Schema k) = (5, lit< tt, refl)
-load_status l stopped.NoMemory = (3, lit< tt, refl)
+load_status : (l : Loading) (e : ScriptFault) → StopsALoad e
+    → Contains (statuses_told (Load l)) (status_of (from_script e))
+load_status l (stopped.Bad k) never = absurd never
+load_status l (stopped.Limit w) over = (3, lit< tt, refl)
+load_status l (stopped.Schema k) never = absurd never
+load_status l stopped.NoMemory lost = (2, lit< tt, refl)
 
 -- words that are no key and values
 pub words_told : {T : Type 0} (n : Notice) (m : Minting) → n ≡ Reference m → (view : T → List ℕ) (e : WordsFault)
@@ -60,6 +62,7 @@ pub load_told : (n : Notice) (l : Loading) → n ≡ Load l → (e : ScriptFault
     → StopsAt input.Binary (load_bytes l.start l.count) e → IsToldFault n (from_script e)
 load_told n l is e stops = subst (λ k. IsToldFault k (from_script e)) (sym is) (load_stops l e stops)
 
-pub load_known : (n : Notice) (l : Loading) → n ≡ Load l → (e : ScriptFault)
+pub load_known : (n : Notice) (l : Loading) → n ≡ Load l → (e : ScriptFault) → StopsALoad e
     → Contains (statuses_told n) (status_of (from_script e))
-load_known n l is e = subst (λ k. Contains (statuses_told k) (status_of (from_script e))) (sym is) (load_status l e)
+load_known n l is e stops =
+    subst (λ k. Contains (statuses_told k) (status_of (from_script e))) (sym is) (load_status l e stops)

@@ -5,7 +5,6 @@ pub mod Inputs
 pub mod Laws
 pub mod Limits
 pub mod Lines
-pub mod LoadEvents
 pub mod Loading
 pub mod Makings
 pub mod Minting

@@ -1,6 +1,5 @@
-//! Laws of what the program prints and runs: each is the contract of a function that does nothing.
+//! A law of what the program prints: the contract of a function that does nothing.
 ghost use Rattle.dsd_top.specs.Laws.{MintedReadBack};
-ghost use Rattle.dsd_top.specs.LoadEvents.{LoadsAreOfEvents};
 
 use gk_sturdy::signed_is_valid;
 use pv_print::printed_texts_read_back;
@@ -15,10 +14,3 @@ pub fn minted_references_verify()
     signed_is_valid();
     printed_texts_read_back();
 }
-
-/// In the script of each load every value writes an event: first its connections come, ten at most,
-/// and each event behind them is a turn that one of these sends, or has the work done. So none is
-/// no event, and none binds, watches or gives a schema.
-pub fn loads_are_of_events()
-    ensures { LoadsAreOfEvents }
-{}

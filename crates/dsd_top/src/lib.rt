@@ -18,7 +18,7 @@ mod words;
 
 pub use conformance::Conformance;
 pub use faults::Fault;
-pub use laws::{loads_are_of_events, minted_references_verify};
+pub use laws::minted_references_verify;
 pub use lines::{refuse, say};
 pub use once::dsd_once;
 pub use sc_script::{next_is_decided, one_course, one_reading};

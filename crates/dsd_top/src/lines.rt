@@ -21,6 +21,7 @@ fn write_three<E: Sink>(
     ensures front { OnErr result (AppendsFront (E.held sink.old) (E.held sink.new)
         (first.now ++ second.now ++ third.now)) }
     ensures cause { OnErr result (Rose (E.faults sink.old) (E.faults sink.new)) }
+    ensures unfinished { E.finishes sink.new ≡ E.finishes sink.old }
 {
     if let Err(fault) = write_all(sink, first) {
         return Err(fault);
@@ -39,6 +40,7 @@ fn write_line<E: Sink>(diag: &mut E, words: &str, number: &str) -> Result<(), Wr
     ensures front { OnErr result (AppendsFront (E.held diag.old) (E.held diag.new)
         (words.now ++ number.now ++ 10 ∷ [])) }
     ensures cause { OnErr result (Rose (E.faults diag.old) (E.faults diag.new)) }
+    ensures unfinished { E.finishes diag.new ≡ E.finishes diag.old }
 {
     write_three(diag, words.as_bytes(), number.as_bytes(), b"\n")
 }
@@ -50,6 +52,7 @@ pub fn say<E: Sink>(diag: &mut E, words: &str, number: &str)
         (words.now ++ number.now ++ 10 ∷ []) }
     ensures said_all { (Rose (E.faults diag.old) (E.faults diag.new) → ⊥)
         → Appends (E.held diag.old) (E.held diag.new) (words.now ++ number.now ++ 10 ∷ []) }
+    ensures unfinished { E.finishes diag.new ≡ E.finishes diag.old }
 {
     let _ = write_line(diag, words, number);
 }
@@ -60,6 +63,7 @@ pub fn refuse<E: Sink>(diag: &mut E, fault: Fault) -> u8
     ensures said { AppendsFront (E.held diag.old) (E.held diag.new) (line_of fault) }
     ensures said_all { (Rose (E.faults diag.old) (E.faults diag.new) → ⊥)
         → Appends (E.held diag.old) (E.held diag.new) (line_of fault) }
+    ensures unfinished { E.finishes diag.new ≡ E.finishes diag.old }
 {
     let mut buffer = Buffer::new();
     let number = fault.number(&mut buffer);

@@ -4,7 +4,7 @@ ghost use Rattle.sc_events.specs.declared.inputs.Form.TheVariants as input;
 ghost use Rattle.sc_load.specs.Loads.{load_bytes};
 ghost use Rattle.sc_script.specs.Scripts.{StopsAt};
 ghost use Rattle.dsd_top.specs.Loading.{told, captured, captured_by, all_held, load_value};
-ghost use Rattle.dsd_top.specs.Loading.{IsLoadLine};
+ghost use Rattle.dsd_top.specs.Loading.{IsLoadLine, StopsALoad};
 
 use crate::conformance::Conformance;
 use crate::forms::{Form, value_in};
@@ -12,12 +12,13 @@ use crate::words::Loading;
 use ds_skeleton::Skeleton;
 use hub_laws::settled_holdings_are_from_scratch;
 use lc_watch::Table;
+use load_laws::loads_stop_for_limits_alone;
 use pv_value::{NoMemory, Node, Value};
 use pv_words::{labelled, number, number_in};
 use rl_packet::Holding;
 use sc_load::load_script;
 use sc_report::{Connection, Ran};
-use sc_script::{Form as Input, ScriptFault, run_script};
+use sc_script::{Form as Input, ScriptFault, next_is_decided, run_script};
 use std::alloc::Global;
 
 /// The number that a value captures.
@@ -78,13 +79,16 @@ fn load_value(alloc: Global, loading: &Loading, ran: &Ran) -> Result<Value, NoMe
     labelled(alloc, "load", fields)
 }
 
-/// The line of the run of a load, or the first cause that stops it.
+/// The line of the run of a load, or the first cause that stops it, which is a limit.
 pub fn load_line(alloc: Global, loading: &Loading) -> Result<Vec<u8>, ScriptFault>
     ensures line { IfOk result (λ line. IsLoadLine loading.now line.items) }
     ensures stop { IfErr result
         (StopsAt input.Binary (load_bytes loading.now.start loading.now.count)) }
+    ensures limits { IfErr result StopsALoad }
 {
     settled_holdings_are_from_scratch();
+    next_is_decided();
+    loads_stop_for_limits_alone();
     let script = load_script(alloc, loading.start(), loading.count())?;
     let bytes = script.as_slice();
     let ran = run_script::<Skeleton, Conformance, Table>(

@@ -51,6 +51,7 @@ fn do_command<I: Source, O: Sink, H: Host>(
         × Rose (H.file_faults host.old) (H.file_faults host.new)) }
     ensures write_failed { IsErrOf result fault.WriteFailed →
         Rose (O.faults out.old) (O.faults out.new) }
+    ensures unfinished { O.finishes out.new ≡ O.finishes out.old }
     ensures unasked { file_of (Some command.now) ≡ None → host.new ≡ host.old }
     ensures same_host { (H.files host.new ≡ H.files host.old)
         × (H.address host.new ≡ H.address host.old)
@@ -76,6 +77,7 @@ fn tell<O: Sink>(alloc: Global, notice: &Notice, out: &mut O) -> Result<(), Faul
     ensures unwritten { IfErr result (λ f. status_of f ≢ 4 → O.held out.new ≡ O.held out.old) }
     ensures write_failed { IsErrOf result fault.WriteFailed →
         Rose (O.faults out.old) (O.faults out.new) }
+    ensures unfinished { O.finishes out.new ≡ O.finishes out.old }
 {
     match notice {
         Notice::Usage => write_all(out, usage().as_bytes())?,
@@ -102,6 +104,8 @@ fn show<O: Sink, E: Sink>(alloc: Global, notice: &Notice, out: &mut O, diag: &mu
     ensures untold { result ≢ 0 → IsUntold result notice.now }
     ensures unwritten { result ≢ 0 → result ≢ 4 → O.held out.new ≡ O.held out.old }
     ensures write_failed { result ≡ 4 → Rose (O.faults out.old) (O.faults out.new) }
+    ensures unfinished { (O.finishes out.new ≡ O.finishes out.old)
+        × (E.finishes diag.new ≡ E.finishes diag.old) }
     ensures silent { result ≡ 0 → E.held diag.new ≡ E.held diag.old }
     ensures said { result ≢ 0 → SaysFront (IsToldFault notice.now) result
         (E.held diag.old) (E.held diag.new) }
@@ -173,6 +177,8 @@ pub fn dsd_once<I: Source, O: Sink, E: Sink, H: Host>(
     ensures cut { result ≡ 4 → IfTold (command_of (texts words.now)) (I.left input.old)
         (λ c bytes. IsCut (H.files host.old) c bytes (O.held out.old) (O.held out.new)) }
     ensures unwritten { result ≢ 0 → result ≢ 4 → O.held out.new ≡ O.held out.old }
+    ensures unfinished { (O.finishes out.new ≡ O.finishes out.old)
+        × (E.finishes diag.new ≡ E.finishes diag.old) }
     ensures unasked { file_of (command_of (texts words.now)) ≡ None → host.new ≡ host.old }
     ensures same_host { (H.files host.new ≡ H.files host.old)
         × (H.address host.new ≡ H.address host.old)

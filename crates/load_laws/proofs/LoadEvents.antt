@@ -1,24 +1,22 @@
 -- The values of a load write events.
-use Rattle.std.proofs.Common.{◌≡◌, ℕ, zero, suc, ◌+◌, ◌*◌, ◌/◌, ◌^◌, ◌≤◌, ◌<◌, true, List, [], ◌∷◌, ◌++◌, Some, None}
+use Rattle.std.proofs.Common.{◌≡◌, ℕ, zero, suc, ◌*◌, ◌^◌, ◌≤◌, ◌<◌, true, List, [], ◌∷◌, ◌++◌, Some, None}
 use Rattle.std.proofs.Common.{arith, ap, sym, refl, subst, nat_lt, option_map, if◌then◌else◌}
 use Rattle.std.proofs.lemmas.Bool.Decides.{nat_tests}
 use Rattle.std.proofs.lemmas.Grind.{div_ceil_times}
 use Rattle.std.specs.Prelude.{IsSomeAnd}
 use Rattle.std.specs.List.{AllByRecursion}
-use Rattle.pv_value.specs.Plain.{Plain}
 use Rattle.pv_binary.specs.Written.{written}
 use Rattle.rl_packet.specs.Packets.{packet_value}
 use Rattle.rl_packet.specs.declared.packets.Packet.TheVariants as packet
 use Rattle.rl_packet.specs.declared.packets.TurnEvent.{TurnEvent}
 use Rattle.sc_events.specs.Events.{event_of}
-use Rattle.sc_events.specs.declared.events.ScriptEvent.{ScriptEvent}
 use Rattle.sc_events.specs.declared.events.ScriptEvent.TheVariants.{Bytes}
 use Rattle.sc_load.specs.Limits.{most_items}
-use Rattle.sc_load.specs.Loads.{rounded_up, observes, loads, events_of, bytes_event, sent_by, connection_of, turn_of}
+use Rattle.sc_load.specs.Loads.{rounded_up, observes, loads, bytes_event, sent_by, connection_of, turn_of}
 use Rattle.sc_load.specs.Loads.{turns_of, all_turns, opens}
-use Rattle.dsd_top.specs.LoadEvents.{connections_of, IsArrival, IsSending, WriteEvents, LoadsAreOfEvents}
+use Rattle.load_laws.specs.LoadEvents.{connections_of, IsArrival, IsSending, WriteEvents, LoadsAreOfEvents}
 
-both : {A : Type 0} (P : A → Type 0) (xs ys : List A) → AllByRecursion P xs → AllByRecursion P ys
+pub both : {A : Type 0} (P : A → Type 0) (xs ys : List A) → AllByRecursion P xs → AllByRecursion P ys
     → AllByRecursion P (xs ++ ys)
 both P [] ys all more = more
 both P (x ∷ xs) ys all more = (all.0, both P xs ys all.1 more)
@@ -42,14 +40,14 @@ sends k j es few some own =
 
 -- ---- all turns
 
-few_connections : (n : ℕ) → n ≤ most_items → connections_of n ≤ 10
+pub few_connections : (n : ℕ) → n ≤ most_items → connections_of n ≤ 10
 few_connections n few = omega (arith, (div_ceil_times n 2000 (omega arith)).1, few)
 
 -- a turn that is there begins below the number of all items
 begins : (n t : ℕ) → t < rounded_up n 500 → 500 * t < n
 begins n t there = omega (arith, (div_ceil_times n 500 (omega arith)).1, there)
 
-own_turn : (n t : ℕ) → t < rounded_up n 500 → connection_of (500 * t) ≤ connections_of n
+pub own_turn : (n t : ℕ) → t < rounded_up n 500 → connection_of (500 * t) ≤ connections_of n
 own_turn n t there = omega (arith, begins n t there)
 
 turns_sent : (event : ℕ → TurnEvent) (n t : ℕ) → n ≤ most_items → t ≤ rounded_up n 500

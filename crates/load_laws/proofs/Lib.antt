@@ -1,0 +1,5 @@
+pub mod Course
+pub mod LoadEvents
+pub mod Opened
+pub mod Reading
+pub mod Whole

@@ -1,0 +1,2 @@
+pub mod LoadEvents
+pub mod Loads
