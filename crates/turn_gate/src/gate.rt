@@ -12,6 +12,7 @@ use crossbeam_utils::Backoff;
 use std::alloc::Global;
 use std::snapshot::Snapshot;
 use std::sync::Wait;
+use std::time::Duration;
 use thiserror::Error;
 
 /// Why a commit did no step.
@@ -40,6 +41,18 @@ const LOCK: usize = 8;
 
 // How many callers sleep until the lock is free.
 const WAITERS: usize = 16;
+
+// How many callers have slept for it in vain, and are to have it before others.
+const STARVED: usize = 17;
+
+// How often the lock was given back while somebody was starved; these sleep until it changes.
+const TURNS: usize = 18;
+
+// How often a caller sleeps in vain before it counts as starved.
+const NAPS: u32 = 16;
+
+// How many thousandths of a second it sleeps at once, where nobody wakes it.
+const NAP: u64 = 1;
 
 // 1 once the value was given up.
 const ENDED: usize = 24;
@@ -133,15 +146,54 @@ impl<T: Replayed> Gate<T> {
         self.table.shared.load::<Look>(pass, COUNT)
     }
 
-    // Sleeps while the lock is taken. It counts itself first, so that who gives back wakes it.
+    // Sleeps while the lock is taken, for a nap at most. It counts itself first, so that who gives back
+    // wakes it.
     fn wait<R: Wait>(&self, rt: &R, pass: &mut Place<T>)
         requires gate { pass.old.table_id ≡ self.now.table.shared.table_id }
         ensures gate { (pass.new.table_id ≡ pass.old.table_id) × (pass.new.id ≡ pass.old.id) }
         ensures same { pass.new.me ≡ pass.old.me }
     {
         self.table.shared.fetch_add::<Touch>(pass, WAITERS, 1);
-        self.table.shared.park(rt, LOCK, 1);
+        self.table
+            .shared
+            .park_timeout(rt, LOCK, 1, Duration::from_millis(NAP));
         self.table.shared.fetch_sub::<Touch>(pass, WAITERS, 1);
+    }
+
+    // One more caller is starved.
+    fn count_as_starved(&self, pass: &mut Place<T>)
+        requires gate { pass.old.table_id ≡ self.now.table.shared.table_id }
+        ensures gate { (pass.new.table_id ≡ pass.old.table_id) × (pass.new.id ≡ pass.old.id) }
+        ensures same { pass.new.me ≡ pass.old.me }
+    {
+        self.table.shared.fetch_add::<Touch>(pass, STARVED, 1);
+    }
+
+    // One caller less is starved.
+    fn count_no_more(&self, pass: &mut Place<T>)
+        requires gate { pass.old.table_id ≡ self.now.table.shared.table_id }
+        ensures gate { (pass.new.table_id ≡ pass.old.table_id) × (pass.new.id ≡ pass.old.id) }
+        ensures same { pass.new.me ≡ pass.old.me }
+    {
+        self.table.shared.fetch_sub::<Touch>(pass, STARVED, 1);
+    }
+
+    // Sleeps until the lock is given back, for a nap at most. It is counted as starved, so that who
+    // gives back wakes it.
+    fn wait_starved<R: Wait>(&self, rt: &R) {
+        let turns = self.table.shared.peek(TURNS);
+        if self.table.shared.peek(LOCK) != 0 {
+            let turns = (turns & 0xffff_ffff) as u32;
+            self.table
+                .shared
+                .park_timeout(rt, TURNS, turns, Duration::from_millis(NAP));
+        }
+    }
+
+    // Whether a caller may take the lock, as far as a look tells: it is free, and nobody is starved
+    // but who asks.
+    fn may_take(&self, starved: bool) -> bool {
+        self.table.shared.peek(LOCK) == 0 && (starved || self.table.shared.peek(STARVED) == 0)
     }
 
     // Those who rest at this place and have heard of fewer steps than these are to look again: they
@@ -216,21 +268,32 @@ impl<T: Replayed> Gate<T> {
         ensures took { Took T.next pass.old.me (some ask.now) pass.new.me }
     {
         let backoff = Backoff::new();
+        let mut naps: u32 = 0;
         for _ in rt.forever() {
+            let starved = naps >= NAPS;
             // A look first: who only looks takes the word from nobody.
-            if self.table.shared.peek(LOCK) == 0
+            if self.may_take(starved)
                 && self
                     .table
                     .shared
                     .compare_exchange_with::<Take>(pass, LOCK, 0, 1, ask)
                     == 0
             {
+                if starved {
+                    self.count_no_more(pass);
+                }
                 return;
             }
-            if backoff.is_completed() {
-                self.wait(rt, pass);
-            } else {
+            if !backoff.is_completed() || self.table.shared.peek(LOCK) == 0 {
                 backoff.snooze();
+            } else if starved {
+                self.wait_starved(rt);
+            } else {
+                self.wait(rt, pass);
+                naps += 1;
+                if naps == NAPS {
+                    self.count_as_starved(pass);
+                }
             }
         }
         unreachable!()
@@ -281,7 +344,10 @@ impl<T: Replayed> Gate<T> {
         ensures gave { gave pass.old.me pass.new.me }
     {
         self.table.shared.store::<Give>(pass, LOCK, 0);
-        if self.table.shared.peek(WAITERS) != 0 {
+        if self.table.shared.peek(STARVED) != 0 {
+            self.table.shared.fetch_add::<Touch>(pass, TURNS, 1);
+            self.table.shared.wake_one(TURNS);
+        } else if self.table.shared.peek(WAITERS) != 0 {
             self.table.shared.wake_one(LOCK);
         }
     }

@@ -1,4 +1,4 @@
-use Rattle.std.proofs.Common.{rules, arith, ◌+◌, max}
+use Rattle.std.proofs.Common.{rules, arith, max}
 use Rattle.turn_gate.proofs.Moves.{touches_at}
 use Rattle.turn_gate.proofs.gate.Gate.call.Goals as goal
 
