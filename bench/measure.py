@@ -1,5 +1,6 @@
-"""Runs the program on a script, and tells what that took."""
+"""Runs the program on a script, and tells what that took; counts the instructions of a command."""
 import os
+import re
 import subprocess
 import sys
 import tempfile
@@ -10,6 +11,7 @@ TOP = os.path.dirname(os.path.dirname(os.path.abspath(__file__)))
 PROGRAM = os.environ.get("DSD") or os.path.join(TOP, "crates", "dsd", "out", "dsd")
 # the memory is looked at so often, in seconds
 OFTEN = 0.002
+COLLECTED = re.compile(r"^summary: (\d+)|^totals: (\d+)", re.M)
 
 
 def needs_program():
@@ -44,3 +46,13 @@ def run(words, data=b""):
     if status != 0:
         sys.exit("dsd %s ended with status %d" % (" ".join(words), os.waitstatus_to_exitcode(status)))
     return took, usage.ru_utime + usage.ru_stime, peak
+
+
+def counted(command, data=b""):
+    """How many instructions this command takes with this input, by callgrind."""
+    with tempfile.TemporaryDirectory() as folder:
+        out = os.path.join(folder, "out")
+        under = ["valgrind", "--tool=callgrind", "--callgrind-out-file=" + out, *command]
+        subprocess.run(under, input=data, stdout=subprocess.DEVNULL, stderr=subprocess.DEVNULL, check=True)
+        with open(out, encoding="utf-8") as file:
+            return max(int(one or other) for one, other in COLLECTED.findall(file.read()))
