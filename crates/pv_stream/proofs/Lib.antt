@@ -1,4 +1,5 @@
 pub mod Alike
+pub mod Atoms
 pub mod Behind
 pub mod Exact
 pub mod One

@@ -2,7 +2,7 @@
 use Rattle.std.proofs.Common.{◌≡◌, ℕ, zero, suc, ◌+◌, ◌-◌, ◌<◌, ◌≤◌, inl, inr, List, [], ◌∷◌, ◌++◌}
 use Rattle.std.proofs.Common.{length, take, drop, map, slice_index, slice_range, refl, sym, ap, ◌∙◌, subst}
 use Rattle.std.proofs.Common.{append_assoc}
-use Rattle.std.proofs.Common.{length-append, length-take, length-drop, arith, IsTrue, IsFalse, add-one}
+use Rattle.std.proofs.Common.{length-append, length-take, arith, IsTrue, add-one}
 use Rattle.std.specs.List.{concat}
 use Rattle.std.proofs.Math.Seq.{take-suc, take-append_seam, drop-append_seam}
 use Rattle.std.proofs.lemmas.List.{append-nil, take-append-le, take_all, take-append-drop, take-take, drop-take}
@@ -13,9 +13,8 @@ use Rattle.pv_value.specs.Depth.{depth, deepest}
 use Rattle.pv_binary.specs.Tags.{tag_of}
 use Rattle.pv_binary.specs.Spells.{Spells, Pieces}
 use Rattle.pv_binary.specs.Reading.{is_compound}
-use Rattle.pv_binary.specs.Fronts.{Open, IsUnfilled, IsOpen, Opens, EndsAt, at_tag, inside_atom, IsCut}
+use Rattle.pv_binary.specs.Fronts.{Open, IsUnfilled, IsOpen, Opens, at_tag, inside_atom, IsCut}
 use Rattle.pv_binary.specs.OneOfThree.{IsFront}
-use Rattle.pv_binary.specs.Lemmas.Begins.{begins_some}
 use Rattle.pv_binary.specs.declared.tag.Tag.{Tag}
 use Rattle.pv_binary.specs.declared.tag.Tag.TheVariants as tag
 use Rattle.pv_stream.specs.declared.walks.Level.{Level}
@@ -323,47 +322,25 @@ ends_at_tag left place ls (os, fits, opens, same) l = (
   ),
 )
 
--- the first byte opens a compound
-opens_first : (front : List ℕ) (o : Open) (os : List Open) → Opens front (o ∷ os)
-    → (b : ℕ) × (r : List ℕ) × (front ≡ b ∷ r) × IsTrue (is_compound (tag_of b))
-opens_first front o [] (f, ps, none, is, pieces, bytes) =
-    (o.byte, concat ps, bytes ∙ ap (λ (y : List ℕ). y ++ o.byte ∷ concat ps) none, is.compound)
-opens_first front o (q ∷ os) (f, ps, opens, is, pieces, bytes) =
-    let first = opens_first f q os opens in
-    (first.0, first.1 ++ o.byte ∷ concat ps, bytes ∙ ap (λ (y : List ℕ). y ++ o.byte ∷ concat ps) first.2, first.3)
-
-cut_at : (front tail cut : List ℕ) (t : ℕ) (bytes : List ℕ) → EndsAt front tail cut → tail ≡ t ∷ bytes
-    → IsCut (tag_of t) bytes
-cut_at front tail cut t bytes (at_tag f) e = absurd cc
-cut_at front tail cut t bytes (inside_atom f s bs is) e =
-    let h : s ≡ t = cc in
-    let r : bs ≡ bytes = cc in
-    subst (λ (y : List ℕ). IsCut (tag_of t) y) r (subst (λ n. IsCut (tag_of n) bs) h is)
-
-atom_cut : (t : ℕ) (bytes : List ℕ) → IsFalse (is_compound (tag_of t)) → IsFront (t ∷ bytes) → IsCut (tag_of t) bytes
-atom_cut t bytes atom (path, (front, tail, [], cut, is, none, ends, names)) =
-    cut_at front tail cut t bytes ends
-    (sym (is ∙ ap (λ (y : List ℕ). y ++ tail) none))
-atom_cut t bytes atom (path, (front, tail, o ∷ os, cut, is, opens, ends, names)) =
-    let first = opens_first front o os opens in
-    let same : t ∷ bytes ≡ first.0 ∷ (first.1 ++ tail) = is ∙ ap (λ (y : List ℕ). y ++ tail) first.2 in
-    let h : t ≡ first.0 = cc in
-    absurd (cc (first.3, atom, ap (λ n. is_compound (tag_of n)) h))
-
 drop_first : (left : List ℕ) (place : ℕ) → place < length left
     → drop place left ≡ slice_index left place ∷ drop (suc place) left
 drop_first [] place l = absurd (omega (arith, l))
 drop_first (b ∷ bs) zero l = refl
 drop_first (b ∷ bs) (suc n) l = drop_first bs n (omega (arith, l))
 
+-- the byte at a place, and those behind it
+pub drop_one : (left : List ℕ) (place : ℕ) → place < length left
+    → drop place left ≡ slice_index left place ∷ drop (place + 1) left
+drop_one left place l =
+    drop_first left place l ∙ ap (λ n. slice_index left place ∷ drop n left) (sym (add-one place))
+
 pub ends_in_atom : (left : List ℕ) (place : ℕ) (ls : List Level) → IsAt left place ls → place < length left
-    → IsFalse (is_compound (tag_of (slice_index left place))) → IsFront (drop place left) → IsFront left
-ends_in_atom left place ls (os, fits, opens, same) l atom is =
+    → IsCut (tag_of (slice_index left place)) (drop (place + 1) left) → IsFront left
+ends_in_atom left place ls (os, fits, opens, same) l cut =
     let t : ℕ = slice_index left place in
-    let bytes : List ℕ = drop (suc place) left in
-    let cut = atom_cut t bytes atom (subst IsFront (drop_first left place l) is) in
+    let bytes : List ℕ = drop (place + 1) left in
     let whole : left ≡ take place left ++ t ∷ bytes =
-    sym (take-append-drop place left) ∙ ap (λ (y : List ℕ). take place left ++ y) (drop_first left place l) in (
+    sym (take-append-drop place left) ∙ ap (λ (y : List ℕ). take place left ++ y) (drop_one left place l) in (
       length (take place left) ∷ map (λ (o : Open). o.place) os,
       (
         take place left,
@@ -386,20 +363,6 @@ at_longer left more place ls (os, fits, opens, same) = (
   subst (λ (b : List ℕ). Opens b os) (sym (take-append-le place left more fits)) opens,
   same,
 )
-
-pub measured_found : (left : List ℕ) (place size deep outer : ℕ) → place ≤ length left
-    → IsMeasured (drop place left) size deep
-    → deep + outer ≤ 64 → (0 < size) × IsFound left place (place + size) outer
-measured_found left place size deep outer l (v, begins, level) few =
-    let long : size ≤ length left - place = omega (arith, begins.0, length-drop place left) in
-    let same : size ≡ place + size - place = omega arith in (
-      omega (arith, begins_some (drop place left) size v begins),
-      (
-        omega arith,
-        omega (arith, long, l),
-        (v, subst (λ n. Spells (take n (drop place left)) v) same begins.1, omega (arith, level, few)),
-      ),
-    )
 
 pub measured_whole : (bytes : List ℕ) (size deep outer : ℕ) → IsMeasured bytes size deep → size ≡ length bytes
     → deep + outer ≤ 64 → IsValue bytes outer
@@ -447,11 +410,3 @@ goes_to left place to ls (To n) l (same, at) =
     (omega (arith, l, same), subst (λ k. IsAt left k ls) (sym same) at)
 goes_to left place to ls Waits l is = absurd is
 goes_to left place to ls Looks l is = tt
-
-pub rest_front : (left : List ℕ) (place : ℕ) → IsFront (take (length left - place) (drop place left))
-    → IsFront (drop place left)
-rest_front left place is =
-    subst IsFront (take_all (length left - place) (drop place left) (omega (arith, length-drop place left))) is
-
-pub measured_some : (left : List ℕ) (place size deep : ℕ) → IsMeasured (drop place left) size deep → 0 < size
-measured_some left place size deep (v, begins, level) = omega (arith, begins_some (drop place left) size v begins)

@@ -1,12 +1,16 @@
 -- How far the bytes of a value are looked at that isn't whole yet: these compounds are open at this place.
-use Rattle.std.specs.Prelude.{◌≡◌, ℕ, ◌+◌, ◌<◌, ◌≤◌, ◌⊎◌, List, [], ◌∷◌, ◌++◌, length, take, slice_range}
+use Rattle.std.specs.Prelude.{◌≡◌, ℕ, ◌+◌, ◌<◌, ◌≤◌, ◌⊎◌, List, [], ◌∷◌, ◌++◌, length, take, drop}
+use Rattle.std.specs.Prelude.{slice_index, slice_range}
 use Rattle.pv_value.specs.Plain.{Plain}
 use Rattle.pv_value.specs.Depth.{depth}
 use Rattle.pv_read.specs.Limits.{read_depth}
 use Rattle.pv_binary.specs.Spells.{Spells}
 use Rattle.pv_binary.specs.Reads.{BeginsWith}
-use Rattle.pv_binary.specs.Fronts.{Open, Opens}
+use Rattle.pv_binary.specs.Tags.{tag_of}
+use Rattle.pv_binary.specs.Fronts.{Open, Opens, IsCut}
 use Rattle.pv_binary.specs.OneOfThree.{IsFront}
+use Rattle.pv_binary.specs.declared.faults.BinKind.{BinKind}
+use Rattle.pv_binary.specs.declared.faults.BinKind.TheVariants.{Truncated}
 use Rattle.pv_stream.specs.declared.walks.Level.{Level}
 use Rattle.pv_stream.specs.declared.walks.Step.{Step}
 use Rattle.pv_stream.specs.declared.walks.Step.TheVariants.{To, Waits, Looks}
@@ -34,6 +38,15 @@ IsFound left from to outer = (from ≤ to) × (to ≤ length left) × IsValue (s
 -- the first so many bytes spell a value that nests no deeper
 abbrev pub IsMeasured : List ℕ → ℕ → ℕ → Type 0
 IsMeasured bytes size deep = (v : Plain) × BeginsWith bytes size v × (depth v ≤ deep)
+
+-- an atom stands from one place to another: a value that may stand inside as many compounds as are read
+abbrev pub IsAtom : List ℕ → ℕ → ℕ → Type 0
+IsAtom left from to = (from < to) × IsFound left from to read_depth
+
+-- where the fault is that the bytes end, they end inside the atom at this place
+abbrev pub IsCutWhere : List ℕ → ℕ → BinKind → Type 0
+IsCutWhere left place Truncated = IsCut (tag_of (slice_index left place)) (drop (place + 1) left)
+IsCutWhere left place kind = Unit {0}
 
 -- a sequence, or a record in which a byte stands before this place
 abbrev pub IsListed : Level → ℕ → Type 0

@@ -123,10 +123,40 @@ impl Feed {
         ensures fits { IfOk result (λ x. x.size ≤ length self.old.left) }
         ensures bytes { IfOk result (λ x. AreBytes self.old.left) }
     {
-        if self.waits(alloc)? {
-            return Ok(more(self.bytes_left(), self.before()));
+        if self.goes_on(alloc)? {
+            return Ok(more(self.as_slice(), self.before()));
         }
-        first_in(alloc, self.bytes_left(), self.before())
+        let found = first_in(alloc, self.as_slice(), self.before())?;
+        self.look_at(alloc, &found.next)?;
+        Ok(found)
+    }
+
+    /// Whether a value that was looked at before is known not to end yet. Where nothing was, it is
+    /// read at once: most values come whole, and are looked at once so. The one value that is read
+    /// anew with each piece is an atom that is cut, and its count is looked at before its content.
+    fn goes_on(&mut self, alloc: Global) -> Result<bool, NoMemory>
+        ensures same { self.new ≡ self.old }
+        ensures waits { IfOk result (λ b. IsTrue b
+            → (length self.old.left < 262144) × IsFront self.old.left) }
+    {
+        if self.is_fresh() {
+            return Ok(false);
+        }
+        self.waits(alloc)
+    }
+
+    /// Where more is to come, what is there is looked at, so that a later piece goes on behind it.
+    /// At least the first tag of a compound is passed so.
+    fn look_at(&mut self, alloc: Global, next: &Next) -> Result<(), NoMemory>
+        ensures { self.new ≡ self.old }
+    {
+        match next {
+            Next::More => {
+                self.waits(alloc)?;
+                Ok(())
+            }
+            _ => Ok(()),
+        }
     }
 
     /// So many bytes are given, and no longer left.
@@ -174,12 +204,20 @@ impl Feed {
         }
     }
 
-    fn bytes_left(&self) -> &[u8]
+    /// The bytes that are left. It takes no memory.
+    pub fn as_slice(&self) -> &[u8]
         ensures left { result.now ≡ self.now.left }
         ensures bytes { AreBytes self.now.left }
         ensures few { self.now.before + length self.now.left < 2 ^ 63 }
     {
         bytes_behind(&self.bytes, self.start)
+    }
+
+    /// Whether nothing of what is left was looked at yet, so that `first` reads it from the front.
+    /// It takes no memory, and is no promise: it serves a caller that reads the bytes itself before
+    /// it asks, which is in vain where `first` goes on from what it knows. Costs alone hang on it.
+    pub fn is_fresh(&self) -> bool {
+        self.place == 0
     }
 
     /// How many bytes of the stream stand before what is left. It takes no memory.

@@ -1,15 +1,17 @@
 //! How far the bytes of a value are looked at that isn't whole yet: the compounds that are open,
 //! and the place up to which they and what stands in them is known.
-ghost use Rattle.std.specs.Prelude.{◌≡◌, ◌+◌, ◌≤◌, ◌<◌, length, drop, slice_index, slice_range};
-ghost use Rattle.std.specs.Prelude.{[], ◌∷◌, ◌++◌, IfOk, IfSome, IsTrue, IsFalse};
+ghost use Rattle.std.specs.Prelude.{◌≡◌, ◌+◌, ◌≤◌, ◌<◌, length, slice_index, slice_range};
+ghost use Rattle.std.specs.Prelude.{[], ◌∷◌, ◌++◌, IfOk, IfErr, IfSome, IsTrue, IsFalse};
 ghost use Rattle.pv_read.specs.Answers.{IsExact};
 ghost use Rattle.pv_read.specs.Limits.{read_depth};
 ghost use Rattle.pv_binary.specs.Reads.{Stops};
 ghost use Rattle.pv_binary.specs.Reading.{is_compound};
 ghost use Rattle.pv_binary.specs.Tags.{tag_of};
 ghost use Rattle.pv_binary.specs.OneOfThree.{IsFront};
-ghost use Rattle.pv_stream.specs.Walks.{IsAt, IsValue, IsFound, IsMeasured, IsListed, Goes, GoesTo};
+ghost use Rattle.pv_stream.specs.Walks.{IsAt, IsValue, IsFound, IsMeasured, IsListed};
+ghost use Rattle.pv_stream.specs.Walks.{IsAtom, IsCutWhere, Goes, GoesTo};
 
+use crate::passing::past_atom;
 use pv_binary::tags::{DICTIONARY, EMBEDDED, END, RECORD, SEQUENCE, SET};
 use pv_binary::{BinFault, BinKind, read};
 use pv_read::READ_DEPTH;
@@ -74,7 +76,7 @@ fn advance(
     if byte == END {
         return close(alloc, left, place, levels);
     }
-    pass_atom(alloc, left, place, levels)
+    pass_atom(left, place, levels)
 }
 
 /// Whether it is the tag of a compound.
@@ -176,43 +178,31 @@ fn is_whole(alloc: Global, bytes: &[u8], outer: usize) -> Result<bool, NoMemory>
     }
 }
 
-/// What stands at this place is an atom, or a fault.
-fn pass_atom(
-    alloc: Global,
-    left: &[u8],
-    place: usize,
-    levels: &mut Vec<Level>,
-) -> Result<Step, NoMemory>
+/// What stands at this place is an atom, or a fault. No value is made of it.
+fn pass_atom(left: &[u8], place: usize, levels: &mut Vec<Level>) -> Result<Step, NoMemory>
     requires at { IsAt left.now place levels.old.items }
     requires within { place < length left.now }
     requires atom { IsFalse (is_compound (tag_of (slice_index left.now place))) }
     ensures { IfOk result (Goes left.now place levels.new.items) }
 {
-    match measure(alloc, &left[place..]) {
-        Ok((size, deep)) => pass(left, place, size, deep, levels),
-        Err(BinFault::Bad(BinKind::Truncated, _)) => Ok(Step::Waits),
-        Err(BinFault::Bad(_, _)) => Ok(Step::Looks),
-        Err(BinFault::NoMemory) => Err(NoMemory),
+    match end_of_atom(left, place) {
+        Ok(end) => arrive_at(left, place, end, levels),
+        Err(BinKind::Truncated) => Ok(Step::Waits),
+        Err(_) => Ok(Step::Looks),
     }
 }
 
-/// The value of so many bytes at this place, which nests so deep, is there.
-fn pass(
-    left: &[u8],
-    place: usize,
-    size: usize,
-    deep: u32,
-    levels: &mut Vec<Level>,
-) -> Result<Step, NoMemory>
-    requires at { IsAt left.now place levels.old.items }
+/// Where the atom at this place ends, or why none is there. It takes no memory.
+fn end_of_atom(left: &[u8], place: usize) -> Result<usize, BinKind>
     requires within { place < length left.now }
-    requires found { IsMeasured (drop place left.now) size deep }
-    ensures { IfOk result (Goes left.now place levels.new.items) }
+    requires atom { IsFalse (is_compound (tag_of (slice_index left.now place))) }
+    ensures found { IfOk result (IsAtom left.now place) }
+    ensures cut { IfErr result (IsCutWhere left.now place) }
 {
-    if levels.len() > READ_DEPTH as usize || deep as usize + levels.len() > READ_DEPTH as usize {
-        return Ok(Step::Looks);
+    match past_atom(left[place], &left[place + 1..], place) {
+        Ok(rest) => Ok(left.len().saturating_sub(rest.len())),
+        Err(stop) => Err(stop.kind),
     }
-    arrive_at(left, place, place + size, levels)
 }
 
 /// How many bytes spell the value that the bytes begin with, and how deep it nests.
