@@ -172,6 +172,7 @@ impl<Y: System + Drop> Turning<Y> {
     }
 
     /// The rows change by an event, where no more is wanted after it than may be.
+    #[inline(always)]
     fn apply<J: Judge, B: Behaves>(
         self,
         alloc: Global,
@@ -226,6 +227,7 @@ impl<Y: System + Drop> Turning<Y> {
     }
 
     /// A row under a handle comes.
+    #[inline(always)]
     fn take_in<J: Judge, B: Behaves>(
         self,
         alloc: Global,
@@ -292,6 +294,7 @@ impl<Y: System + Drop> Turning<Y> {
     }
 
     /// One event.
+    #[inline(always)]
     fn turn<J: Judge, B: Behaves>(
         mut self,
         alloc: Global,

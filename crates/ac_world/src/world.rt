@@ -226,7 +226,8 @@ impl<S: Space + Drop, J: Judge + Drop, B: Behaves + Drop> World<S, J, B> {
         Ok((self, opened))
     }
 
-    /// A live connection's acts, in order.
+    /// A live actor's acts, in order.
+    #[inline(always)]
     pub fn send(self, alloc: Global, actor: u32, acts: Vec<Act>) -> Result<World<S, J, B>, NoMemory>
         requires { is_live actor self.table ≡ true }
         ensures { IfOk result (λ w. w ≡ sent actor acts.items self) }
@@ -256,6 +257,7 @@ impl<S: Space + Drop, J: Judge + Drop, B: Behaves + Drop> World<S, J, B> {
     }
 
     /// The gatekeeper's turn, its batch taken.
+    #[inline(always)]
     fn gatekeeper_turn(
         self,
         alloc: Global,
@@ -296,6 +298,7 @@ impl<S: Space + Drop, J: Judge + Drop, B: Behaves + Drop> World<S, J, B> {
     }
 
     /// The turn of another system actor, its batch taken.
+    #[inline(always)]
     fn other_turn(
         self,
         alloc: Global,
@@ -351,6 +354,7 @@ impl<S: Space + Drop, J: Judge + Drop, B: Behaves + Drop> World<S, J, B> {
     }
 
     /// A connection's turn, its batch taken.
+    #[inline(always)]
     fn connection_turn(
         mut self,
         alloc: Global,
@@ -366,6 +370,7 @@ impl<S: Space + Drop, J: Judge + Drop, B: Behaves + Drop> World<S, J, B> {
     }
 
     /// A live actor's turn, its batch taken.
+    #[inline(always)]
     fn turn_with(
         self,
         alloc: Global,

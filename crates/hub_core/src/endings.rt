@@ -10,7 +10,7 @@ ghost use Rattle.hub_core.specs.Work.{waited_for};
 use crate::hub::Hub;
 use crate::packets::keeps_its_order;
 use crate::unlooked::Unlooked;
-use ac_world::{FIRST_CONNECTION, Load, Spread};
+use ac_world::{BEFORE_CONNECTIONS, FIRST_CONNECTION, Load, Spread};
 use ds_space::Space;
 use hub_machine::{DATASPACES, DELIVERIES, DELIVERIES_WEIGHT, Fault, Reply, overrun};
 use lc_watch::Behaves;
@@ -53,7 +53,7 @@ impl<S: Space + Drop, J: Judge + Drop, B: Behaves + Drop> Hub<S, J, B> {
         requires { connection ≤ 2 ^ 31 }
         ensures { IfOk result (λ h. h ≡ departed connection self) }
     {
-        self.dismiss(alloc, 16 + connection)
+        self.dismiss(alloc, BEFORE_CONNECTIONS + connection)
     }
 
     /// A connection ends.
@@ -96,6 +96,7 @@ impl<S: Space + Drop, J: Judge + Drop, B: Behaves + Drop> Hub<S, J, B> {
 
     /// Who spread ends, where it isn't always live: a connection for a fault, where it is there,
     /// and a watcher without one.
+    #[inline(always)]
     fn spread_out(self, alloc: Global, spread: Spread) -> Result<Hub<S, J, B>, NoMemory>
         ensures { IfOk result (λ h. h ≡ spread_out spread self) }
     {
@@ -105,13 +106,15 @@ impl<S: Space + Drop, J: Judge + Drop, B: Behaves + Drop> Hub<S, J, B> {
         if spread.actor < FIRST_CONNECTION {
             return self.dismiss(alloc, spread.actor);
         }
-        if !self.live(spread.actor - 16) {
+        let connection = spread.actor - BEFORE_CONNECTIONS;
+        if !self.live(connection) {
             return Ok(self);
         }
-        self.fail(alloc, spread.actor - 16, Fault::Spread(spread.weight))
+        self.fail(alloc, connection, Fault::Spread(spread.weight))
     }
 
     /// Those that spread end, in order.
+    #[inline(always)]
     fn all_spread_out(self, alloc: Global, spreads: &[Spread]) -> Result<Hub<S, J, B>, NoMemory>
         ensures { IfOk result (λ h. h ≡ all_spread_out spreads.now self) }
     {
@@ -130,10 +133,11 @@ impl<S: Space + Drop, J: Judge + Drop, B: Behaves + Drop> Hub<S, J, B> {
         if !self.live(connection) {
             return None;
         }
-        overrun_by(self.world.deliveries(16 + connection))
+        overrun_by(self.world.deliveries(BEFORE_CONNECTIONS + connection))
     }
 
     /// A connection ends, where there is a fault.
+    #[inline(always)]
     fn fail_where(
         self,
         alloc: Global,
@@ -194,6 +198,7 @@ impl<S: Space + Drop, J: Judge + Drop, B: Behaves + Drop> Hub<S, J, B> {
     }
 
     /// Nobody is left to be looked at.
+    #[inline(always)]
     fn looked(mut self) -> Hub<S, J, B>
         requires { AreWithin self }
         ensures { result ≡ self }
@@ -203,6 +208,7 @@ impl<S: Space + Drop, J: Judge + Drop, B: Behaves + Drop> Hub<S, J, B> {
     }
 
     /// The one connection is looked at that is left, and ends, where it has to.
+    #[inline(always)]
     fn look_at(self, alloc: Global, connection: u32) -> Result<Hub<S, J, B>, NoMemory>
         requires { AreWithinBut connection self }
         ensures { IfOk result (λ h. h ≡ each_overrun self) }
@@ -213,6 +219,7 @@ impl<S: Space + Drop, J: Judge + Drop, B: Behaves + Drop> Hub<S, J, B> {
     }
 
     /// Each connection for which a batch waits is looked at, and those end who have to.
+    #[inline(always)]
     fn look_at_waiting(self, alloc: Global) -> Result<Hub<S, J, B>, NoMemory>
         requires { IdleAreWithin self }
         ensures { IfOk result (λ h. h ≡ each_overrun self) }
@@ -232,6 +239,7 @@ impl<S: Space + Drop, J: Judge + Drop, B: Behaves + Drop> Hub<S, J, B> {
     }
 
     /// Those are looked at that are left, and those end who have to.
+    #[inline(always)]
     fn look(self, alloc: Global) -> Result<Hub<S, J, B>, NoMemory>
         ensures { IfOk result (λ h. h ≡ each_overrun self) }
     {
@@ -244,6 +252,7 @@ impl<S: Space + Drop, J: Judge + Drop, B: Behaves + Drop> Hub<S, J, B> {
     }
 
     /// The step's end: those end who have to.
+    #[inline(always)]
     fn finish(self, alloc: Global, spreads: &[Spread]) -> Result<Hub<S, J, B>, NoMemory>
         ensures { IfOk result (λ h. h ≡ finished spreads.now self) }
     {
@@ -252,6 +261,7 @@ impl<S: Space + Drop, J: Judge + Drop, B: Behaves + Drop> Hub<S, J, B> {
     }
 
     /// A step that did something is answered, at whose end those end who have to.
+    #[inline(always)]
     pub(crate) fn ends(
         self,
         alloc: Global,

@@ -13,7 +13,7 @@ ghost use Rattle.hub_machine.specs.Replays.{pending, lowest, first_failed, least
 ghost use Rattle.hub_core.specs.Work.{named_by};
 
 use crate::unlooked::Unlooked;
-use ac_world::{Watched, World};
+use ac_world::{BEFORE_CONNECTIONS, Watched, World};
 use ds_space::{Reference, Space, reference_value};
 use gk_sturdy::Binding;
 use hub_machine::{CONNECTIONS, DATASPACES, Fault, Reply, Step, WORN_CONNECTIONS, WORN_HANDLE};
@@ -120,7 +120,7 @@ impl<S: Space + Drop, J: Judge + Drop, B: Behaves + Drop> Hub<S, J, B> {
         ensures { result ≡ option_map actor_of (first_failed self.now) }
     {
         let (connection, _) = self.faults.first_key_value()?;
-        Some(16 + *connection)
+        Some(BEFORE_CONNECTIONS + *connection)
     }
 
     /// The lowest actor that has work: a batch waits for it, or it is to be told of a fault.
@@ -136,7 +136,7 @@ impl<S: Space + Drop, J: Judge + Drop, B: Behaves + Drop> Hub<S, J, B> {
         ensures small { IfSome result (λ ports. connection ≤ 2 ^ 31) }
     {
         let ports = self.connections.get(&connection)?;
-        if self.world.live(16 + connection) {
+        if self.world.live(BEFORE_CONNECTIONS + connection) {
             Some(ports)
         } else {
             None
@@ -155,8 +155,9 @@ impl<S: Space + Drop, J: Judge + Drop, B: Behaves + Drop> Hub<S, J, B> {
     pub(crate) fn named_by(&self, actor: u32) -> Option<u32>
         ensures { result ≡ named_by actor self.now }
     {
-        if actor >= 16 && self.connections.contains_key(&(actor - 16)) {
-            Some(actor - 16)
+        if actor >= BEFORE_CONNECTIONS && self.connections.contains_key(&(actor - BEFORE_CONNECTIONS))
+        {
+            Some(actor - BEFORE_CONNECTIONS)
         } else {
             None
         }
@@ -311,6 +312,7 @@ impl<S: Space + Drop, J: Judge + Drop, B: Behaves + Drop> Hub<S, J, B> {
     }
 
     /// A step that may be done.
+    #[inline(always)]
     fn machine_step(self, alloc: Global, event: Step) -> Result<(Hub<S, J, B>, Reply), NoMemory>
         ensures state { IfOk result (λ done. done.0 ≡ (step_of self event).state) }
         ensures reply { IfOk result (λ done. done.1 ≡ (step_of self event).reply) }

@@ -17,6 +17,7 @@ ghost use Rattle.hub_valid.specs.Validity.{lived, IsValid, IsValidEntry};
 ghost use Rattle.hub_packets.specs.Refusals.{IsCauseAnd};
 
 use crate::hub::Hub;
+use ac_world::BEFORE_CONNECTIONS;
 use ds_space::Space;
 use hub_machine::{Fault, Reply};
 use hub_packets::{Admitting, Refusal, admission};
@@ -37,6 +38,7 @@ pub(crate) fn keeps_its_order(connections: &BTreeMap<u32, Ports>)
 
 impl<S: Space + Drop, J: Judge + Drop, B: Behaves + Drop> Hub<S, J, B> {
     /// A live connection's names, which are taken out of the state.
+    #[inline(always)]
     pub(crate) fn take_ports(&mut self, connection: u32) -> Option<Ports>
         ensures ports { result ≡ ports_of connection self.old }
         ensures state { self.new
@@ -54,6 +56,7 @@ impl<S: Space + Drop, J: Judge + Drop, B: Behaves + Drop> Hub<S, J, B> {
     }
 
     /// What a packet does is done, and its connection names what it leaves.
+    #[inline(always)]
     fn accept(
         self,
         alloc: Global,
@@ -75,7 +78,7 @@ impl<S: Space + Drop, J: Judge + Drop, B: Behaves + Drop> Hub<S, J, B> {
         let (acts, ports) = admitting.into_parts();
         connections.insert(connection, ports)?;
         let unlooked = unlooked.and_acted(connection, &acts);
-        let world = world.send(alloc, 16 + connection, acts)?;
+        let world = world.send(alloc, BEFORE_CONNECTIONS + connection, acts)?;
         Ok(Hub {
             world,
             connections,
@@ -108,6 +111,7 @@ impl<S: Space + Drop, J: Judge + Drop, B: Behaves + Drop> Hub<S, J, B> {
     }
 
     /// A packet of a connection whose names were taken out of the state.
+    #[inline(always)]
     fn judge_packet(
         self,
         alloc: Global,

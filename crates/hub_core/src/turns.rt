@@ -11,7 +11,7 @@ ghost use Rattle.hub_core.specs.Telling.{IsToldSoundly, told_by};
 
 use crate::hub::Hub;
 use ac_table::Batch;
-use ac_world::{FIRST_CONNECTION, Turned};
+use ac_world::{BEFORE_CONNECTIONS, FIRST_CONNECTION, Turned};
 use ds_space::Space;
 use hub_machine::Reply;
 use hub_packets::all_to_send;
@@ -33,7 +33,7 @@ impl<S: Space + Drop, J: Judge + Drop, B: Behaves + Drop> Hub<S, J, B> {
         if actor < FIRST_CONNECTION {
             return Ok((self, Reply::Gone));
         }
-        match self.faults.remove(&(actor - 16)) {
+        match self.faults.remove(&(actor - BEFORE_CONNECTIONS)) {
             Some(fault) => {
                 let packet = fault.packet(alloc)?;
                 self.ends(alloc, &[], Reply::Sent(packet))
@@ -43,6 +43,7 @@ impl<S: Space + Drop, J: Judge + Drop, B: Behaves + Drop> Hub<S, J, B> {
     }
 
     /// A connection names this from now on.
+    #[inline(always)]
     fn name(mut self, connection: u32, ports: Ports) -> Result<Hub<S, J, B>, NoMemory>
         requires small { connection ≤ 2 ^ 31 }
         requires valid { IsValid self → IsValid
@@ -57,6 +58,7 @@ impl<S: Space + Drop, J: Judge + Drop, B: Behaves + Drop> Hub<S, J, B> {
 
     /// A connection's batch is sent, and what it tells of is exported; or the connection ends,
     /// where that is too much.
+    #[inline(always)]
     fn tell(
         mut self,
         alloc: Global,
@@ -77,6 +79,7 @@ impl<S: Space + Drop, J: Judge + Drop, B: Behaves + Drop> Hub<S, J, B> {
     }
 
     /// A connection's batch is told by its names, which were taken out of the state.
+    #[inline(always)]
     fn tell_by(
         self,
         alloc: Global,
@@ -104,6 +107,7 @@ impl<S: Space + Drop, J: Judge + Drop, B: Behaves + Drop> Hub<S, J, B> {
     }
 
     /// What follows from what the world tells of a turn that is done.
+    #[inline(always)]
     fn after_turn(
         self,
         alloc: Global,
@@ -116,7 +120,7 @@ impl<S: Space + Drop, J: Judge + Drop, B: Behaves + Drop> Hub<S, J, B> {
     {
         match turned {
             Turned::Ran(spreads) => self.ends(alloc, spreads.as_slice(), Reply::Ran),
-            Turned::Taken(batch) => self.tell(alloc, actor.saturating_sub(16), batch),
+            Turned::Taken(batch) => self.tell(alloc, actor.saturating_sub(BEFORE_CONNECTIONS), batch),
             Turned::Idle => Ok((self, Reply::Idle)),
             Turned::Gone => self.tell_fault(alloc, actor),
         }

@@ -4,7 +4,7 @@ ghost use Rattle.std.specs.List.{list_any};
 ghost use Rattle.hub_core.specs.Looking.{and_one, and_waiting, is_at_connection, and_acted};
 ghost use Rattle.hub_core.specs.Looking.{and_turned};
 
-use ac_world::{Act, Turned};
+use ac_world::{Act, BEFORE_CONNECTIONS, Turned};
 use hub_machine::DATASPACES;
 
 /// The connections that are left to be looked at at the step's end.
@@ -75,7 +75,7 @@ impl Unlooked {
     {
         match turned {
             Turned::Ran(_) => self.and_waiting(),
-            Turned::Taken(_) => self.and(actor.saturating_sub(16)),
+            Turned::Taken(_) => self.and(actor.saturating_sub(BEFORE_CONNECTIONS)),
             Turned::Idle | Turned::Gone => self,
         }
     }

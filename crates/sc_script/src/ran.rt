@@ -11,9 +11,8 @@ use crate::scripts::run_of;
 use ds_space::Space;
 use lc_guard::Predicate;
 use lc_watch::{Behaves, Behaviour};
-use pv_binary::write_into;
 use pv_value::{Blob, NoMemory};
-use rl_packet::{Packet, held, packet_value};
+use rl_packet::{Packet, held, write_packet_into};
 use sc_events::Form;
 use sc_report::{Connection, Ran};
 use sr_pass::Judge;
@@ -25,8 +24,7 @@ fn spelled(alloc: Global, packets: &[Packet]) -> Result<Blob, NoMemory>
 {
     let mut bytes = Vec::new(alloc);
     for packet in packets {
-        let value = packet_value(alloc, packet)?;
-        write_into(&mut bytes, &value)?;
+        write_packet_into(&mut bytes, packet)?;
     }
     Blob::from_vec(bytes)
 }

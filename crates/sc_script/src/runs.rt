@@ -95,6 +95,7 @@ impl<S: Space + Drop, J: Judge + Drop, B: Behaves + Drop> Run<S, J, B> {
 
     /// A packet was sent by a step, which is an actor's turn: it is kept for its connection, and
     /// its bytes count.
+    #[inline(always)]
     fn note(
         self,
         alloc: Global,
@@ -163,6 +164,7 @@ impl<S: Space + Drop, J: Judge + Drop, B: Behaves + Drop> Run<S, J, B> {
     }
 
     /// A step, whose condition is seen to.
+    #[inline(always)]
     fn step(self, alloc: Global, event: Step) -> Result<Run<S, J, B>, ScriptFault>
         requires { IsAllowed self.state event }
         ensures run { IfOk result (RunsAs self (λ N. stepped event)) }
@@ -196,6 +198,7 @@ impl<S: Space + Drop, J: Judge + Drop, B: Behaves + Drop> Run<S, J, B> {
     }
 
     /// A turn of an actor.
+    #[inline(always)]
     fn turn(self, alloc: Global, actor: u32) -> Result<Run<S, J, B>, ScriptFault>
         ensures run { IfOk result (RunsAs self (λ N. turned actor)) }
         ensures stop { IfErr result (StopsAs self (λ N. turned actor)) }
@@ -219,6 +222,7 @@ impl<S: Space + Drop, J: Judge + Drop, B: Behaves + Drop> Run<S, J, B> {
     }
 
     /// A connection's stream is put back.
+    #[inline(always)]
     fn with_stream(self, connection: u32, stream: Stream) -> Result<Run<S, J, B>, NoMemory>
         ensures { IfOk result (RunsAs self (λ N r. goes (with_stream connection stream r))) }
     {
@@ -238,6 +242,7 @@ impl<S: Space + Drop, J: Judge + Drop, B: Behaves + Drop> Run<S, J, B> {
     }
 
     /// A turn of a connection.
+    #[inline(always)]
     fn send(self, alloc: Global, connection: u32, turn: Turn) -> Result<Run<S, J, B>, ScriptFault>
         ensures run { IfOk result (RunsAs self (λ N. stepped (steps.Packet connection turn))) }
         ensures stop { IfErr result (StopsAs self (λ N. stepped (steps.Packet connection turn))) }
@@ -270,6 +275,7 @@ impl<S: Space + Drop, J: Judge + Drop, B: Behaves + Drop> Run<S, J, B> {
     }
 
     /// A packet of a connection. The stream behind it is put back where no more is read.
+    #[inline(always)]
     fn packet(
         self,
         alloc: Global,
@@ -330,6 +336,7 @@ impl<S: Space + Drop, J: Judge + Drop, B: Behaves + Drop> Run<S, J, B> {
     }
 
     /// Bytes of a connection come.
+    #[inline(always)]
     fn bytes(
         self,
         alloc: Global,
@@ -376,6 +383,7 @@ impl<S: Space + Drop, J: Judge + Drop, B: Behaves + Drop> Run<S, J, B> {
     }
 
     /// Event `place` of a script.
+    #[inline(always)]
     fn event(
         self,
         alloc: Global,

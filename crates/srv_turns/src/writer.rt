@@ -17,9 +17,8 @@ use ac_world::BEFORE_CONNECTIONS;
 use hub_machine::{Reply, Step};
 use out_ports::ports::{Offered, Outgoing};
 use out_ports::streams::WriteFault;
-use pv_binary::write_into;
 use pv_value::NoMemory;
-use rl_packet::{Packet, packet_value};
+use rl_packet::{Packet, write_packet_into};
 use std::alloc::Global;
 use std::sync::Wait;
 use turn_gate::GateFault;
@@ -54,14 +53,13 @@ enum Pause {
 }
 
 /// Writes a packet behind what is gathered. For want of memory nothing is written.
-fn gather(alloc: Global, packet: &Packet, gathered: &mut Vec<u8>) -> Result<(), NoMemory>
+fn gather(packet: &Packet, gathered: &mut Vec<u8>) -> Result<(), NoMemory>
     ensures written { OnOk result (gathered.new.items
         ≡ gathered.old.items ++ written (packet_value packet.now)) }
     ensures undone { OnErr result (gathered.new.items ≡ gathered.old.items) }
 {
-    let value = packet_value(alloc, packet)?;
     let before = gathered.len();
-    let done = write_into(gathered, &value);
+    let done = write_packet_into(gathered, packet);
     if done.is_err() {
         gathered.truncate(before);
     }
@@ -70,20 +68,20 @@ fn gather(alloc: Global, packet: &Packet, gathered: &mut Vec<u8>) -> Result<(), 
 
 /// Writes the packet that a reply sends, where it sends one, behind what is gathered. For want of
 /// memory nothing is written.
-fn gather_reply(alloc: Global, reply: &Reply, gathered: &mut Vec<u8>) -> Result<(), NoMemory>
+fn gather_reply(reply: &Reply, gathered: &mut Vec<u8>) -> Result<(), NoMemory>
     ensures written { OnOk result (gathered.new.items
         ≡ gathered.old.items ++ spelled_of reply.now) }
     ensures undone { OnErr result (gathered.new.items ≡ gathered.old.items) }
 {
     match reply {
-        Reply::Sent(packet) => gather(alloc, packet, gathered),
+        Reply::Sent(packet) => gather(packet, gathered),
         _ => Ok(()),
     }
 }
 
 /// Writes the packets that these replies send behind what is gathered. For want of memory those
 /// of a front are written.
-fn gather_all(alloc: Global, replies: &[Reply], gathered: &mut Vec<u8>) -> Result<(), NoMemory>
+fn gather_all(replies: &[Reply], gathered: &mut Vec<u8>) -> Result<(), NoMemory>
     ensures written { OnOk result (gathered.new.items
         ≡ gathered.old.items ++ spelled_in replies.now) }
     ensures front { OnErr result ((bytes rest : List ℕ)
@@ -91,7 +89,7 @@ fn gather_all(alloc: Global, replies: &[Reply], gathered: &mut Vec<u8>) -> Resul
         × (spelled_in replies.now ≡ bytes ++ rest)) }
 {
     for reply in replies {
-        gather_reply(alloc, reply, gathered)?;
+        gather_reply(reply, gathered)?;
     }
     Ok(())
 }
@@ -132,7 +130,6 @@ fn end_at(fault: GateFault) -> WriterEnd
 /// made for now, where that is so.
 fn make_row<Rt: Wait, T: Turns>(
     rt: &Rt,
-    alloc: Global,
     connection: u32,
     row: &mut Row,
     gathered: &mut Vec<u8>,
@@ -145,7 +142,7 @@ fn make_row<Rt: Wait, T: Turns>(
 {
     let actor = BEFORE_CONNECTIONS + connection;
     let done = row.commit(rt, Step::Turn(actor), Behind::Turns(actor), turns);
-    let all = gather_all(alloc, row.replies(), gathered);
+    let all = gather_all(row.replies(), gathered);
     let last = row.last();
     if let Err(NoMemory) = all {
         return Some(Pause::Over(WriterEnd::NoMemory));
@@ -160,7 +157,6 @@ fn make_row<Rt: Wait, T: Turns>(
 /// behind one of these rows 65,536 bytes are gathered.
 fn make_turns<Rt: Wait, T: Turns>(
     rt: &Rt,
-    alloc: Global,
     connection: u32,
     row: &mut Row,
     gathered: &mut Vec<u8>,
@@ -173,7 +169,7 @@ fn make_turns<Rt: Wait, T: Turns>(
 {
     gathered.clear();
     for _ in rt.forever() {
-        if let Some(pause) = make_row(rt, alloc, connection, row, gathered, turns) {
+        if let Some(pause) = make_row(rt, connection, row, gathered, turns) {
             return pause;
         }
         if gathered.len() >= PIECE {
@@ -311,7 +307,7 @@ fn put_turns<Rt: Wait, W: Outgoing, T: Turns>(
     let mut gathered = Vec::new(alloc);
     let mut hurries = false;
     for _ in rt.forever() {
-        let pause = make_turns(rt, alloc, connection, row, &mut gathered, turns);
+        let pause = make_turns(rt, connection, row, &mut gathered, turns);
         if let Err(WriteFault) = put_all(rt, connection, link, &gathered, &mut hurries, turns) {
             return close(rt, connection, row, turns);
         }

@@ -29,8 +29,8 @@ pub enum GateFault {
 /// The most steps that a gate takes.
 pub const MOST: u64 = 1 << 62;
 
-// How many words are a line of the processor's memory, which one thread at a time writes. Each of
-// these words begins one.
+// How many words are a line of the processor's memory, which one thread at a time writes. The count
+// and the lock have one each; the words by which callers sleep for the lock share one.
 const LINE: usize = 8;
 
 // How many steps stand.
