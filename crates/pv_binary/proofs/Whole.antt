@@ -1,7 +1,7 @@
 -- The reader's clauses, from what it computes, and the uniqueness of spellings.
 use Rattle.std.proofs.Common.{◌≡◌, ℕ, zero, suc, max, ◌++◌, ◌-◌, ◌<◌, ◌≤◌, List, [], ◌∷◌, length, get_or, take, drop}
 use Rattle.std.proofs.Common.{Ok, Err, sym, ap, ◌∙◌, subst, length-append, length-drop, arith}
-use Rattle.std.proofs.Math.Seq.{take-append_seam}
+use Rattle.std.proofs.Math.Seq.{take-append_seam, drop-append_seam}
 use Rattle.std.proofs.lemmas.List.{take-append-drop, append_cancel_right}
 use Rattle.pv_value.specs.Plain.{Plain}
 use Rattle.pv_value.specs.Depth.{depth}
@@ -9,7 +9,7 @@ use Rattle.pv_read.specs.Results.{Fault}
 use Rattle.pv_binary.specs.declared.faults.BinKind.{BinKind}
 use Rattle.pv_binary.specs.Reading.{value_at}
 use Rattle.pv_binary.specs.Spells.{Spells}
-use Rattle.pv_binary.specs.Reads.{BeginsWith}
+use Rattle.pv_binary.specs.Reads.{BeginsWith, LeadsWithin}
 use Rattle.pv_read.specs.Lemmas.Binds.{parts}
 use Rattle.pv_binary.proofs.Varints.{IsBytes}
 use Rattle.pv_binary.proofs.Sound.{value_sound}
@@ -58,3 +58,20 @@ unique_law a b x y v w s t e =
     let g = (again w zero d b t (omega arith)).reads y in
     let p = parts v w x y (sym f ∙ ap (value_at zero d) e ∙ g) in
     (front_same a b x y e p.1, p.0)
+
+-- what is read with this bound leads the bytes within it
+pub leads_law : (total d : ℕ) (bytes : List ℕ) (v : Plain) (rest : List ℕ) → IsBytes bytes → value_at total d bytes
+    ≡ Ok (v, rest) → LeadsWithin d bytes v rest
+leads_law total d bytes v rest all e =
+    let f = value_sound total d bytes v rest all e in
+    let l = ap length f.is in
+    let k = length-append f.front rest in
+    let n : ℕ = length f.front in
+    let t : take n bytes ≡ f.front = ap (take n) f.is ∙ take-append_seam f.front rest in
+    let u : drop n bytes ≡ rest = ap (drop n) f.is ∙ drop-append_seam f.front rest in
+    (n, omega arith, subst (λ b. Spells b v) (sym t) f.spells, f.shallow, sym u)
+
+-- a fault comes only where nothing leads within the bound
+pub none_leads : (d : ℕ) (bytes : List ℕ) (f : Fault BinKind) → value_at (length bytes) d bytes ≡ Err f → (v : Plain)
+    (more : List ℕ) → LeadsWithin d bytes v more → ⊥
+none_leads d bytes f e v more l = let w = sym (only_law (length bytes) d bytes l.0 v l.2 l.3) ∙ e in cc

@@ -1,14 +1,15 @@
 //! Reading values.
-ghost use Rattle.std.specs.Prelude.{◌≡◌, ℕ, List, length, map, IfOk, Option};
+ghost use Rattle.std.specs.Prelude.{◌≡◌, ◌≤◌, ℕ, List, length, map, IfOk, IfSome, IfNone, Option};
 ghost use Rattle.pv_value.specs.Plain.{Plain};
 ghost use Rattle.pv_value.specs.Sets.{IsMade};
 ghost use Rattle.pv_value.specs.View.{key_and_value};
 ghost use Rattle.pv_read.specs.Answers.{Gives, IsAnswer, IsExact, IsFault};
+ghost use Rattle.pv_read.specs.Limits.{read_depth};
 ghost use Rattle.pv_read.specs.Results.{Fault, within};
 ghost use Rattle.pv_binary.specs.Fronts.{Front, truncated, Stands};
 ghost use Rattle.pv_binary.specs.Reading.{no_tag, atom_at, made_at, items_at, pairs_at};
 ghost use Rattle.pv_binary.specs.Reading.{compound_at, value_at};
-ghost use Rattle.pv_binary.specs.Reads.{BeginsWith, Stops};
+ghost use Rattle.pv_binary.specs.Reads.{BeginsWith, LeadsWithin, Stops};
 ghost use Rattle.pv_binary.specs.declared.faults.BinKind.{BinKind};
 
 use crate::atoms::{read_counted, read_double, read_int, read_text};
@@ -16,7 +17,7 @@ use crate::faults::{BinFault, BinKind};
 use crate::tag::Tag;
 use crate::tags::END;
 use pv_read::{READ_DEPTH, at};
-use pv_value::{Blob, Entry, Items, SetFault, Text, Value};
+use pv_value::{Blob, Entry, Items, NoMemory, SetFault, Text, Value};
 use std::alloc::Global;
 
 /// The value that the bytes begin with, and how many bytes spell it. Bytes may follow.
@@ -39,6 +40,25 @@ pub fn read(alloc: Global, bytes: &[u8]) -> Result<(Value, usize), BinFault>
 {
     let (value, rest) = read_value(alloc, bytes, bytes.len(), READ_DEPTH)?;
     Ok((value, bytes.len() - rest.len()))
+}
+
+/// The value that the bytes begin with, where it nests at most `budget` deep, and the bytes behind
+/// it. For who reads what stands around it; why there is none, `read` tells.
+pub fn read_within(
+    alloc: Global,
+    bytes: &[u8],
+    budget: u32,
+) -> Result<Option<(Value, &[u8])>, NoMemory>
+    requires { budget ≤ read_depth }
+    ensures found { IfOk result (λ o. IfSome o (λ x. LeadsWithin budget bytes.now x.0 x.1.now)) }
+    ensures none { IfOk result (λ o. IfNone o ((v : Plain) (more : List ℕ)
+        → LeadsWithin budget bytes.now v more → ⊥)) }
+{
+    match read_value(alloc, bytes, bytes.len(), budget) {
+        Ok(found) => Ok(Some(found)),
+        Err(BinFault::NoMemory) => Err(NoMemory),
+        Err(BinFault::Bad(_, _)) => Ok(None),
+    }
 }
 
 /// The value that the bytes begin with, which nests at most `budget` deep, and the bytes after it.
