@@ -1,5 +1,5 @@
 //! Reading atoms, from behind their tags. Nothing here takes memory.
-ghost use Rattle.std.specs.Prelude.{◌≡◌, ◌≤◌, ◌<◌, ◌*◌, ◌^◌, length, IfOk};
+ghost use Rattle.std.specs.Prelude.{◌≡◌, ◌≤◌, ◌<◌, ◌*◌, ◌^◌, [], ◌∷◌, ◌++◌, length, replicate, IfOk};
 ghost use Rattle.std.specs.Int.{w64, from_be_bytes};
 ghost use Rattle.pv_read.specs.Answers.{Answers};
 ghost use Rattle.pv_binary.specs.Reading.{sign, pad, is_minimal, int_value, int_at, varint_at};
@@ -8,7 +8,7 @@ ghost use Rattle.pv_binary.specs.Reading.{split_at, counted_at, text_at, double_
 use crate::faults::BinKind;
 use crate::tags::DOUBLE_BYTES;
 use crate::writing::repeats_sign;
-use simdutf8::compat::from_utf8;
+use simdutf8::basic::from_utf8;
 
 /// The bits of the double behind its tag, and the bytes behind it: the 8, and the eight bytes of its
 /// bits.
@@ -43,7 +43,7 @@ pub fn read_text(bytes: &[u8]) -> Result<(&str, &[u8]), BinKind>
 pub fn read_int(bytes: &[u8]) -> Result<(i128, &[u8]), BinKind>
     ensures { Answers (λ x. (x.0, x.1.now)) result (int_at bytes.now) }
 {
-    let (count, rest) = read_varint(bytes, 9)?;
+    let (count, rest) = read_count(bytes)?;
     if count > 16 {
         return Err(BinKind::TooWide);
     }
@@ -59,7 +59,7 @@ pub fn read_int(bytes: &[u8]) -> Result<(i128, &[u8]), BinKind>
 pub fn read_counted(bytes: &[u8]) -> Result<(&[u8], &[u8]), BinKind>
     ensures { Answers (λ x. (x.0.now, x.1.now)) result (counted_at bytes.now) }
 {
-    let (count, rest) = read_varint(bytes, 9)?;
+    let (count, rest) = read_count(bytes)?;
     split(rest, count)
 }
 
@@ -71,6 +71,19 @@ fn split(bytes: &[u8], count: u64) -> Result<(&[u8], &[u8]), BinKind>
         return Err(BinKind::Truncated);
     }
     Ok(bytes.split_at(count as usize))
+}
+
+/// A count in its shortest form, which most often is one byte.
+#[inline]
+fn read_count(bytes: &[u8]) -> Result<(u64, &[u8]), BinKind>
+    ensures { Answers (λ x. (x.0, x.1.now)) result (varint_at 9 bytes.now) }
+{
+    if let Some((byte, rest)) = bytes.split_first() {
+        if *byte < 128 {
+            return Ok((u64::from(*byte), rest));
+        }
+    }
+    read_varint(bytes, 9)
 }
 
 /// A count in its shortest form; after `left` more bytes the tenth is reached, which holds one bit.
@@ -119,6 +132,32 @@ fn int_of(digits: &[u8]) -> i128
 
 /// The same in 16 bytes.
 fn padded(digits: &[u8]) -> [u8; 16]
+    requires { length digits.now ≤ 16 }
+    ensures { result ≡ pad digits.now }
+{
+    match digits {
+        [first] if *first < 128 => last_four(0, 0, 0, *first),
+        [first, second] if *first < 128 => last_four(0, 0, *first, *second),
+        [first, second, third] if *first < 128 => last_four(0, *first, *second, *third),
+        [first, second, third, fourth] if *first < 128 => {
+            last_four(*first, *second, *third, *fourth)
+        }
+        _ => padded_any(digits),
+    }
+}
+
+/// Four bytes behind twelve that are 0.
+#[inline]
+fn last_four(first: u8, second: u8, third: u8, fourth: u8) -> [u8; 16]
+    ensures { result ≡ replicate 12 0 ++ first ∷ second ∷ third ∷ fourth ∷ [] }
+{
+    [
+        0, 0, 0, 0, 0, 0, 0, 0, 0, 0, 0, 0, first, second, third, fourth,
+    ]
+}
+
+/// The same for a number of any sign and length.
+fn padded_any(digits: &[u8]) -> [u8; 16]
     requires { length digits.now ≤ 16 }
     ensures { result ≡ pad digits.now }
 {
