@@ -1,5 +1,5 @@
 //! Reading values.
-ghost use Rattle.std.specs.Prelude.{◌≡◌, ◌≤◌, ℕ, List, length, map, IfOk, IfSome, IfNone, Option};
+ghost use Rattle.std.specs.Prelude.{◌≡◌, ◌≤◌, ℕ, List, [], ◌∷◌, ◌++◌, length, map, IfOk, IfSome, IfNone, Option};
 ghost use Rattle.pv_value.specs.Plain.{Plain};
 ghost use Rattle.pv_value.specs.Sets.{IsMade};
 ghost use Rattle.pv_value.specs.View.{key_and_value};
@@ -185,7 +185,7 @@ fn read_items(
             return Ok((items, after));
         }
         let (value, after) = read_value(alloc, rest, total, budget)?;
-        items.push(value)?;
+        append(&mut items, value, after)?;
         rest = after;
     }
     Err(BinFault::Bad(BinKind::Truncated, total))
@@ -213,10 +213,26 @@ fn read_pairs(
         }
         let (key, after) = read_value(alloc, rest, total, budget)?;
         let (value, after) = read_value(alloc, after, total, budget)?;
-        entries.push(Entry { key, value })?;
+        append(&mut entries, Entry { key, value }, after)?;
         rest = after;
     }
     Err(BinFault::Bad(BinKind::Truncated, total))
+}
+
+/// Appends what stands before these bytes. The first item takes room for itself alone where the end
+/// follows, and else for three, so that a short list takes memory once and keeps what it took.
+fn append<T: Drop>(list: &mut Vec<T>, item: T, after: &[u8]) -> Result<(), NoMemory>
+    ensures { IfOk result (λ _. list.new.items ≡ list.old.items ++ item ∷ []) }
+{
+    if list.is_empty() {
+        let room = match after {
+            [byte, ..] if *byte == END => 1,
+            _ => 3,
+        };
+        list.reserve_exact(room)?;
+    }
+    list.push(item)?;
+    Ok(())
 }
 
 /// What the elements or entries of a compound make, whose tag stands at this place.

@@ -12,7 +12,7 @@ read_items-loop-preserved t c =
     c.loop.items.items _ c.loop.rest.now c.in-Some.after.now c.in-Some.byte.now c.in_ok-value.value
     c.in_ok-value.after.now _
     c.loop.invariant (omega arith) c.in-Some.ensures.cases.0 c.if-byte.false c.in_ok-value.ensures
-    c.in_ok-push.ensures.items
+    c.in_ok-append.ensures
 
 pub read_items-returns-in_default : goal.read_items-returns-in_default
 read_items-returns-in_default t c =
@@ -41,7 +41,7 @@ read_pairs-loop-preserved t c =
     element_step c.args.total (entry_at inner) (length c.args.bytes.now - c.loop.counter) _ _ _ c.loop.rest.now
     c.in-Some.after.now c.in-Some.byte.now (c.in_ok-key.key, c.in_ok-value.value) c.in_ok-value.after.now _
     c.loop.invariant (omega arith) c.in-Some.ensures.cases.0 c.if-byte.false entry
-    (entry_appended c.loop.entries.items _ _ c.in_ok-push.ensures.items)
+    (entry_appended c.loop.entries.items _ _ c.in_ok-append.ensures)
 
 pub read_pairs-returns-in_default : goal.read_pairs-returns-in_default
 read_pairs-returns-in_default t c =
