@@ -27,6 +27,7 @@ pub fn read_double(bytes: &[u8]) -> Result<(u64, &[u8]), BinKind>
 }
 
 /// The text behind its count, and the bytes behind it.
+#[inline(always)]
 #[tactic(auto, unfolding(crate::specs::Reading::text_at))]
 pub fn read_text(bytes: &[u8]) -> Result<(&str, &[u8]), BinKind>
     ensures { Answers (λ x. (x.0.now, x.1.now)) result (text_at bytes.now) }
@@ -136,23 +137,26 @@ fn padded(digits: &[u8]) -> [u8; 16]
     ensures { result ≡ pad digits.now }
 {
     match digits {
-        [first] if *first < 128 => last_four(0, 0, 0, *first),
-        [first, second] if *first < 128 => last_four(0, 0, *first, *second),
-        [first, second, third] if *first < 128 => last_four(0, *first, *second, *third),
+        [] => last_four(0, 0, 0, 0, 0),
+        [first] if *first < 128 => last_four(0, 0, 0, 0, *first),
+        [first] => last_four(255, 255, 255, 255, *first),
+        [first, second] if *first < 128 => last_four(0, 0, 0, *first, *second),
+        [first, second, third] if *first < 128 => last_four(0, 0, *first, *second, *third),
         [first, second, third, fourth] if *first < 128 => {
-            last_four(*first, *second, *third, *fourth)
+            last_four(0, *first, *second, *third, *fourth)
         }
         _ => padded_any(digits),
     }
 }
 
-/// Four bytes behind twelve that are 0.
+/// Four bytes behind twelve that are all this one.
 #[inline]
-fn last_four(first: u8, second: u8, third: u8, fourth: u8) -> [u8; 16]
-    ensures { result ≡ replicate 12 0 ++ first ∷ second ∷ third ∷ fourth ∷ [] }
+fn last_four(front: u8, first: u8, second: u8, third: u8, fourth: u8) -> [u8; 16]
+    ensures { result ≡ replicate 12 front ++ first ∷ second ∷ third ∷ fourth ∷ [] }
 {
+    let f = front;
     [
-        0, 0, 0, 0, 0, 0, 0, 0, 0, 0, 0, 0, first, second, third, fourth,
+        f, f, f, f, f, f, f, f, f, f, f, f, first, second, third, fourth,
     ]
 }
 
