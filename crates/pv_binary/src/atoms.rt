@@ -1,6 +1,7 @@
 //! Reading atoms, from behind their tags. Nothing here takes memory.
-ghost use Rattle.std.specs.Prelude.{◌≡◌, ◌≤◌, ◌<◌, ◌*◌, ◌^◌, [], ◌∷◌, ◌++◌, length, replicate, IfOk};
+ghost use Rattle.std.specs.Prelude.{◌≡◌, ◌≤◌, ◌<◌, ◌*◌, ◌^◌, [], ◌∷◌, ◌++◌, length, replicate, IfOk, MatchOption};
 ghost use Rattle.std.specs.Int.{w64, from_be_bytes};
+ghost use Rattle.std.specs.Str.{IsUtf8};
 ghost use Rattle.pv_read.specs.Answers.{Answers};
 ghost use Rattle.pv_binary.specs.Reading.{sign, pad, is_minimal, int_value, int_at, varint_at};
 ghost use Rattle.pv_binary.specs.Reading.{split_at, counted_at, text_at, double_at};
@@ -33,10 +34,28 @@ pub fn read_text(bytes: &[u8]) -> Result<(&str, &[u8]), BinKind>
     ensures { Answers (λ x. (x.0.now, x.1.now)) result (text_at bytes.now) }
 {
     let (text, rest) = read_counted(bytes)?;
-    let Ok(text) = from_utf8(text) else {
+    let Some(text) = as_text(text) else {
         return Err(BinKind::BadUtf8);
     };
     Ok((text, rest))
+}
+
+/// These bytes as text. Few of them, as most texts have, go by the plain test.
+#[inline(always)]
+fn as_text(bytes: &[u8]) -> Option<&str>
+    ensures { MatchOption result (IsUtf8 bytes.now → ⊥)
+        (λ s. (s.now ≡ bytes.now) × IsUtf8 bytes.now) }
+{
+    if bytes.len() < 64 {
+        return match std::str::from_utf8(bytes) {
+            Ok(text) => Some(text),
+            Err(_) => None,
+        };
+    }
+    match from_utf8(bytes) {
+        Ok(text) => Some(text),
+        Err(_) => None,
+    }
 }
 
 /// The integer behind its count, in as few bytes as will do, and the bytes behind it.

@@ -10,6 +10,6 @@ returns-in_default c = text_bad c.args.bytes.now c.in_ok-text.text.now c.in_ok-t
 
 pub returns : goal.returns
 returns c =
-    let u = c.in-Ok.ensures in
+    let u = c.in-Some.ensures in
     text_good c.args.bytes.now c.in_ok-text.text.now c.in_ok-text.rest.now c.in_ok-text.ensures u.1
     ∙ ap (λ (s : List ℕ). ok_pair {E = BinKind} s c.in_ok-text.rest.now) (sym u.0)
