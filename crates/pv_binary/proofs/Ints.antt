@@ -52,9 +52,9 @@ zeros zero = refl
 zeros (suc zero) = refl
 zeros (suc (suc j)) = zeros (suc j)
 
-minimal_pad : (j : ℕ) (s : List ℕ) → minimal s ≡ s → minimal (replicate j (sign s) ++ s) ≡ s
-minimal_pad j [] e = zeros j
-minimal_pad j (c ∷ s) e = drops_all j c s ∙ e
+minimal_pad : (j : ℕ) (s : List ℕ) → minimal (replicate j (sign s) ++ s) ≡ minimal s
+minimal_pad j [] = zeros j
+minimal_pad j (c ∷ s) = drops_all j c s
 
 -- ---- what is dropped is the sign
 
@@ -123,7 +123,7 @@ pub worth_16 : (b0 b1 b2 b3 b4 b5 b6 b7 b8 b9 b10 b11 b12 b13 b14 b15 : ℕ)
     ≡ worth (b0 ∷ b1 ∷ b2 ∷ b3 ∷ b4 ∷ b5 ∷ b6 ∷ b7 ∷ b8 ∷ b9 ∷ b10 ∷ b11 ∷ b12 ∷ b13 ∷ b14 ∷ b15 ∷ [])
 worth_16 b0 b1 b2 b3 b4 b5 b6 b7 b8 b9 b10 b11 b12 b13 b14 b15 = omega arith
 
-from_bytes : (bs : List ℕ) → length bs ≡ 16 → from_be_bytes w128 bs ≡ worth bs
+pub from_bytes : (bs : List ℕ) → length bs ≡ 16 → from_be_bytes w128 bs ≡ worth bs
 from_bytes ([]) l = absurd (omega arith)
 from_bytes (b0 ∷ []) l = absurd (omega arith)
 from_bytes (b0 ∷ b1 ∷ []) l = absurd (omega arith)
@@ -159,16 +159,16 @@ sign_small (c ∷ s) = by (nat_lt c 128)
     by true = lit< tt
     by false = lit< tt
 
-length_pad : (s : List ℕ) → length s ≤ 16 → length (pad s) ≡ 16
+pub length_pad : (s : List ℕ) → length s ≤ 16 → length (pad s) ≡ 16
 length_pad s l = omega (
   arith,
   length-append (replicate (16 - length s) (sign s)) s,
   length-replicate (16 - length s) (sign s),
 )
 
-pub int_bytes_again : (s : List ℕ) → IsBytes s → length s ≤ 16 → minimal s ≡ s → int_bytes (int_value s) ≡ s
+pub int_bytes_value : (s : List ℕ) → IsBytes s → length s ≤ 16 → int_bytes (int_value s) ≡ minimal s
 unfolding int_bytes int_value
-int_bytes_again s all l e =
+int_bytes_value s all l =
     let bytes = bytes_replicate (16 - length s) (sign s) s (sign_small s) all in
     let small : worth (pad s) < 256 ^ 16 =
     subst (λ k. worth (pad s) < 256 ^ k) (length_pad s l) (worth_small (pad s) bytes) in
@@ -176,7 +176,10 @@ int_bytes_again s all l e =
     subst (λ k. bytes_high_first k (worth (pad s)) ≡ pad s) (length_pad s l) (bytes_of_worth (pad s) bytes) in
     ap (λ n. minimal (to_be_bytes w128 (cast_unsigned w128 (cast_signed w128 n)))) (from_bytes (pad s) (length_pad s l))
     ∙ ap (λ n. minimal (to_be_bytes w128 n)) (of_z-to_z w128 (worth (pad s)) small) ∙ ap minimal be
-    ∙ minimal_pad (16 - length s) s e
+    ∙ minimal_pad (16 - length s) s
+
+pub int_bytes_again : (s : List ℕ) → IsBytes s → length s ≤ 16 → minimal s ≡ s → int_bytes (int_value s) ≡ s
+int_bytes_again s all l e = int_bytes_value s all l ∙ e
 
 below_all : (z : ℤ) → FitsSigned w128 z → cast_unsigned w128 z < 256 ^ 16
 below_all z f = omega (arith, ints)

@@ -6,6 +6,7 @@ pub mod Doubles
 pub mod Elements
 pub mod Exact
 pub mod Ints
+pub mod Narrow
 pub mod Numbers
 pub mod OneOfThree
 pub mod Paths

@@ -2,7 +2,7 @@
 ghost use Rattle.std.specs.Prelude.{◌≡◌, ◌++◌, ◌∷◌, [], map, IfOk, OnOk};
 ghost use Rattle.std.specs.Int.{w64, to_be_bytes};
 ghost use Rattle.std.specs.Io.{StartsWith};
-ghost use Rattle.pv_value.specs.Plain.{plains, pairs};
+ghost use Rattle.pv_value.specs.Plain.{integer, plains, pairs};
 ghost use Rattle.pv_value.specs.View.{key_and_value};
 ghost use Rattle.pv_binary.specs.Numbers.{varint, repeats_sign, minimal, int_bytes, counted};
 ghost use Rattle.pv_binary.specs.Written.{written, written_all, written_pairs};
@@ -105,10 +105,41 @@ fn push_double(out: &mut Vec<u8>, bits: u64) -> Result<(), NoMemory>
     push_bytes(out, &bits.to_be_bytes())
 }
 
+/// Appends the written spelling of an integer. Where memory runs out, a part of it may stand there.
+pub fn write_integer_into(out: &mut Vec<u8>, n: i128) -> Result<(), NoMemory>
+    ensures written { OnOk result (out.new.items ≡ out.old.items ++ written (integer n)) }
+    ensures front { StartsWith out.new.items out.old.items }
+{
+    push_int(out, n)
+}
+
 fn push_int(out: &mut Vec<u8>, n: i128) -> Result<(), NoMemory>
     ensures all { OnOk result (out.new.items ≡ out.old.items ++ 0xb0 ∷ counted (int_bytes n)) }
     ensures front { StartsWith out.new.items out.old.items }
 {
+    if n == 0 {
+        return push_bytes(out, &[tags::INTEGER, 0]);
+    }
+    if -0x80 <= n && n < 0x80 {
+        let [byte] = (n as i8).to_be_bytes();
+        return push_bytes(out, &[tags::INTEGER, 1, byte]);
+    }
+    if -0x8000_0000 <= n && n < 0x8000_0000 {
+        let bytes = (n as i32).to_be_bytes();
+        return push_counted(out, tags::INTEGER, without_sign_bytes(&bytes));
+    }
+    push_long_int(out, n)
+}
+
+/// The same, where four bytes don't do.
+fn push_long_int(out: &mut Vec<u8>, n: i128) -> Result<(), NoMemory>
+    ensures all { OnOk result (out.new.items ≡ out.old.items ++ 0xb0 ∷ counted (int_bytes n)) }
+    ensures front { StartsWith out.new.items out.old.items }
+{
+    if -0x8000_0000_0000_0000 <= n && n < 0x8000_0000_0000_0000 {
+        let bytes = (n as i64).to_be_bytes();
+        return push_counted(out, tags::INTEGER, without_sign_bytes(&bytes));
+    }
     let bytes = n.to_be_bytes();
     push_counted(out, tags::INTEGER, without_sign_bytes(&bytes))
 }
@@ -142,9 +173,14 @@ fn push_counted(out: &mut Vec<u8>, tag: u8, bytes: &[u8]) -> Result<(), NoMemory
     ensures all { OnOk result (out.new.items ≡ out.old.items ++ tag ∷ counted bytes.now) }
     ensures front { StartsWith out.new.items out.old.items }
 {
-    out.reserve(bytes.len().saturating_add(MOST_BEFORE_BYTES))?;
+    let count = bytes.len();
+    if count < 0x80 {
+        push_bytes(out, &[tag, count as u8])?;
+        return push_bytes(out, bytes);
+    }
+    out.reserve(count.saturating_add(MOST_BEFORE_BYTES))?;
     push_byte(out, tag)?;
-    push_varint(out, bytes.len() as u64)?;
+    push_varint(out, count as u64)?;
     push_bytes(out, bytes)
 }
 

@@ -1,14 +1,30 @@
-use Rattle.std.proofs.Common.{◌≡◌, ◌∙◌, ap}
-use Rattle.std.specs.Int.{w128}
+use Rattle.std.proofs.Common.{rules, ◌≡◌, ◌∙◌, sym, ap, pos}
+use Rattle.std.specs.Int.{w8, w32, w128, cast_unsigned}
 use Rattle.std.specs.Int.RustNames.{FitsSigned}
 use Rattle.std.proofs.lemmas.Int.{to_z-of_z}
 use Rattle.pv_binary.specs.Numbers.{minimal, int_bytes}
+use Rattle.pv_binary.proofs.Narrow.{narrow_32, counted_zero, counted_one}
 use Rattle.pv_binary.proofs.writing.push_int.Goals as goal
 
-pub returns : goal.returns
-unfolding int_bytes
-returns c =
-    let fits : FitsSigned w128 c.args.n = c.ranges.n in
+pub returns-then-n-eq0-clause-all : goal.returns-then-n-eq0-clause-all
+returns-then-n-eq0-clause-all c =
+    let wide : FitsSigned w128 c.args.n = c.ranges.n in
+    let is : c.args.n ≡ pos 0 = search rules in
+    rw (counted_zero c.args.n is) c.push_bytes.ensures.all
+
+pub returns-then-n-lt128-clause-all : goal.returns-then-n-lt128-clause-all
+returns-then-n-lt128-clause-all c =
+    let wide : FitsSigned w128 c.args.n = c.ranges.n in
+    let fits : FitsSigned w8 c.args.n = search rules in
+    let bytes = simp to_z-of_z at c.to_be_bytes.ensures in
+    let some : c.args.n ≡ pos 0 → ⊥ = λ e. c.if-n-eq0.false (ap (cast_unsigned w128) e) in
+    rw (counted_one c.args.n fits some) (rw bytes at c.push_bytes-then-n-lt128.ensures.all)
+
+pub returns-then-n-lt2147483648-clause-all : goal.returns-then-n-lt2147483648-clause-all
+returns-then-n-lt2147483648-clause-all c =
+    let wide : FitsSigned w128 c.args.n = c.ranges.n in
+    let fits : FitsSigned w32 c.args.n = search rules in
     let bytes = simp to_z-of_z at c.to_be_bytes-bytes.ensures in
-    let e : c.without_sign_bytes.result.now ≡ int_bytes c.args.n = c.without_sign_bytes.ensures ∙ ap minimal bytes in
-    rw e at c.push_counted.ensures
+    let e : c.without_sign_bytes.result.now ≡ int_bytes c.args.n =
+    c.without_sign_bytes.ensures ∙ ap minimal bytes ∙ sym (narrow_32 c.args.n fits) in
+    rw e at c.push_counted.ensures.all
