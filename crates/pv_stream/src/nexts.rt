@@ -84,8 +84,8 @@ fn decided(alloc: Global, left: &[u8], before: u64) -> Result<Found, NoMemory>
     }
 }
 
-/// The bytes on which the first value is decided.
-fn front_of(left: &[u8]) -> &[u8]
+/// The bytes on which the first value is decided. It takes no memory.
+pub fn front_of(left: &[u8]) -> &[u8]
     ensures { result.now ≡ front_of left.now }
 {
     &left[..left.len().min(MOST_BYTES)]

@@ -1,5 +1,5 @@
 -- What was found in a feed, as what is next of packets.
-use Rattle.std.proofs.Common.{◌≡◌, ℕ, ◌+◌, List, Result, IfOk, ap, subst, arith}
+use Rattle.std.proofs.Common.{◌≡◌, ℕ, ◌+◌, List, Option, Result, IfOk, IfSome, ap, subst, arith}
 use Rattle.pv_value.specs.Plain.{Plain}
 use Rattle.pv_binary.specs.Reads.{BeginsWith}
 use Rattle.pv_stream.specs.Feeds.{FeedState, given}
@@ -32,3 +32,12 @@ pub next_here : {E : Type 0} (f : FeedState) (st : StreamState) (x : Found) (pla
 next_here f st x place y view here found next =
     let there = subst (λ n. IsFound (at_place f.left n) x → IfOk y (IsNext f.left n)) here (next f.left) found in
     subst (λ (s : StreamState). IfOk y (IsNext s.rest s.place)) view there
+
+-- and so is the turn with which its bytes begin
+pub turn_here : {E : Type 0} (f : FeedState) (st : StreamState) (bytes : List ℕ) (y : Result (Option Next) E)
+    → record { rest = f.left; place = f.before } ≡ st → bytes ≡ f.left
+    → ((place : ℕ) → IfOk y (λ o. IfSome o (IsNext bytes place)))
+    → IfOk y (λ o. IfSome o (IsNext st.rest st.place))
+turn_here f st bytes y view here next =
+    let there = subst (λ (b : List ℕ). IfOk y (λ o. IfSome o (IsNext b f.before))) here (next f.before) in
+    subst (λ (s : StreamState). IfOk y (λ o. IfSome o (IsNext s.rest s.place))) view there

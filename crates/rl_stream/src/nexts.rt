@@ -1,13 +1,14 @@
 //! What stands next in the bytes that a peer has sent.
-ghost use Rattle.std.specs.Prelude.{◌≡◌, ◌<◌, ◌+◌, ◌^◌, ℕ, List, length, IfOk};
+ghost use Rattle.std.specs.Prelude.{◌≡◌, ◌<◌, ◌+◌, ◌^◌, ℕ, List, length, IfOk, IfSome};
 ghost use Rattle.pv_binary.specs.Reads.{BeginsWith};
 ghost use Rattle.pv_stream.specs.Feeds.{FeedState, given};
 ghost use Rattle.pv_stream.specs.Nexts as values;
+ghost use Rattle.rl_packet.specs.Packets.{turn_value};
 ghost use Rattle.rl_stream.specs.Nexts.{front_of, IsNext};
 
-use pv_stream::{Found, first_in};
+use pv_stream::{Found, first_in, front_of};
 use pv_value::{NoMemory, Value};
-use rl_packet::{Packet, PacketFault, packet_of};
+use rl_packet::{Packet, PacketFault, Turn, packet_of, turn_in};
 use std::alloc::Global;
 
 /// What is told of a value that doesn't end within a packet's length, in place of a fault's number.
@@ -32,8 +33,31 @@ pub fn next_packet(alloc: Global, rest: &[u8], place: u64) -> Result<Next, NoMem
     requires { place + length rest.now < 2 ^ 63 }
     ensures { IfOk result (IsNext rest.now place) }
 {
+    if let Some(next) = turn_next(alloc, rest)? {
+        return Ok(next);
+    }
     let found = first_in(alloc, rest, place)?;
     as_packet(alloc, found, place)
+}
+
+/// The turn that stands next, which is read with no value between; none where another thing is
+/// next, or a turn isn't whole.
+pub(crate) fn turn_next(alloc: Global, rest: &[u8]) -> Result<Option<Next>, NoMemory>
+    ensures { (place : ℕ) → IfOk result (λ o. IfSome o (IsNext rest.now place)) }
+{
+    match turn_in(alloc, front_of(rest))? {
+        Some((turn, size)) => Ok(Some(whole_turn(turn, size))),
+        None => Ok(None),
+    }
+}
+
+/// The turn stands next, where the first so many bytes spell it.
+fn whole_turn(turn: Turn, size: usize) -> Next
+    ensures { (rest : List ℕ) (place : ℕ) → BeginsWith (front_of rest) size (turn_value turn)
+        → IsNext rest place result }
+{
+    let _events = turn.as_slice();
+    Next::Whole(Packet::Turn(turn), size)
 }
 
 /// What was found at this place, of which a value is a packet or none.

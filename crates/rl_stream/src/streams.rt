@@ -1,10 +1,10 @@
 //! What a peer has sent, as far as it isn't read.
-ghost use Rattle.std.specs.Prelude.{◌≡◌, ◌≤◌, length, IfOk, OnOk, OnErr};
+ghost use Rattle.std.specs.Prelude.{◌≡◌, ◌≤◌, length, IfOk, IfSome, OnOk, OnErr};
 ghost use Rattle.rl_stream.specs.Nexts.{IsNext, AllTell};
 ghost use Rattle.rl_stream.specs.Streams.{no_stream, with_bytes, read_off};
 
 use crate::laws::one_next;
-use crate::nexts::{Next, as_packet};
+use crate::nexts::{Next, as_packet, turn_next};
 use pv_stream::Feed;
 use pv_value::NoMemory;
 use std::alloc::Global;
@@ -52,10 +52,26 @@ impl Stream {
         ensures next { IfOk result (IsNext self.old.rest self.old.place) }
         ensures told { IfOk result (AllTell self.old.rest self.old.place) }
     {
+        if let Some(next) = self.first_turn(alloc)? {
+            return Ok(next);
+        }
         one_next();
         let place = self.feed.before();
         let found = self.feed.first(alloc)?;
         as_packet(alloc, found, place)
+    }
+
+    /// The turn that is next, which is read with no value between. Where the feed knows already how
+    /// far what is next is there, it isn't whole as yet, or another thing, and isn't looked for.
+    fn first_turn(&self, alloc: Global) -> Result<Option<Next>, NoMemory>
+        ensures next { IfOk result (λ o. IfSome o (IsNext self.now.rest self.now.place)) }
+        ensures told { IfOk result (λ o. IfSome o (AllTell self.now.rest self.now.place)) }
+    {
+        one_next();
+        if !self.feed.is_fresh() {
+            return Ok(None);
+        }
+        turn_next(alloc, self.feed.as_slice())
     }
 
     /// More bytes come, behind those that are there. For want of memory none does.

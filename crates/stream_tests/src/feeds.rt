@@ -159,6 +159,103 @@ fn a_long_value_comes_byte_by_byte(rt: HostRuntime) -> Result<(), Fail> {
     Ok(())
 }
 
+/// Whether a string of 20,000 bytes, behind these bytes, comes whole with its last byte, one byte
+/// after another.
+fn string_comes(alloc: Global, before: &[u8]) -> Result<bool, NoMemory> {
+    let mut feed = Feed::new(alloc);
+    feed.push(before)?;
+    feed.push(&[0xb1, 0xa0, 0x9c, 0x01])?;
+    for _ in 0..20_000 {
+        if !is_more(feed.next(alloc)?) {
+            return Ok(false);
+        }
+        feed.push(b"a")?;
+    }
+    Ok(is_some_value(feed.next(alloc)?))
+}
+
+#[test]
+fn a_long_string_comes_byte_by_byte(rt: HostRuntime) -> Result<(), Fail> {
+    assert!(rt; string_comes(rt.alloc(), &[])?);
+    assert!(rt; string_comes(rt.alloc(), &[0x86])?);
+    Ok(())
+}
+
+/// `[#{1 2} {"a": #t}]`
+const SETS: [u8; 16] = [
+    0xb5, 0xb6, 0xb0, 1, 1, 0xb0, 1, 2, 0x84, 0xb7, 0xb1, 1, 0x61, 0x81, 0x84, 0x84,
+];
+
+fn is_written_so(alloc: Global, next: Next, bytes: &[u8]) -> Result<bool, NoMemory> {
+    match next {
+        Next::Value(value) => Ok(write(alloc, &value)?.as_slice() == bytes),
+        _ => Ok(false),
+    }
+}
+
+/// Whether the sets come whole, of two pieces, of which the first has so many bytes.
+fn sets_come_cut(alloc: Global, count: usize) -> Result<bool, NoMemory> {
+    let mut feed = Feed::new(alloc);
+    feed.push(&SETS[..count.min(16)])?;
+    if !is_more(feed.next(alloc)?) {
+        return Ok(false);
+    }
+    feed.push(&SETS[count.min(16)..])?;
+    is_written_so(alloc, feed.next(alloc)?, &SETS)
+}
+
+fn sets_come(alloc: Global) -> Result<bool, NoMemory> {
+    for count in 0..16 {
+        if !sets_come_cut(alloc, count)? {
+            return Ok(false);
+        }
+    }
+    Ok(true)
+}
+
+/// Whether what repeats in `[#{1 1}` is told with the end of the set, byte by byte, and not before.
+fn repeat_is_told(alloc: Global) -> Result<bool, NoMemory> {
+    let mut feed = Feed::new(alloc);
+    for byte in [0xb5u8, 0xb6, 0xb0, 1, 1, 0xb0, 1, 1] {
+        feed.push(&[byte])?;
+        if !is_more(feed.next(alloc)?) {
+            return Ok(false);
+        }
+    }
+    feed.push(&[0x84])?;
+    Ok(is_fault(feed.next(alloc)?, BinKind::Duplicate, 1))
+}
+
+#[test]
+fn sets_are_cut_inside(rt: HostRuntime) -> Result<(), Fail> {
+    assert!(rt; sets_come(rt.alloc())?);
+    assert!(rt; repeat_is_told(rt.alloc())?);
+    Ok(())
+}
+
+/// Whether nothing is left, and nothing is known of it, behind these bytes: a value.
+fn is_fresh_behind(alloc: Global, bytes: &[u8]) -> Result<bool, NoMemory> {
+    let mut feed = Feed::new(alloc);
+    feed.push(bytes)?;
+    feed.next(alloc)?;
+    Ok(feed.is_fresh() && feed.left() == 0)
+}
+
+/// Whether these bytes are left, and looked at: a front of a compound.
+fn is_known_behind(alloc: Global, bytes: &[u8]) -> Result<bool, NoMemory> {
+    let mut feed = Feed::new(alloc);
+    feed.push(bytes)?;
+    feed.next(alloc)?;
+    Ok(!feed.is_fresh() && feed.as_slice() == bytes)
+}
+
+#[test]
+fn what_is_left_can_be_looked_at(rt: HostRuntime) -> Result<(), Fail> {
+    assert!(rt; is_fresh_behind(rt.alloc(), &SETS)?);
+    assert!(rt; is_known_behind(rt.alloc(), &SETS[..5])?);
+    Ok(())
+}
+
 /// A feed of `[] #f`, of which the first value was found, and then given.
 fn given_first(alloc: Global) -> Result<Feed, NoMemory> {
     let mut feed = Feed::new(alloc);
