@@ -111,11 +111,8 @@ fn copy_all(
 fn come_in_pieces(alloc: Global, count: usize) -> Result<bool, NoMemory> {
     let mut stream = Stream::new(alloc);
     let mut copy = Vec::new(alloc);
-    let mut at = 0;
-    for _ in 0..PACKETS.len() {
-        let end = PACKETS.len().min(at + count.min(PACKETS.len()));
-        copy_all(alloc, &PACKETS[at..end], &mut stream, &mut copy)?;
-        at = end;
+    for piece in PACKETS.chunks(count.max(1)) {
+        copy_all(alloc, piece, &mut stream, &mut copy)?;
     }
     Ok(copy.as_slice() == PACKETS.as_slice() && stream.left() == 0)
 }
