@@ -64,7 +64,7 @@ fn is_wire_reference(inside: &Value) -> bool
 
 /// Whether every embedded value in it that isn't inside another one is a wire reference.
 #[cycle(wired)]
-fn is_wired(value: &Value) -> bool
+pub(crate) fn is_wired(value: &Value) -> bool
     ensures { result ≡ is_wired value.now }
 {
     match &value.node {
@@ -102,7 +102,7 @@ fn all_pairs_wired(entries: &[Entry]) -> bool
 }
 
 /// Whether it is an embedded wire reference.
-fn is_peer(value: &Value) -> bool
+pub(crate) fn is_peer(value: &Value) -> bool
     ensures { result ≡ is_peer value.now }
 {
     match &value.node {

@@ -8,4 +8,6 @@ mod crossing;
 #[cfg(test)]
 mod making;
 #[cfg(test)]
+mod spelled;
+#[cfg(test)]
 mod turns;

@@ -1,0 +1,27 @@
+use Rattle.std.proofs.Common.{subst}
+use Rattle.std.specs.Prelude.{IfSome}
+use Rattle.rl_packet.specs.Packets.{aimed_value}
+use Rattle.rl_packet.specs.Wired.{IsTurnEvent}
+use Rattle.rl_packet.specs.Spelled.{Begins}
+use Rattle.rl_packet.proofs.Fronts.{all_step, all_ended, all_good}
+use Rattle.rl_packet.proofs.spelled.events_in.Goals as goal
+
+pub returns-in-Some-clause-events : goal.returns-in-Some-clause-events
+returns-in-Some-clause-events c =
+    all_ended c.args.bytes.now c.loop.rest.now c.in-Some.after.now c.loop.events.items c.in-Some.ensures
+    c.loop.invariant.behind
+
+pub loop-preserved : goal.loop-preserved
+loop-preserved c =
+    let event = c.in-Some-2.event in
+    let rest = c.loop.rest.now in
+    let after = c.in-Some-2.after.now in
+    let good : IsTurnEvent event =
+    subst (λ o. IfSome o (λ x. IsTurnEvent x.0)) c.in-Some-2.is c.in_ok-event.ensures.good in
+    let one : Begins 63 rest (aimed_value event) after =
+    subst (λ o. IfSome o (λ x. Begins 63 rest (aimed_value x.0) x.1.now)) c.in-Some-2.is c.in_ok-event.ensures.event in
+    record {
+      good = all_good c.loop.events.items c.push.new.self.items event c.in_ok-push.ensures.items c.loop.invariant.good good;
+      behind = all_step c.args.bytes.now rest after c.loop.events.items c.push.new.self.items event
+          c.in_ok-push.ensures.items one c.loop.invariant.behind;
+    }

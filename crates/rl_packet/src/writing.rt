@@ -1,0 +1,159 @@
+//! Packets written without their values, and how long that is.
+ghost use Rattle.std.specs.Prelude.{◌≡◌, ◌++◌, ◌∷◌, [], ◌^◌, ◌-◌, min, map, OnOk};
+ghost use Rattle.std.specs.Io.{StartsWith};
+ghost use Rattle.pv_value.specs.Plain.{plains};
+ghost use Rattle.pv_value.specs.Weight.{canonical_size, sizes_with};
+ghost use Rattle.pv_words.specs.Words.{number};
+ghost use Rattle.pv_binary.specs.Written.{written, written_all};
+ghost use Rattle.rl_packet.specs.Packets.{event_value, aimed_value, turn_value, packet_value};
+ghost use Rattle.rl_packet.specs.Spelled.{opened};
+
+use crate::packets::{Event, Packet, TurnEvent};
+use pv_binary::{tags, write_integer_into, write_into};
+use pv_value::{NoMemory, Value, canonical_size, push_byte, push_bytes};
+use pv_words::number;
+
+/// Appends the written spelling of a packet's value, which is not made. Where memory runs out, a
+/// part of it may stand there.
+#[tactic(auto, unfolding(pv_binary::specs::Numbers::varint))]
+pub fn write_packet_into(out: &mut Vec<u8>, packet: &Packet) -> Result<(), NoMemory>
+    ensures written { OnOk result
+        (out.new.items ≡ out.old.items ++ written (packet_value packet.now)) }
+    ensures front { StartsWith out.new.items out.old.items }
+{
+    match packet {
+        Packet::Turn(turn) => {
+            push_byte(out, tags::SEQUENCE)?;
+            write_events(out, turn.as_slice())
+        }
+        Packet::Error(message, detail) => {
+            push_bytes(out, &[tags::RECORD, tags::SYMBOL, 5, 101, 114, 114, 111, 114])?;
+            write_into(out, message)?;
+            write_into(out, detail)?;
+            push_byte(out, tags::END)
+        }
+        Packet::Nop => push_byte(out, tags::FALSE),
+        Packet::Extension(value) => write_into(out, value),
+    }
+}
+
+/// Events at their objects, and the end of their sequence.
+fn write_events(out: &mut Vec<u8>, events: &[TurnEvent]) -> Result<(), NoMemory>
+    ensures written { OnOk result (out.new.items ≡ out.old.items
+        ++ (written_all (plains (map aimed_value events.now)) ++ 0x84 ∷ [])) }
+    ensures front { StartsWith out.new.items out.old.items }
+{
+    for event in events {
+        write_aimed(out, event)?;
+    }
+    push_byte(out, tags::END)
+}
+
+fn write_aimed(out: &mut Vec<u8>, event: &TurnEvent) -> Result<(), NoMemory>
+    ensures written { OnOk result
+        (out.new.items ≡ out.old.items ++ written (aimed_value event.now)) }
+    ensures front { StartsWith out.new.items out.old.items }
+{
+    push_byte(out, tags::SEQUENCE)?;
+    write_number(out, event.oid)?;
+    write_event(out, &event.event)?;
+    push_byte(out, tags::END)
+}
+
+fn write_number(out: &mut Vec<u8>, n: u64) -> Result<(), NoMemory>
+    ensures written { OnOk result (out.new.items ≡ out.old.items ++ written (number n)) }
+    ensures front { StartsWith out.new.items out.old.items }
+{
+    write_integer_into(out, n as i128)
+}
+
+/// The bytes in front of the fields of a record whose label is the symbol of this letter.
+fn open_event(out: &mut Vec<u8>, letter: u8) -> Result<(), NoMemory>
+    ensures all { OnOk result (out.new.items ≡ out.old.items ++ opened letter []) }
+    ensures front { StartsWith out.new.items out.old.items }
+{
+    push_bytes(out, &[tags::RECORD, tags::SYMBOL, 1, letter])
+}
+
+#[tactic(auto, unfolding(pv_binary::specs::Numbers::varint))]
+fn write_event(out: &mut Vec<u8>, event: &Event) -> Result<(), NoMemory>
+    ensures written { OnOk result
+        (out.new.items ≡ out.old.items ++ written (event_value event.now)) }
+    ensures front { StartsWith out.new.items out.old.items }
+{
+    match event {
+        Event::Assert(value, handle) => {
+            open_event(out, b'A')?;
+            write_into(out, value)?;
+            write_number(out, *handle)?;
+            push_byte(out, tags::END)
+        }
+        Event::Retract(handle) => {
+            open_event(out, b'R')?;
+            write_number(out, *handle)?;
+            push_byte(out, tags::END)
+        }
+        Event::Message(body) => {
+            open_event(out, b'M')?;
+            write_into(out, body)?;
+            push_byte(out, tags::END)
+        }
+        Event::Sync(peer) => {
+            open_event(out, b'S')?;
+            write_into(out, peer)?;
+            push_byte(out, tags::END)
+        }
+    }
+}
+
+/// The length of the canonical form of a packet's value, which is not made: it is as long as the
+/// written spelling. It takes no memory, and stops at `u64::MAX`.
+pub fn packet_size(packet: &Packet) -> u64
+    ensures { result ≡ min (canonical_size (packet_value packet.now)) (2 ^ 64 - 1) }
+{
+    match packet {
+        Packet::Turn(turn) => events_size(turn.as_slice()).saturating_add(2),
+        Packet::Error(message, detail) => canonical_size(message)
+            .saturating_add(canonical_size(detail))
+            .saturating_add(9),
+        Packet::Nop => 1,
+        Packet::Extension(value) => canonical_size(value),
+    }
+}
+
+fn events_size(events: &[TurnEvent]) -> u64
+    ensures { result ≡ min (sizes_with 0 (plains (map aimed_value events.now))) (2 ^ 64 - 1) }
+{
+    let mut total: u64 = 0;
+    for event in events {
+        total = total.saturating_add(aimed_size(event));
+    }
+    total
+}
+
+fn aimed_size(event: &TurnEvent) -> u64
+    ensures { result ≡ min (canonical_size (aimed_value event.now)) (2 ^ 64 - 1) }
+{
+    number_size(event.oid)
+        .saturating_add(event_size(&event.event))
+        .saturating_add(2)
+}
+
+fn number_size(n: u64) -> u64
+    ensures { result ≡ min (canonical_size (number n)) (2 ^ 64 - 1) }
+{
+    canonical_size(&number(n))
+}
+
+fn event_size(event: &Event) -> u64
+    ensures { result ≡ min (canonical_size (event_value event.now)) (2 ^ 64 - 1) }
+{
+    match event {
+        Event::Assert(value, handle) => canonical_size(value)
+            .saturating_add(number_size(*handle))
+            .saturating_add(5),
+        Event::Retract(handle) => number_size(*handle).saturating_add(5),
+        Event::Message(body) => canonical_size(body).saturating_add(5),
+        Event::Sync(peer) => canonical_size(peer).saturating_add(5),
+    }
+}
