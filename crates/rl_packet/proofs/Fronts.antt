@@ -13,7 +13,7 @@ use Rattle.pv_binary.specs.Reads.{BeginsWith, LeadsWithin}
 use Rattle.pv_binary.specs.Spells.{Spells}
 use Rattle.pv_binary.proofs.Varints.{IsBytes, varint_last}
 use Rattle.pv_binary.proofs.Ints.{int_sound}
-use Rattle.rl_packet.specs.Packets.{Event, Assert, Retract, Message, Sync, TurnEvent, event_value, aimed_value}
+use Rattle.rl_packet.specs.Packets.{Assert, Retract, Message, Sync, TurnEvent, event_value, aimed_value}
 use Rattle.rl_packet.specs.Packets.{turn_value}
 use Rattle.rl_packet.specs.Wired.{IsTurnEvent}
 use Rattle.rl_packet.specs.Spelled.{Begins, BeginsAll, opened}

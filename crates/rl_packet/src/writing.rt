@@ -27,7 +27,10 @@ pub fn write_packet_into(out: &mut Vec<u8>, packet: &Packet) -> Result<(), NoMem
             write_events(out, turn.as_slice())
         }
         Packet::Error(message, detail) => {
-            push_bytes(out, &[tags::RECORD, tags::SYMBOL, 5, 101, 114, 114, 111, 114])?;
+            push_bytes(
+                out,
+                &[tags::RECORD, tags::SYMBOL, 5, 101, 114, 114, 111, 114],
+            )?;
             write_into(out, message)?;
             write_into(out, detail)?;
             push_byte(out, tags::END)

@@ -1,4 +1,4 @@
-use Rattle.std.proofs.Common.{ap, sym, subst, ◌≡◌, min, arith}
+use Rattle.std.proofs.Common.{ap, arith}
 use Rattle.pv_value.specs.Weight.{canonical_size}
 use Rattle.rl_packet.specs.Packets.{event_value}
 use Rattle.rl_packet.proofs.Sizes.{asserted_size, retracted_size, said_size, synced_size}
