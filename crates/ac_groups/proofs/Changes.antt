@@ -7,6 +7,7 @@ use Rattle.std.specs.Option.{option_and_then}
 use Rattle.pv_value.specs.Plain.{Plain}
 use Rattle.pv_value.specs.Order.{order}
 use Rattle.pv_words.specs.Parts.{same}
+use Rattle.pv_marks.specs.MarkedOrder.{marked_order}
 use Rattle.ac_groups.specs.Groups.{Grouped, group_of, pair, parts}
 use Rattle.ac_groups.specs.Kept.{Group, group_at, handle_in, facet_in, all_handles, all_facets, IsKept}
 use Rattle.ac_groups.proofs.Entries.{found, Ascend, told, told_inserted, told_removed}
@@ -87,7 +88,7 @@ module _ (old new : ByGroup) (others : BTreeMap Plain ℕ) (was : IsKept old oth
 
 -- ---- facets
 
-module _ (old new : ByGroup) (was : tree.IsOrdered order old) (now : tree.IsOrdered order new) where
+module _ (old new : ByGroup) (was : tree.IsOrdered marked_order old) (now : tree.IsOrdered marked_order new) where
   pub facet_changed : (o : Plain) (y : Option ℕ)
       → ((p : Plain) → facet_in (group_at new p) ≡ cond (same o p) y (facet_in (group_at old p)))
       → (q : Plain) → found q (all_facets new.entries) ≡ cond (same o q) y (found q (all_facets old.entries))
@@ -119,7 +120,7 @@ module _ (old new : ByGroup) (was : tree.IsOrdered order old) (now : tree.IsOrde
       (facets_stand h)
 
 -- the facet of a key's group
-pub facet_told : (gs : ByGroup) → tree.IsOrdered order gs → (k : Plain)
+pub facet_told : (gs : ByGroup) → tree.IsOrdered marked_order gs → (k : Plain)
     → option_and_then (λ o. facet_in (group_at gs o)) (group_of k)
     ≡ option_and_then (λ o. found o (all_facets gs.entries)) (group_of k)
 facet_told gs s k = by (group_of k)

@@ -9,7 +9,8 @@ use Rattle.pv_value.specs.Order.{order}
 use Rattle.pv_words.specs.Parts.{same}
 use Rattle.ac_groups.specs.Groups.{pair, parts}
 use Rattle.ac_groups.specs.Kept.{Group, handle_in, facet_in, with_handles, all_handles, with_facet, all_facets}
-use Rattle.ac_groups.proofs.Entries.{found, Ascend, found_insert, found_behind, tail_ascends, ascend_insert, ascend_none}
+use Rattle.ac_groups.proofs.ByMarks.{marked_at, MarksAscend, found_marked, found_behind, tail_ascends}
+use Rattle.ac_groups.proofs.Entries.{found, Ascend, found_insert, ascend_insert, ascend_none}
 use Rattle.ac_groups.proofs.Entries.{same_is, same_self, same_turns}
 use Rattle.ac_groups.proofs.Pairs.{same_pairs, no_pair}
 
@@ -65,12 +66,12 @@ none_more None = refl
 none_more (Some h) = refl
 
 -- a key `[o c]`
-pub found_pair : (gs : List (Plain × Group)) (others : List (Plain × ℕ)) → Ascend gs
+pair_found : (gs : List (Plain × Group)) (others : List (Plain × ℕ)) → MarksAscend gs
     → ((o c : Plain) → found (pair o c) others ≡ None) → (p d : Plain)
     → found (pair p d) (all_handles gs others) ≡ handle_in (found p gs) d
-found_pair [] others s apart p d = apart p d
-found_pair (g ∷ gs) others s apart p d =
-    by (same p g.0) refl (found_pair gs others (tail_ascends g gs s) apart p d)
+pair_found [] others s apart p d = apart p d
+pair_found (g ∷ gs) others s apart p d =
+    by (same p g.0) refl (pair_found gs others (tail_ascends g gs s) apart p d)
   where
     by : (b : Bool) → same p g.0 ≡ b → found (pair p d) (all_handles gs others) ≡ handle_in (found p gs) d
         → found (pair p d) (with_handles g.0 g.1.handles.entries (all_handles gs others))
@@ -86,6 +87,12 @@ found_pair (g ∷ gs) others s apart p d =
         found_past (pair p d) g.0 g.1.handles.entries (all_handles gs others)
         (λ c. same_pairs g.0 c p d ∙ ap (λ b. b && same c d) (same_turns g.0 p ∙ is)) ∙ rest
 
+pub found_pair : (gs : List (Plain × Group)) (others : List (Plain × ℕ)) → MarksAscend gs
+    → ((o c : Plain) → found (pair o c) others ≡ None) → (p d : Plain)
+    → found (pair p d) (all_handles gs others) ≡ handle_in (marked_at p gs) d
+found_pair gs others s apart p d =
+    pair_found gs others s apart p d ∙ ap (λ x. handle_in x d) (sym (found_marked p gs))
+
 -- any other key
 pub found_other : (gs : List (Plain × Group)) (others : List (Plain × ℕ)) (q : Plain) → parts q ≡ None
     → found q (all_handles gs others) ≡ found q others
@@ -96,10 +103,10 @@ found_other (g ∷ gs) others q e =
 
 -- ---- facets
 
-pub found_facet : (gs : List (Plain × Group)) → Ascend gs → (q : Plain)
+facet_found : (gs : List (Plain × Group)) → MarksAscend gs → (q : Plain)
     → found q (all_facets gs) ≡ facet_in (found q gs)
-found_facet [] s q = refl
-found_facet (g ∷ gs) s q = by g.1.facet refl (same q g.0) refl (found_facet gs (tail_ascends g gs s) q)
+facet_found [] s q = refl
+facet_found (g ∷ gs) s q = by g.1.facet refl (same q g.0) refl (facet_found gs (tail_ascends g gs s) q)
   where
     by : (f : Option ℕ) → g.1.facet ≡ f → (b : Bool) → same q g.0 ≡ b
         → found q (all_facets gs) ≡ facet_in (found q gs)
@@ -113,3 +120,7 @@ found_facet (g ∷ gs) s q = by g.1.facet refl (same q g.0) refl (found_facet gs
     by (Some f) e false is rest =
         found_insert g.0 q f (all_facets gs)
         ∙ ap (λ b. cond b (Some f) (found q (all_facets gs))) (same_turns g.0 q ∙ is) ∙ rest
+
+pub found_facet : (gs : List (Plain × Group)) → MarksAscend gs → (q : Plain)
+    → found q (all_facets gs) ≡ facet_in (marked_at q gs)
+found_facet gs s q = facet_found gs s q ∙ ap facet_in (sym (found_marked q gs))

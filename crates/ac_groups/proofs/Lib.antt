@@ -1,3 +1,4 @@
+pub mod ByMarks
 pub mod Changes
 pub mod Entries
 pub mod Flat

@@ -7,10 +7,12 @@ use Rattle.std.specs.BTreeMap.{BTreeMap, WritesThrough, is_at, insert_entry}
 use Rattle.std.specs.declared.cmp.Ordering.{Ordering}
 use Rattle.std.specs.declared.cmp.Ordering.TheVariants.{Less, Equal, Greater}
 use Rattle.std.specs.Map.{lookup}
-use Rattle.std.specs.Ordering.{match_ordering}
+use Rattle.std.specs.Ordering.{match_ordering, eq_by_cmp}
 use Rattle.pv_value.specs.Plain.{Plain}
 use Rattle.pv_value.specs.Order.{order}
 use Rattle.pv_words.specs.Parts.{same}
+use Rattle.pv_marks.specs.MarkedOrder.{marked_order}
+use Rattle.pv_marks.specs.Lemmas.MarkedOrderLaws.{marked_same}
 use Rattle.ac_groups.specs.Kept.{Group, group_at, handle_in, facet_in, is_bare_of, is_bare, NoneBare}
 use Rattle.ac_groups.proofs.Entries.{same_is}
 
@@ -18,16 +20,28 @@ use Rattle.ac_groups.proofs.Entries.{same_is}
 abbrev pub Rewrites : Plain → Option Group → Option Group → BTreeMap Plain Group → BTreeMap Plain Group → Type 0
 Rewrites o was w old new = (group_at old o ≡ was) × ((q : Plain) → group_at new q ≡ cond (same o q) w (group_at old q))
 
+-- what a map by marks has after a change is told by the values
+by_values : (old new : BTreeMap Plain Group) (w : Option Group) (o key : Plain) → key ≡ o
+    → ((q : Plain) → group_at new q ≡ cond (eq_by_cmp marked_order key q) w (group_at old q))
+    → (q : Plain) → group_at new q ≡ cond (same o q) w (group_at old q)
+by_values old new w o key one h q =
+    h q ∙ ap (λ b. cond b w (group_at old q)) (marked_same key q ∙ ap (λ k. same k q) one)
+
 -- written through what is lent
-pub written : (old new : BTreeMap Plain Group) (o : Plain) (was w : Group) → Some was ≡ group_at old o
-    → WritesThrough order (order o) old w new → Rewrites o (Some was) (Some w) old new
-written old new o was w e h = (sym e, (h.3 (subst IsSome e (search rules))).0)
+pub written : (old new : BTreeMap Plain Group) (o key : Plain) (was w : Group) → key ≡ o → Some was ≡ group_at old key
+    → WritesThrough marked_order (marked_order key) old w new → Rewrites o (Some was) (Some w) old new
+written old new o key was w one e h = (
+  ap (group_at old) (sym one) ∙ sym e,
+  by_values old new (Some w) o key one (h.3 (subst IsSome e (search rules))).0,
+)
 
 -- and then taken out
-pub written_out : (old mid new : BTreeMap Plain Group) (o : Plain) (was : Option Group) (w : Option Group)
-    → Rewrites o was w old mid → ((q : Plain) → group_at new q ≡ cond (same o q) None (group_at mid q))
+pub written_out : (old mid new : BTreeMap Plain Group) (o key : Plain) (was : Option Group) (w : Option Group) → key ≡ o
+    → Rewrites o was w old mid
+    → ((q : Plain) → group_at new q ≡ cond (eq_by_cmp marked_order key q) None (group_at mid q))
     → Rewrites o was None old new
-written_out old mid new o was w r gone = (r.0, λ q. by (same o q) q (r.1 q) (gone q))
+written_out old mid new o key was w one r gone =
+    (r.0, λ q. by (same o q) q (r.1 q) (by_values mid new None o key one gone q))
   where
     by : (b : Bool) (q : Plain) → group_at mid q ≡ cond b w (group_at old q)
         → group_at new q ≡ cond b None (group_at mid q) → group_at new q ≡ cond b None (group_at old q)
@@ -35,23 +49,26 @@ written_out old mid new o was w r gone = (r.0, λ q. by (same o q) q (r.1 q) (go
     by false q e f = f ∙ e
 
 -- nothing was there, and nothing is done
-pub none_there : (old new : BTreeMap Plain Group) (o : Plain) → new ≡ old → group_at old o ≡ None
+pub none_there : (old new : BTreeMap Plain Group) (o key : Plain) → key ≡ o → new ≡ old → group_at old key ≡ None
     → Rewrites o None None old new
-none_there old new o is none =
-    (none, λ q. ap (λ m. group_at m q) is ∙ by q (same o q) refl)
+none_there old new o key one is none =
+    (none_at, λ q. ap (λ m. group_at m q) is ∙ by q (same o q) refl)
   where
+    none_at : group_at old o ≡ None
+    none_at = ap (group_at old) (sym one) ∙ none
+
     by : (q : Plain) (b : Bool) → same o q ≡ b → group_at old q ≡ cond b None (group_at old q)
-    by q true e = ap (group_at old) (sym (same_is o q e)) ∙ none
+    by q true e = ap (group_at old) (sym (same_is o q e)) ∙ none_at
     by q false e = refl
 
 -- it is put where nothing was
-pub put_there : (old mid new : BTreeMap Plain Group) (o key : Plain) (w : Group) → mid ≡ old → group_at old o ≡ None
-    → key ≡ o → ((q : Plain) → group_at new q ≡ cond (same key q) (Some w) (group_at mid q))
+pub put_there : (old mid new : BTreeMap Plain Group) (o key : Plain) (w : Group) → key ≡ o → mid ≡ old
+    → group_at old key ≡ None
+    → ((q : Plain) → group_at new q ≡ cond (eq_by_cmp marked_order key q) (Some w) (group_at mid q))
     → Rewrites o None (Some w) old new
-put_there old mid new o key w is none one put = (
-  none,
-  λ q. put q ∙ ap (λ k. cond (same k q) (Some w) (group_at mid q)) one
-      ∙ ap (λ m. cond (same o q) (Some w) (group_at m q)) is,
+put_there old mid new o key w one is none put = (
+  ap (group_at old) (sym one) ∙ none,
+  λ q. by_values mid new (Some w) o key one put q ∙ ap (λ m. cond (same o q) (Some w) (group_at m q)) is,
 )
 
 module _ (old new : BTreeMap Plain Group) (o : Plain) (was w : Option Group) (r : Rewrites o was w old new) where

@@ -1,15 +1,16 @@
 -- How keys by groups are kept: under each group its facet and the handles of its keys by the rest of each, and aside
--- the handles of keys that are no `[o c]`.
+-- the handles of keys that are no `[o c]`. Groups go by their marks.
 use Rattle.std.specs.Prelude.{◌≡◌, ℕ, List, [], ◌∷◌, Bool, true, false, Option, Some, None}
 use Rattle.std.specs.BTreeMap as tree
 use Rattle.std.specs.BTreeMap.{BTreeMap, insert_entry, IsOrdered}
 use Rattle.pv_value.specs.Plain.{Plain}
 use Rattle.pv_value.specs.Order.{order}
+use Rattle.pv_marks.specs.MarkedOrder.{marked_order}
 use Rattle.ac_groups.specs.Groups.{pair}
 pub use Rattle.ac_groups.specs.declared.group.Group.{Group}
 
 abbrev pub group_at : BTreeMap Plain Group → Plain → Option Group
-group_at groups o = tree.get order groups o
+group_at groups o = tree.get marked_order groups o
 
 -- the handle of the key whose rest is c
 abbrev pub handle_in : Option Group → Plain → Option ℕ
@@ -55,7 +56,7 @@ abbrev pub NoneBare : BTreeMap Plain Group → Type 0
 NoneBare groups = (o : Plain) (g : Group) → group_at groups o ≡ Some g → is_bare g ≡ false
 
 pub record IsKept (groups : BTreeMap Plain Group) (others : BTreeMap Plain ℕ) : Type 0 where
-  pub groups_ascend : IsOrdered order groups
+  pub groups_ascend : IsOrdered marked_order groups
   pub others_ascend : IsOrdered order others
   pub none_bare : NoneBare groups
   -- no key `[o c]` is kept aside

@@ -7,10 +7,12 @@ ghost use Rattle.std.specs.BTreeMap.{IsOrdered};
 ghost use Rattle.pv_value.specs.Plain.{Plain};
 ghost use Rattle.pv_value.specs.Order.{order};
 ghost use Rattle.pv_words.specs.Parts.{same};
+ghost use Rattle.pv_marks.specs.MarkedOrder.{marked_order};
 ghost use Rattle.ac_groups.specs.Groups.{group_of};
 ghost use Rattle.ac_groups.specs.Kept.{group_at, handle_in, facet_in, is_bare, NoneBare};
 
 use crate::parts::group_of;
+use pv_marks::Marked;
 use pv_value::{NoMemory, Value};
 use std::alloc::Global;
 use std::collections::BTreeMap;
@@ -22,8 +24,9 @@ pub(crate) struct Group {
     pub(crate) handles: BTreeMap<Value, u64>,
 }
 
-/// Groups, by what the keys of each begin with.
-pub(crate) type ByGroup = BTreeMap<Value, Group>;
+/// Groups, by what the keys of each begin with: found by its mark, and compared only where two
+/// marks are equal.
+pub(crate) type ByGroup = BTreeMap<Marked, Group>;
 
 /// The handle that a key had, and the facet of its group.
 #[derive(Drop)]
@@ -42,7 +45,7 @@ impl Group {
 }
 
 /// The facet of a group.
-fn facet_at(groups: &ByGroup, group: &Value) -> Option<u32>
+fn facet_at(groups: &ByGroup, group: &Marked) -> Option<u32>
     ensures { result ≡ facet_in (group_at groups.now group.now) }
 {
     let group = groups.get(group)?;
@@ -50,16 +53,19 @@ fn facet_at(groups: &ByGroup, group: &Value) -> Option<u32>
 }
 
 /// The facet of a key's group.
-pub(crate) fn facet_of(groups: &ByGroup, key: &Value) -> Option<u32>
-    ensures { result
-        ≡ option_and_then (λ o. facet_in (group_at groups.now o)) (group_of key.now) }
+pub(crate) fn facet_of(groups: &ByGroup, key: &Value) -> Result<Option<u32>, NoMemory>
+    ensures { IfOk result (λ facet. facet
+        ≡ option_and_then (λ o. facet_in (group_at groups.now o)) (group_of key.now)) }
 {
-    let group = group_of(key)?;
-    facet_at(groups, group)
+    let Some(group) = group_of(key) else {
+        return Ok(None);
+    };
+    let marked = Marked::of(group)?;
+    Ok(facet_at(groups, &marked))
 }
 
 /// The handle of a key goes out of its group, and with what is last in it the group.
-pub(crate) fn take(groups: &mut ByGroup, group: &Value, rest: &Value) -> Taken
+pub(crate) fn take(groups: &mut ByGroup, group: &Marked, rest: &Value) -> Taken
     requires { NoneBare groups.old }
     ensures handle { result.handle ≡ handle_in (group_at groups.old group.now) rest.now }
     ensures facet { result.facet ≡ facet_in (group_at groups.old group.now) }
@@ -69,7 +75,7 @@ pub(crate) fn take(groups: &mut ByGroup, group: &Value, rest: &Value) -> Taken
     ensures facets { (o : Plain) → facet_in (group_at groups.new o)
         ≡ facet_in (group_at groups.old o) }
     ensures none_bare { NoneBare groups.new }
-    ensures ordered { IsOrdered order groups.new }
+    ensures ordered { IsOrdered marked_order groups.new }
 {
     let Some(it) = groups.get_mut(group) else {
         return Taken {
@@ -86,14 +92,14 @@ pub(crate) fn take(groups: &mut ByGroup, group: &Value, rest: &Value) -> Taken
 }
 
 /// A group's facet goes, and with what is last in it the group.
-pub(crate) fn vacate(groups: &mut ByGroup, group: &Value)
+pub(crate) fn vacate(groups: &mut ByGroup, group: &Marked)
     requires { NoneBare groups.old }
     ensures handles { (o c : Plain) → handle_in (group_at groups.new o) c
         ≡ handle_in (group_at groups.old o) c }
     ensures facets { (o : Plain) → facet_in (group_at groups.new o)
         ≡ (if same group.now o then None else facet_in (group_at groups.old o)) }
     ensures none_bare { NoneBare groups.new }
-    ensures ordered { IsOrdered order groups.new }
+    ensures ordered { IsOrdered marked_order groups.new }
 {
     let Some(housed) = groups.get_mut(group) else {
         return;
@@ -109,25 +115,25 @@ pub(crate) fn vacate(groups: &mut ByGroup, group: &Value)
 pub(crate) fn put(
     alloc: Global,
     groups: &mut ByGroup,
-    group: &Value,
+    group: Marked,
     rest: &Value,
     handle: u64,
 ) -> Result<Option<u32>, NoMemory>
     requires { NoneBare groups.old }
-    ensures facet { IfOk result (λ facet. facet ≡ facet_in (group_at groups.old group.now)) }
+    ensures facet { IfOk result (λ facet. facet ≡ facet_in (group_at groups.old group)) }
     ensures handles { OnOk result ((o c : Plain) → handle_in (group_at groups.new o) c
-        ≡ (if same group.now o && same rest.now c then Some handle
+        ≡ (if same group o && same rest.now c then Some handle
         else handle_in (group_at groups.old o) c)) }
     ensures handles_stand { OnErr result ((o c : Plain) → handle_in (group_at groups.new o) c
         ≡ handle_in (group_at groups.old o) c) }
     ensures facets { (o : Plain) → facet_in (group_at groups.new o)
         ≡ facet_in (group_at groups.old o) }
     ensures none_bare { NoneBare groups.new }
-    ensures ordered { IsOrdered order groups.new }
+    ensures ordered { IsOrdered marked_order groups.new }
 {
     let _ = groups.len();
     let rest = rest.copy()?;
-    if let Some(it) = groups.get_mut(group) {
+    if let Some(it) = groups.get_mut(&group) {
         it.handles.insert(rest, handle)?;
         return Ok(it.facet);
     }
@@ -137,7 +143,7 @@ pub(crate) fn put(
         facet: None,
         handles,
     };
-    groups.insert(group.copy()?, it)?;
+    groups.insert(group, it)?;
     Ok(None)
 }
 
@@ -145,20 +151,20 @@ pub(crate) fn put(
 pub(crate) fn house(
     alloc: Global,
     groups: &mut ByGroup,
-    group: &Value,
+    group: Marked,
     facet: u32,
 ) -> Result<(), NoMemory>
     requires { NoneBare groups.old }
     ensures handles { (o c : Plain) → handle_in (group_at groups.new o) c
         ≡ handle_in (group_at groups.old o) c }
     ensures facets { OnOk result ((o : Plain) → facet_in (group_at groups.new o)
-        ≡ (if same group.now o then Some facet else facet_in (group_at groups.old o))) }
+        ≡ (if same group o then Some facet else facet_in (group_at groups.old o))) }
     ensures facets_stand { OnErr result ((o : Plain) → facet_in (group_at groups.new o)
         ≡ facet_in (group_at groups.old o)) }
     ensures none_bare { NoneBare groups.new }
-    ensures ordered { IsOrdered order groups.new }
+    ensures ordered { IsOrdered marked_order groups.new }
 {
-    if let Some(it) = groups.get_mut(group) {
+    if let Some(it) = groups.get_mut(&group) {
         it.facet = Some(facet);
         return Ok(());
     }
@@ -166,6 +172,6 @@ pub(crate) fn house(
         facet: Some(facet),
         handles: BTreeMap::new(alloc),
     };
-    groups.insert(group.copy()?, it)?;
+    groups.insert(group, it)?;
     Ok(())
 }

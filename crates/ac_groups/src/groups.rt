@@ -8,6 +8,7 @@ ghost use Rattle.ac_groups.specs.Groups.{group_of};
 pub use crate::group::Taken;
 use crate::group::{ByGroup, facet_of, house, put, take, vacate};
 use crate::parts::parts;
+use pv_marks::Marked;
 use pv_value::{NoMemory, Value};
 use std::alloc::Global;
 use std::collections::BTreeMap;
@@ -54,21 +55,25 @@ impl Groups {
         }
     }
 
-    /// The handle of a key goes. The answer tells it, and the facet of the key's group.
-    pub fn take(&mut self, key: &Value) -> Taken
-        ensures handle { result.handle ≡ lookup (is_at (order key.now)) self.old.handles }
-        ensures facet { result.facet ≡ option_and_then
-            (λ o. lookup (is_at (order o)) self.old.facets) (group_of key.now) }
-        ensures handles { self.new.handles ≡ remove_entry (is_at (order key.now))
-            self.old.handles }
-        ensures facets { self.new.facets ≡ self.old.facets }
+    /// The handle of a key goes. The answer tells it, and the facet of the key's group. For want of
+    /// memory nothing changes.
+    pub fn take(&mut self, key: &Value) -> Result<Taken, NoMemory>
+        ensures handle { IfOk result (λ taken. taken.handle
+            ≡ lookup (is_at (order key.now)) self.old.handles) }
+        ensures facet { IfOk result (λ taken. taken.facet ≡ option_and_then
+            (λ o. lookup (is_at (order o)) self.old.facets) (group_of key.now)) }
+        ensures handles { OnOk result (self.new.handles
+            ≡ remove_entry (is_at (order key.now)) self.old.handles) }
+        ensures facets { OnOk result (self.new.facets ≡ self.old.facets) }
+        ensures stands { OnErr result (self.new ≡ self.old) }
     {
         if let Some((group, rest)) = parts(key) {
-            return take(&mut self.groups, group, rest);
+            let marked = Marked::of(group)?;
+            return Ok(take(&mut self.groups, &marked, rest));
         }
+        let facet = facet_of(&self.groups, key)?;
         let handle = self.others.remove(key);
-        let facet = facet_of(&self.groups, key);
-        Taken { handle, facet }
+        Ok(Taken { handle, facet })
     }
 
     /// A key has a handle from now on; answers the facet of the key's group. For want of memory
@@ -82,10 +87,12 @@ impl Groups {
         ensures stands { OnErr result (self.new ≡ self.old) }
     {
         if let Some((group, rest)) = parts(key) {
-            return put(self.alloc, &mut self.groups, group, rest, handle);
+            let marked = Marked::of(group)?;
+            return put(self.alloc, &mut self.groups, marked, rest, handle);
         }
+        let facet = facet_of(&self.groups, key)?;
         self.others.insert(key.copy()?, handle)?;
-        Ok(facet_of(&self.groups, key))
+        Ok(facet)
     }
 
     /// A group has a facet from now on. For want of memory nothing changes.
@@ -95,15 +102,19 @@ impl Groups {
         ensures handles { self.new.handles ≡ self.old.handles }
         ensures stands { OnErr result (self.new ≡ self.old) }
     {
-        house(self.alloc, &mut self.groups, group, facet)
+        let marked = Marked::of(group)?;
+        house(self.alloc, &mut self.groups, marked, facet)
     }
 
-    /// A group's facet goes.
-    pub fn vacate(&mut self, group: &Value)
-        ensures facets { self.new.facets
-            ≡ remove_entry (is_at (order group.now)) self.old.facets }
-        ensures handles { self.new.handles ≡ self.old.handles }
+    /// A group's facet goes. For want of memory nothing changes.
+    pub fn vacate(&mut self, group: &Value) -> Result<(), NoMemory>
+        ensures facets { OnOk result (self.new.facets
+            ≡ remove_entry (is_at (order group.now)) self.old.facets) }
+        ensures handles { OnOk result (self.new.handles ≡ self.old.handles) }
+        ensures stands { OnErr result (self.new ≡ self.old) }
     {
-        vacate(&mut self.groups, group);
+        let marked = Marked::of(group)?;
+        vacate(&mut self.groups, &marked);
+        Ok(())
     }
 }

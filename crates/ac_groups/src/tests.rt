@@ -16,12 +16,17 @@ fn key(alloc: Global, first: u64, rest: Option<u64>) -> Result<Value, NoMemory> 
 }
 
 /// Whether a key had this handle, and its group this facet.
-fn is_taken(groups: &mut Groups, key: &Value, handle: u64, facet: Option<u32>) -> bool {
+fn is_taken(
+    groups: &mut Groups,
+    key: &Value,
+    handle: u64,
+    facet: Option<u32>,
+) -> Result<bool, NoMemory> {
     let Taken {
         handle: had,
         facet: told,
-    } = groups.take(key);
-    had == Some(handle) && told == facet
+    } = groups.take(key)?;
+    Ok(had == Some(handle) && told == facet)
 }
 
 /// Whether the facet of a group is told with the handles that come and go while it has one.
@@ -31,9 +36,9 @@ fn is_told(alloc: Global) -> Result<bool, NoMemory> {
     let first = groups.put(&one, 5)?.is_none();
     groups.house(&number(1), 7)?;
     let second = groups.put(&two, 6)? == Some(7);
-    let went = is_taken(&mut groups, &one, 5, Some(7)) && is_taken(&mut groups, &two, 6, Some(7));
-    groups.vacate(&number(1));
-    Ok(first && second && went && groups.take(&one).facet.is_none())
+    let went = is_taken(&mut groups, &one, 5, Some(7))? && is_taken(&mut groups, &two, 6, Some(7))?;
+    groups.vacate(&number(1))?;
+    Ok(first && second && went && groups.take(&one)?.facet.is_none())
 }
 
 /// Whether a key of another form comes and goes.
@@ -41,7 +46,7 @@ fn is_kept_aside(alloc: Global) -> Result<bool, NoMemory> {
     let mut groups = Groups::new(alloc);
     let one = key(alloc, 1, None)?;
     let came = groups.put(&one, 5)?.is_none();
-    Ok(came && is_taken(&mut groups, &one, 5, None))
+    Ok(came && is_taken(&mut groups, &one, 5, None)?)
 }
 
 #[test]

@@ -19,9 +19,10 @@ returns-in-Some-clause-facet c =
     let i = c.self.inside in
     let k = c.self.invariant in
     let key = c.args.key.now in
-    let o = c.in-Some.group.now in
+    let o = c.in_ok-marked.marked in
     let d = c.in-Some.rest.now in
-    let form : key ≡ pair o d = parts_is key o d (sym c.in-Some.ensures) in
+    let form : key ≡ pair o d =
+    parts_is key c.in-Some.group.now d (sym c.in-Some.ensures) ∙ ap (λ x. pair x d) (sym c.in_ok-marked.ensures) in
     let told : facet_in (group_at i.groups o)
     ≡ option_and_then (λ p. lookup (is_at (order p)) c.args.self.now.facets) (group_of key) =
     ap (λ x. option_and_then (λ p. facet_in (group_at i.groups p)) (group_of x)) (sym form)
@@ -41,9 +42,10 @@ returns-in-Some-clause-handles c =
       apart = k.apart;
     } in
     let key = c.args.key.now in
-    let o = c.in-Some.group.now in
+    let o = c.in_ok-marked.marked in
     let d = c.in-Some.rest.now in
-    let form : key ≡ pair o d = parts_is key o d (sym c.in-Some.ensures) in
+    let form : key ≡ pair o d =
+    parts_is key c.in-Some.group.now d (sym c.in-Some.ensures) ∙ ap (λ x. pair x d) (sym c.in_ok-marked.ensures) in
     on_ok_weaker c.put.result
     (λ h. handle_come i.groups new i.others k now key o d c.args.handle form h
     ∙ ap (λ (v : Grouped). insert_entry order v.handles key c.args.handle) c.self.view_is)

@@ -23,9 +23,10 @@ returns-in-Some-clause-handle c =
       apart = k.apart;
     } in
     let key = c.args.key.now in
-    let o = c.in-Some.group.now in
+    let o = c.in_ok-marked.marked in
     let d = c.in-Some.rest.now in
-    let form : key ≡ pair o d = parts_is key o d (sym c.in-Some.ensures) in
+    let form : key ≡ pair o d =
+    parts_is key c.in-Some.group.now d (sym c.in-Some.ensures) ∙ ap (λ x. pair x d) (sym c.in_ok-marked.ensures) in
     c.take.ensures.handle ∙ sym (pair_was i.groups new i.others k now o d)
     ∙ ap (λ x. found x (handles_of i.groups i.others)) (sym form)
     ∙ ap (λ (v : Grouped). found key v.handles) c.self.view_is
@@ -35,9 +36,10 @@ returns-in-Some-clause-facet c =
     let i = c.self.inside in
     let k = c.self.invariant in
     let key = c.args.key.now in
-    let o = c.in-Some.group.now in
+    let o = c.in_ok-marked.marked in
     let d = c.in-Some.rest.now in
-    let form : key ≡ pair o d = parts_is key o d (sym c.in-Some.ensures) in
+    let form : key ≡ pair o d =
+    parts_is key c.in-Some.group.now d (sym c.in-Some.ensures) ∙ ap (λ x. pair x d) (sym c.in_ok-marked.ensures) in
     let told : facet_in (group_at i.groups o)
     ≡ option_and_then (λ p. lookup (is_at (order p)) c.args.self.now.facets) (group_of key) =
     ap (λ x. option_and_then (λ p. facet_in (group_at i.groups p)) (group_of x)) (sym form)
@@ -57,9 +59,10 @@ returns-in-Some-clause-handles c =
       apart = k.apart;
     } in
     let key = c.args.key.now in
-    let o = c.in-Some.group.now in
+    let o = c.in_ok-marked.marked in
     let d = c.in-Some.rest.now in
-    let form : key ≡ pair o d = parts_is key o d (sym c.in-Some.ensures) in
+    let form : key ≡ pair o d =
+    parts_is key c.in-Some.group.now d (sym c.in-Some.ensures) ∙ ap (λ x. pair x d) (sym c.in_ok-marked.ensures) in
     handle_gone i.groups new i.others k now key o d form c.take.ensures.handles
     ∙ ap (λ (v : Grouped). remove_entry (is_at (order key)) v.handles) c.self.view_is
 

@@ -3,7 +3,7 @@ use Rattle.std.specs.BTreeMap.{is_at}
 use Rattle.std.specs.Map.{remove_entry}
 use Rattle.pv_value.specs.Order.{order}
 use Rattle.ac_groups.specs.Groups.{Grouped}
-use Rattle.ac_groups.specs.Kept.{IsKept}
+use Rattle.ac_groups.specs.Kept.{all_facets, IsKept}
 use Rattle.ac_groups.proofs.Changes.{handles_still, facet_gone}
 use Rattle.ac_groups.proofs.groups.Groups.vacate.Goals as goal
 
@@ -11,8 +11,9 @@ pub returns-clause-facets : goal.returns-clause-facets
 returns-clause-facets c =
     let i = c.self.inside in
     let k = c.self.invariant in
-    facet_gone i.groups c.vacate.new.groups k.groups_ascend c.vacate.ensures.ordered c.args.group.now
+    facet_gone i.groups c.vacate.new.groups k.groups_ascend c.vacate.ensures.ordered c.in_ok-marked.marked
     c.vacate.ensures.facets
+    ∙ ap (λ o. remove_entry (is_at (order o)) (all_facets i.groups.entries)) c.in_ok-marked.ensures
     ∙ ap (λ (v : Grouped). remove_entry (is_at (order c.args.group.now)) v.facets) c.self.view_is
 
 pub returns-clause-handles : goal.returns-clause-handles
