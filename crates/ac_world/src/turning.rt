@@ -50,7 +50,7 @@ impl<Y: System + Drop> Turning<Y> {
         if !self.plan.vacate(actor, facet)? {
             return Ok(());
         }
-        self.resident.groups.vacate(group);
+        self.resident.groups.vacate(group)?;
         Ok(())
     }
 
@@ -63,7 +63,7 @@ impl<Y: System + Drop> Turning<Y> {
             (turning_by Y.rows self.old)) }
         ensures system { OnOk result (self.new.resident.system ≡ self.old.resident.system) }
     {
-        let Taken { handle, facet } = self.resident.groups.take(key);
+        let Taken { handle, facet } = self.resident.groups.take(key)?;
         if let Some(handle) = handle {
             self.plan.drop_row(actor, handle)?;
         }

@@ -42,5 +42,5 @@ returns-clause-stands g c =
     let none : has_rows a f t.plan.table ≡ false =
     not_true (has_rows a f t.plan.table) (sym c.in_ok-vacate.ensures.stopped ∙ c.if-not-branch.false) in
     let s = stands_emptied a k t c.requires.stands f c.vacate-2.new.self.facets c.vacate.new.self
-    (sym told ∙ c.in-Some-facet.is) none c.vacate-2.ensures.facets c.in_ok-vacate.ensures.state in
+    (sym told ∙ c.in-Some-facet.is) none c.in_ok-vacate-2.ensures.facets c.in_ok-vacate.ensures.state in
     record { live = s.live; rooted = s.rooted; houses = s.houses }
