@@ -1,11 +1,8 @@
 -- What is found in the flat lists is what is found under groups.
 use Rattle.std.proofs.Common.{◌≡◌, ℕ, List, [], ◌∷◌, Bool, true, false, cond, ◌&&◌, Option, Some, None}
 use Rattle.std.proofs.Common.{refl, sym, ap, ◌∙◌}
-use Rattle.std.proofs.Common.{subst}
-use Rattle.std.specs.BTreeMap.{insert_entry}
 use Rattle.std.specs.Option.{option_or}
 use Rattle.pv_value.specs.Plain.{Plain}
-use Rattle.pv_value.specs.Order.{order}
 use Rattle.pv_words.specs.Parts.{same}
 use Rattle.ac_groups.specs.Groups.{pair, parts}
 use Rattle.ac_groups.specs.Kept.{Group, handle_in, facet_in, with_handles, all_handles, with_facet, all_facets}

@@ -1,4 +1,4 @@
-use Rattle.std.proofs.Common.{None, Some, refl, sym, ap, ◌∙◌, cond}
+use Rattle.std.proofs.Common.{None, Some, refl, sym, ap}
 use Rattle.std.specs.BTreeMap.{is_at}
 use Rattle.std.specs.Map.{lookup}
 use Rattle.pv_value.specs.Order.{order}

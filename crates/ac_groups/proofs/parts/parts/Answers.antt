@@ -1,4 +1,4 @@
-use Rattle.std.proofs.Common.{arith, sym, ap, length, ◌∙◌}
+use Rattle.std.proofs.Common.{arith, sym, ap, length}
 use Rattle.std.proofs.lemmas.Bool.{ltb-true, ltb-false}
 use Rattle.ac_groups.proofs.Pairs.{no_parts}
 use Rattle.ac_groups.proofs.parts.parts.Goals as goal

@@ -92,7 +92,7 @@ pub returns-clause-facet : goal.returns-clause-facet
 returns-clause-facet c =
     let i = c.self.inside in
     let k = c.self.invariant in
-    c.facet_of.ensures ∙ facet_told i.groups k.groups_ascend c.args.key.now
+    c.in_ok-facet.ensures ∙ facet_told i.groups k.groups_ascend c.args.key.now
     ∙ ap (λ (v : Grouped). option_and_then (λ p. found p v.facets) (group_of c.args.key.now)) c.self.view_is
 
 pub returns-clause-handles : goal.returns-clause-handles
