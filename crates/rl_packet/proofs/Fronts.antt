@@ -110,19 +110,19 @@ record_begins d letter bytes xs rest text b =
 -- ---- events
 
 -- the letters are texts
-assert_text : IsUtf8 (65 ∷ [])
+pub assert_text : IsUtf8 (65 ∷ [])
 unfolding lib.Utf8.encode
 assert_text = (65 ∷ [], (refl, refl))
 
-retract_text : IsUtf8 (82 ∷ [])
+pub retract_text : IsUtf8 (82 ∷ [])
 unfolding lib.Utf8.encode
 retract_text = (82 ∷ [], (refl, refl))
 
-message_text : IsUtf8 (77 ∷ [])
+pub message_text : IsUtf8 (77 ∷ [])
 unfolding lib.Utf8.encode
 message_text = (77 ∷ [], (refl, refl))
 
-sync_text : IsUtf8 (83 ∷ [])
+pub sync_text : IsUtf8 (83 ∷ [])
 unfolding lib.Utf8.encode
 sync_text = (83 ∷ [], (refl, refl))
 

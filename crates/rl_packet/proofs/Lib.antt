@@ -4,4 +4,5 @@ pub mod Keeping
 pub mod Putting
 pub mod Refusals
 pub mod Sizes
+pub mod Sound
 pub mod Wires

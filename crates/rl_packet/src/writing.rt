@@ -3,6 +3,7 @@ ghost use Rattle.std.specs.Prelude.{◌≡◌, ◌++◌, ◌∷◌, [], ◌^◌,
 ghost use Rattle.std.specs.Io.{StartsWith};
 ghost use Rattle.pv_value.specs.Plain.{plains};
 ghost use Rattle.pv_value.specs.Weight.{canonical_size, sizes_with};
+ghost use Rattle.pv_value.specs.WellFormed.{IsWellFormed, AreWellFormed};
 ghost use Rattle.pv_words.specs.Words.{number};
 ghost use Rattle.pv_binary.specs.Written.{written, written_all};
 ghost use Rattle.rl_packet.specs.Packets.{event_value, aimed_value, turn_value, packet_value};
@@ -112,6 +113,65 @@ fn write_event(out: &mut Vec<u8>, event: &Event) -> Result<(), NoMemory>
 /// The length of the canonical form of a packet's value, which is not made: it is as long as the
 /// written spelling. It takes no memory, and stops at `u64::MAX`.
 pub fn packet_size(packet: &Packet) -> u64
+    ensures size { result ≡ min (canonical_size (packet_value packet.now)) (2 ^ 64 - 1) }
+    ensures whole { IsWellFormed (packet_value packet.now) }
+{
+    see_packet(packet);
+    size_of(packet)
+}
+
+/// The packet's value keeps what is true of all values.
+fn see_packet(packet: &Packet)
+    ensures { IsWellFormed (packet_value packet.now) }
+{
+    match packet {
+        Packet::Turn(turn) => see_events(turn.as_slice()),
+        Packet::Error(message, detail) => {
+            let _ = &message.node;
+            let _ = &detail.node;
+        }
+        Packet::Nop => {}
+        Packet::Extension(value) => {
+            let _ = &value.node;
+        }
+    }
+}
+
+fn see_events(events: &[TurnEvent])
+    ensures { AreWellFormed (plains (map aimed_value events.now)) }
+{
+    for event in events {
+        see_number(event.oid);
+        see_event(&event.event);
+    }
+}
+
+fn see_event(event: &Event)
+    ensures { IsWellFormed (event_value event.now) }
+{
+    match event {
+        Event::Assert(value, handle) => {
+            see_number(*handle);
+            let _ = &value.node;
+        }
+        Event::Retract(handle) => see_number(*handle),
+        Event::Message(body) => {
+            let _ = &body.node;
+        }
+        Event::Sync(peer) => {
+            let _ = &peer.node;
+        }
+    }
+}
+
+fn see_number(n: u64)
+    ensures { IsWellFormed (number n) }
+{
+    let value = number(n);
+    let _ = &value.node;
+}
+
+fn size_of(packet: &Packet) -> u64
     ensures { result ≡ min (canonical_size (packet_value packet.now)) (2 ^ 64 - 1) }
 {
     match packet {

@@ -3,7 +3,7 @@ use Rattle.pv_value.specs.Plain.{plains}
 use Rattle.pv_value.specs.Weight.{canonical_size, sizes_with}
 use Rattle.rl_packet.specs.Packets.{aimed_value, packet_value}
 use Rattle.rl_packet.proofs.Sizes.{turn_size, error_size, nop_size}
-use Rattle.rl_packet.proofs.writing.packet_size.Goals as goal
+use Rattle.rl_packet.proofs.writing.size_of.Goals as goal
 
 pub returns-in-Turn : goal.returns-in-Turn
 returns-in-Turn c =
