@@ -155,7 +155,8 @@ impl<S: Space + Drop, J: Judge + Drop, B: Behaves + Drop> Hub<S, J, B> {
     pub(crate) fn named_by(&self, actor: u32) -> Option<u32>
         ensures { result ≡ named_by actor self.now }
     {
-        if actor >= BEFORE_CONNECTIONS && self.connections.contains_key(&(actor - BEFORE_CONNECTIONS))
+        if actor >= BEFORE_CONNECTIONS
+            && self.connections.contains_key(&(actor - BEFORE_CONNECTIONS))
         {
             Some(actor - BEFORE_CONNECTIONS)
         } else {

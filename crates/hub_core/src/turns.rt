@@ -120,7 +120,11 @@ impl<S: Space + Drop, J: Judge + Drop, B: Behaves + Drop> Hub<S, J, B> {
     {
         match turned {
             Turned::Ran(spreads) => self.ends(alloc, spreads.as_slice(), Reply::Ran),
-            Turned::Taken(batch) => self.tell(alloc, actor.saturating_sub(BEFORE_CONNECTIONS), batch),
+            Turned::Taken(batch) => self.tell(
+                alloc,
+                actor.saturating_sub(BEFORE_CONNECTIONS),
+                batch,
+            ),
             Turned::Idle => Ok((self, Reply::Idle)),
             Turned::Gone => self.tell_fault(alloc, actor),
         }

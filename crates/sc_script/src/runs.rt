@@ -24,9 +24,9 @@ use hub_core::{Fault, Hub, Reply, Step};
 use hub_outs::{Outs, turning};
 use lc_guard::all_known;
 use lc_watch::Behaves;
-use pv_canon::{canon_len, canonical_is_exact};
+use pv_canon::canonical_is_exact;
 use pv_value::{NoMemory, Value};
-use rl_packet::{Packet, Turn, packet_value};
+use rl_packet::{Packet, Turn, packet_size};
 use rl_stream::{Next, Stream};
 use sc_events::{ScriptEvent, event_of};
 use sc_streams::Streams;
@@ -71,13 +71,12 @@ impl<S: Space + Drop, J: Judge + Drop, B: Behaves + Drop> Model for Run<S, J, B>
 }
 
 /// How many bytes a packet has on the wire, of which none is made. It stops at `u64::MAX`.
-fn size_of(alloc: Global, packet: &Packet) -> Result<u64, NoMemory>
-    ensures { IfOk result (λ n. n ≡ min (size_of packet.now) (2 ^ 64 - 1)) }
+fn size_of(packet: &Packet) -> u64
+    ensures { result ≡ min (size_of packet.now) (2 ^ 64 - 1) }
 {
     // the canonical form is as long as what is written
     canonical_is_exact();
-    let value = packet_value(alloc, packet)?;
-    Ok(canon_len(&value))
+    packet_size(packet)
 }
 
 impl<S: Space + Drop, J: Judge + Drop, B: Behaves + Drop> Run<S, J, B> {
@@ -96,12 +95,7 @@ impl<S: Space + Drop, J: Judge + Drop, B: Behaves + Drop> Run<S, J, B> {
     /// A packet was sent by a step, which is an actor's turn: it is kept for its connection, and
     /// its bytes count.
     #[inline(always)]
-    fn note(
-        self,
-        alloc: Global,
-        actor: Option<u32>,
-        packet: Packet,
-    ) -> Result<Run<S, J, B>, ScriptFault>
+    fn note(self, actor: Option<u32>, packet: Packet) -> Result<Run<S, J, B>, ScriptFault>
         ensures run { IfOk result (λ run. run ≡ noted actor packet self) }
         ensures stop { IfErr result (λ f. f ≢ fault.NoMemory
             → (f ≡ fault.Limit 4) × (most_sent < self.size + size_of packet)) }
@@ -112,7 +106,7 @@ impl<S: Space + Drop, J: Judge + Drop, B: Behaves + Drop> Run<S, J, B> {
             size,
             streams,
         } = self;
-        let size = size.saturating_add(size_of(alloc, &packet)?);
+        let size = size.saturating_add(size_of(&packet));
         if size > SENT_BYTES {
             return Err(ScriptFault::Limit(4));
         }
@@ -188,7 +182,7 @@ impl<S: Space + Drop, J: Judge + Drop, B: Behaves + Drop> Run<S, J, B> {
             Reply::Worn => Err(ScriptFault::Limit(5)),
             Reply::Full => Err(ScriptFault::Limit(2)),
             Reply::Sent(packet) => {
-                let run = run.note(alloc, actor, packet)?;
+                let run = run.note(actor, packet)?;
                 // the proof learns here that a run sends no more than it may
                 let _ = &run.size;
                 Ok(run)

@@ -1,9 +1,10 @@
-use Rattle.std.proofs.Common.{length, min, ap, ◌∙◌}
-use Rattle.pv_binary.specs.Written.{written}
+use Rattle.std.proofs.Common.{length, min, sym, ap, ◌∙◌}
+use Rattle.rl_packet.specs.Packets.{packet_value}
 use Rattle.sc_script.proofs.runs.size_of.Goals as goal
 
 pub returns : goal.returns
 returns c =
-    c.canon_len.ensures
+    let v = packet_value c.args.packet.now in
+    c.packet_size.ensures.size
     ∙ ap (λ n. min n 18446744073709551615)
-    (c.canonical_is_exact.ensures.length c.in_ok-value.value ∙ ap (λ v. length (written v)) c.in_ok-value.ensures)
+    (sym (c.canonical_is_exact.ensures.size v c.packet_size.ensures.whole) ∙ c.canonical_is_exact.ensures.length v)
