@@ -1,13 +1,14 @@
 -- What a change of one list does to what each entry keeps.
 use Rattle.std.proofs.Common.{◌≡◌, Bool, true, false, cond, not, ◌&&◌, ◌||◌, Option, Some, None, refl, ap, sym, ◌∙◌}
-use Rattle.std.proofs.Common.{List, [], ◌∷◌, length, arith}
+use Rattle.std.proofs.Common.{List, [], ◌∷◌, length, ◌<◌, subst, arith}
 use Rattle.std.specs.BTreeSet as sorted
 use Rattle.std.specs.List.{list_any}
-use Rattle.std.specs.BTreeSet.{BTreeSet}
+use Rattle.std.specs.BTreeSet.{BTreeSet, btree_set_len}
 use Rattle.pv_value.specs.Plain.{Plain}
 use Rattle.pv_value.specs.Order.{order}
 use Rattle.pv_words.specs.Parts.{same}
 use Rattle.ds_space.specs.Lemmas.Keys.{or_cond, or_false}
+use Rattle.ds_small.proofs.Sets.{same_turns}
 use Rattle.ds_facts.specs.Atoms.{Entry, same_entry}
 use Rattle.ds_facts.specs.Keeping.{is_in}
 use Rattle.ds_facts.proofs.Same.{entry_is, entry_turns}
@@ -78,3 +79,41 @@ none_in list e v = by list.keys e
 pub none_less : (b : Bool) → false ≡ cond b false false
 none_less true = refl
 none_less false = refl
+
+-- ---- one value alone
+
+-- a list of one value has that value
+pub alone : (value v : Plain) → (same v value || false) ≡ cond (same value v) true false
+alone value v = by (same v value) ∙ ap (λ b. cond b true false) (same_turns v value)
+  where
+    by : (b : Bool) → (b || false) ≡ cond b true false
+    by true = refl
+    by false = refl
+
+-- what was put is put over
+pub put_over : {X : Type 0} (b : Bool) (x y z : Option X) (v w : X) → x ≡ cond b (Some v) y → y ≡ cond b (Some w) z
+    → x ≡ cond b (Some v) z
+put_over true x y z v w e f = e
+put_over false x y z v w e f = e ∙ f
+
+-- a list in which a value is isn't empty
+pub has_one : (list : BTreeSet Plain) (v : Plain) → sorted.contains order list v ≡ true → 0 < btree_set_len list
+has_one list v e = by list.keys e
+  where
+    by : (ks : List Plain) → list_any (same v) ks ≡ true → 0 < length ks
+    by [] e = absurd cc
+    by (k ∷ ks) e = omega arith
+
+some_is : (x y : BTreeSet Plain) → Some x ≡ Some y → x ≡ y
+some_is x y e = cc
+
+-- no list is empty where one more was put that isn't
+pub filled_at : (f g : Entry → Option (BTreeSet Plain)) (p : Entry) (there : BTreeSet Plain)
+    → ((e : Entry) → g e ≡ cond (same_entry p e) (Some there) (f e)) → 0 < btree_set_len there
+    → ((e : Entry) (list : BTreeSet Plain) → f e ≡ Some list → 0 < btree_set_len list)
+    → (e : Entry) (list : BTreeSet Plain) → g e ≡ Some list → 0 < btree_set_len list
+filled_at f g p there put more filled e list is = by (same_entry p e) (sym (put e) ∙ is)
+  where
+    by : (b : Bool) → cond b (Some there) (f e) ≡ Some list → 0 < btree_set_len list
+    by true h = subst (λ l. 0 < btree_set_len l) (some_is there list h) more
+    by false h = filled e list h

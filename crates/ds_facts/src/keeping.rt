@@ -7,14 +7,16 @@ ghost use Rattle.ds_facts.specs.Atoms.{same_entry};
 ghost use Rattle.ds_facts.specs.Keeping.{keeps, AreFilled};
 
 use crate::atoms::entry_of;
+use ds_small::SmallSet;
 use pv_value::{Entry, NoMemory, Value};
 use std::alloc::Global;
-use std::collections::{BTreeMap, BTreeSet};
+use std::collections::BTreeMap;
 
 /// The values that have an entry, for each entry that one has.
-pub(crate) type Places = BTreeMap<Entry, BTreeSet<Value>>;
+pub(crate) type Places = BTreeMap<Entry, SmallSet>;
 
-/// The value is kept at the entry.
+/// The value is kept at the entry, which is new mostly: so the value is put there alone, and a list
+/// that was there is put back with the value in it.
 pub(crate) fn put(
     alloc: Global,
     places: &mut Places,
@@ -25,14 +27,15 @@ pub(crate) fn put(
         ≡ (keeps places.old e v || (same_entry e entry.now && same value.now v))) }
     ensures filled { OnOk result (AreFilled places.old → AreFilled places.new) }
 {
-    let another = value.copy()?;
-    if let Some(list) = places.get_mut(entry) {
-        list.insert(another)?;
+    let alone = SmallSet::one(value.copy()?);
+    let place = entry_of(&entry.key, &entry.value)?;
+    let before = places.insert(place, alone)?;
+    let Some(mut list) = before else {
         return Ok(());
-    }
-    let mut list = BTreeSet::new(alloc);
-    list.insert(another)?;
-    places.insert(entry_of(&entry.key, &entry.value)?, list)?;
+    };
+    list.insert(alloc, value.copy()?)?;
+    let again = entry_of(&entry.key, &entry.value)?;
+    places.insert(again, list)?;
     Ok(())
 }
 

@@ -10,9 +10,9 @@ ghost use Rattle.ds_facts.specs.Nearness.{size, told, fewest, fewest_at};
 use crate::atoms::{entry_of, is_atom};
 use crate::facts::Facts;
 use ds_shape::{Outline, Path, Step};
+use ds_small::SmallSet;
 use pv_value::{Entry, NoMemory, Node, Value};
 use std::alloc::Global;
-use std::collections::BTreeSet;
 
 /// Where values with given constants are to be looked for.
 #[derive(Clone, Copy)]
@@ -22,7 +22,7 @@ pub enum Near<'a> {
     /// No value has them.
     Nowhere,
     /// Among these.
-    Among(&'a BTreeSet<Value>),
+    Among(&'a SmallSet),
 }
 
 /// The place to which a step leads.

@@ -105,3 +105,14 @@ one_other e k c n is = none_more n ∙ ap (λ b. n + cond (b && same e.captures 
   where
     none_more : (n : ℕ) → n ≡ n + 0
     none_more n = omega arith
+
+-- ---- one value alone
+
+pub first_count : (a n m : ℕ) → a ≡ n + m → n ≡ 0 → a ≡ m
+first_count a n m e f = omega (arith, e, f)
+
+pub count_alone : (f : Plain → Bool) (v : Plain) → cond (f v) 1 0 ≡ count f (v ∷ [])
+count_alone f v = none_more (cond (f v) 1 0)
+  where
+    none_more : (n : ℕ) → n ≡ n + 0
+    none_more n = omega arith

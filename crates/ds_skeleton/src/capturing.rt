@@ -13,6 +13,7 @@ use crate::index::Values;
 use crate::standing::{Parts, stand};
 use ds_facts::{Facts, Near};
 use ds_shape::Outline;
+use ds_small::{Held, SmallSet};
 use pv_value::{NoMemory, Value};
 use std::alloc::Global;
 use std::collections::{BTreeMap, BTreeSet};
@@ -68,8 +69,8 @@ fn captures_anywhere(
     Ok(counts)
 }
 
-/// The captures of those of a few values that have the constants.
-fn captures_among(
+/// The captures of those of the values of a tree that have the constants.
+fn captures_in(
     alloc: Global,
     few: &BTreeSet<Value>,
     outline: &Outline,
@@ -83,6 +84,38 @@ fn captures_among(
         count_captures(alloc, &mut counts, outline, constants, value)?;
     }
     Ok(counts)
+}
+
+/// The captures of one value, where it has the constants.
+fn captures_alone(
+    alloc: Global,
+    value: &Value,
+    outline: &Outline,
+    constants: &Value,
+) -> Result<Counts, NoMemory>
+    ensures { IfOk result (λ counts. (c : Plain) → number (tree.get order counts c)
+        ≡ (if stands outline.now constants.now c value.now then 1 else 0)) }
+{
+    let mut counts = BTreeMap::new(alloc);
+    count_captures(alloc, &mut counts, outline, constants, value)?;
+    Ok(counts)
+}
+
+/// The captures of those of a few values that have the constants.
+fn captures_among(
+    alloc: Global,
+    few: &SmallSet,
+    outline: &Outline,
+    constants: &Value,
+) -> Result<Counts, NoMemory>
+    ensures { IfOk result (λ counts. (c : Plain) → number (tree.get order counts c)
+        ≡ count (stands outline.now constants.now c) (sorted.keys few.now)) }
+{
+    match few.held() {
+        Held::Nothing => Ok(BTreeMap::new(alloc)),
+        Held::One(value) => captures_alone(alloc, value, outline, constants),
+        Held::Many(tree) => captures_in(alloc, tree, outline, constants),
+    }
 }
 
 /// The captures of the values that have the constants, each with how many were captured so.

@@ -31,7 +31,7 @@ returns-then-is_empty-clause-keeps c =
     taken_at f g p value None
     (λ e. put_away (same_entry p e) (g e) (m e) (f e) list (c.remove-then-is_empty.ensures.updates.0 e)
     (((c.get_mut.follows.holds list).3 (rw there refl)).0 e))
-    (λ v. sym (none_in list empty v) ∙ c.remove.ensures.updates.0 v
+    (λ v. sym (none_in list empty v) ∙ c.remove.ensures.members v
     ∙ ap (λ o. cond (same value v) false (is_in o v)) (sym there))
 
 pub returns-else-is_empty-clause-keeps : goal.returns-else-is_empty-clause-keeps
@@ -43,4 +43,4 @@ returns-else-is_empty-clause-keeps c =
     let g = λ (e : Entry). tree.get entry_order (c.get_mut.follows.lender list) e in
     let there : f p ≡ Some c.in-Some.list.now = sym c.in-Some.ensures.value in
     taken_at f g p value (Some list) (λ e. ((c.get_mut.follows.holds list).3 (rw there refl)).0 e)
-    (λ v. c.remove.ensures.updates.0 v ∙ ap (λ o. cond (same value v) false (is_in o v)) (sym there))
+    (λ v. c.remove.ensures.members v ∙ ap (λ o. cond (same value v) false (is_in o v)) (sym there))
