@@ -61,7 +61,8 @@ fn packets_come_byte_by_byte(rt: HostRuntime) -> Result<(), Fail> {
     Ok(())
 }
 
-/// `[[0 <A "ab" 1>] [1 <R 1>] [2 <M #{1 2}>]] <x> #f [] [[0 <S #:[0 3]>]]`, each in its one spelling.
+/// `[[0 <A "ab" 1>] [1 <R 1>] [2 <M #{1 2}>]] <x> #f [] [[0 <S #:[0 3]>]]`, each in its one
+/// spelling.
 const PACKETS: [u8; 76] = [
     0xb5, 0xb5, 0xb0, 0, 0xb4, 0xb3, 1, 0x41, 0xb1, 2, 0x61, 0x62, 0xb0, 1, 1, 0x84, 0x84, 0xb5,
     0xb0, 1, 1, 0xb4, 0xb3, 1, 0x52, 0xb0, 1, 1, 0x84, 0x84, 0xb5, 0xb0, 1, 2, 0xb4, 0xb3, 1, 0x4d,
