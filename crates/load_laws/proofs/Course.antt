@@ -1,7 +1,7 @@
--- A course over the events of a load: as many connections come as should, or a limit stops it; and then what they send
--- is no bad event.
+-- A course over the events of a load: as many connections come as should, and then what they send is no bad event; where
+-- it stops, the numbers are used up, or too much is sent.
 use Rattle.std.proofs.Common.{◌≡◌, ℕ, zero, suc, ◌+◌, ◌≤◌, inl, inr, List, [], ◌∷◌, length, Bool, true, false, cond}
-use Rattle.std.proofs.Common.{◌&&◌, nat_le, nat_lt, Option, Some, None, refl, sym, subst, ap, ◌∙◌, arith}
+use Rattle.std.proofs.Common.{◌<◌, ◌⊎◌, ◌&&◌, nat_le, nat_lt, Option, Some, None, refl, sym, subst, ap, ◌∙◌, arith}
 use Rattle.std.proofs.lemmas.Bool.Decides.{nat_tests}
 use Rattle.std.specs.Prelude.{IsSomeAnd}
 use Rattle.pv_value.specs.Plain.{Plain}
@@ -25,17 +25,23 @@ use Rattle.sc_events.specs.declared.events.ScriptEvent.{ScriptEvent}
 use Rattle.sc_events.specs.declared.events.ScriptEvent.TheVariants.{Bytes, Drain}
 use Rattle.sc_schema.specs.Courses.{after_value, after_values}
 use Rattle.sc_script.specs.Limits.{most_sent}
-use Rattle.sc_script.specs.Runs.{Running, Course, goes, stops, goes_on, bad, limit, state_of, sent_size, with_step}
+use Rattle.sc_script.specs.Runs.{Running, Cause, Course, goes, stops, goes_on, bad, limit, state_of, sent_size}
+use Rattle.sc_script.specs.Runs.{with_step}
 use Rattle.sc_script.specs.Runs.{unless_too_much, by_reply, stepped, turned_where, drained, stream_of, with_stream}
 use Rattle.sc_script.specs.Runs.{read_where, with_packet, with_no_packet, with_next, all_read, without_stream}
 use Rattle.sc_script.specs.Runs.{bytes_come, was_opened, after_event, doing}
 use Rattle.load_laws.specs.LoadEvents.{IsArrival, IsSending, WriteEvents}
-use Rattle.load_laws.proofs.Opened.{IsOpen, KeepsOpen, come, packet_keeps, bad_keeps, close_keeps, turn_keeps}
+use Rattle.load_laws.proofs.Opened.{IsOpen, Stays, HasRoom, KeepsOpen, come, packet_keeps, bad_keeps, close_keeps}
+use Rattle.load_laws.proofs.Opened.{turn_keeps}
 
--- it goes to where k connections at least have come, or a limit stops it
+-- too much is sent, or the numbers are used up
+abbrev pub IsLate : Cause → Type 0
+IsLate c = (c ≡ limit 4) ⊎ (c ≡ limit 5)
+
+-- it goes to where k connections have come, or one of these stops it
 abbrev pub IsFine : ℕ → Course → Type 0
 IsFine k (goes r) = IsOpen k (state_of r)
-IsFine k (stops c) = (w : ℕ) × (c ≡ limit w)
+IsFine k (stops c) = IsLate c
 
 -- where a first part is fine, so is the whole that goes on with a later one
 pub on_fine : (k m : ℕ) (more : Running → Course) (c : Course) → IsFine k c
@@ -51,15 +57,15 @@ module _ (k : ℕ) where
   much_fine r p = by (nat_lt most_sent (sent_size r))
     where
       by : (much : Bool) → IsFine k (cond much (stops (limit 4)) (goes r))
-      by true = (4, refl)
+      by true = inl refl
       by false = p
 
-  -- whatever a step replies, only a limit stops the course
-  reply_fine : (answer : Reply) (r : Running) → IsOpen k (state_of r) → IsFine k (by_reply answer r)
-  reply_fine reply.Worn r p = (5, refl)
-  reply_fine reply.Full r p = (2, refl)
-  reply_fine (reply.Sent q) r p = much_fine r p
-  reply_fine answer r p = p
+  -- whatever a step replies, only one of the two stops the course
+  reply_fine : (answer : Reply) (r : Running) → HasRoom answer → IsOpen k (state_of r) → IsFine k (by_reply answer r)
+  reply_fine reply.Worn r room p = inr refl
+  reply_fine reply.Full r room p = absurd room
+  reply_fine (reply.Sent q) r room p = much_fine r p
+  reply_fine answer r room p = p
 
   -- the state behind one more step
   step_made : (e : Step) (r : Running) → IsOpen k (step_of (state_of r) e).state → IsOpen k (state_of (with_step e r))
@@ -67,7 +73,8 @@ module _ (k : ℕ) where
 
   stepped_fine : (e : Step) (r : Running) → KeepsOpen k e → IsOpen k (state_of r) → IsFine k (stepped e r)
   stepped_fine e r keeps p =
-      reply_fine (step_of (state_of r) e).reply (with_step e r) (step_made e r (keeps (state_of r) p))
+      let stays = keeps (state_of r) p in
+      reply_fine (step_of (state_of r) e).reply (with_step e r) stays.room (step_made e r stays.state)
 
   -- so it is with a turn, and with many
   turned_fine : (o : Option ℕ) (r : Running) → IsOpen k (state_of r) → IsFine k (turned_where o r)
@@ -143,30 +150,30 @@ both_true : (a b : Bool) → a ≡ true → b ≡ true → (a && b) ≡ true
 both_true a b first second = ap (λ c. c && b) first ∙ second
 
 -- whose number is no greater than that of those that have come was opened
-opened_once : (k j : ℕ) (r : Running) → 1 ≤ j → j ≤ k → IsOpen k (state_of r) → was_opened j r ≡ true
+pub opened_once : (k j : ℕ) (r : Running) → 1 ≤ j → j ≤ k → IsOpen k (state_of r) → was_opened j r ≡ true
 opened_once k j r some own p =
-    let come : j ≤ (state_of r).world.opened = omega (arith, p.many, own) in
+    let many = p.many in
+    let come : j ≤ (state_of r).world.opened = omega (arith, many, own) in
     let first : nat_le 1 j ≡ true = grind (arith, nat_tests, some) in
     let second : nat_le j (state_of r).world.opened ≡ true = grind (arith, nat_tests, come) in
     both_true (nat_le 1 j) (nat_le j (state_of r).world.opened) first second
 
--- one more connection comes, or a limit stops the course
-arrived_fine : (k : ℕ) (r : Running) → IsOpen k (state_of r) → IsFine (suc k) (stepped (step.Arrive 1) r)
-arrived_fine k r p = elim (come k (state_of r) p) [
-  | inl worn ↦ subst (λ a. IsFine (suc k) (by_reply a (with_step (step.Arrive 1) r))) (sym worn) (5, refl)
-  | inr (inl full) ↦ subst (λ a. IsFine (suc k) (by_reply a (with_step (step.Arrive 1) r))) (sym full) (2, refl)
-  | inr (inr more) ↦
-      reply_fine (suc k) (step_of (state_of r) (step.Arrive 1)).reply (with_step (step.Arrive 1) r)
-      (step_made (suc k) (step.Arrive 1) r more)
+-- one more connection comes, or the numbers are used up
+arrived_fine : (k : ℕ) (r : Running) → k < 32 → IsOpen k (state_of r) → IsFine (suc k) (stepped (step.Arrive 1) r)
+arrived_fine k r room p = elim (come k (state_of r) room p) [
+  | inl worn ↦ subst (λ a. IsFine (suc k) (by_reply a (with_step (step.Arrive 1) r))) (sym worn) (inr refl)
+  | inr more ↦
+      reply_fine (suc k) (step_of (state_of r) (step.Arrive 1)).reply (with_step (step.Arrive 1) r) more.room
+      (step_made (suc k) (step.Arrive 1) r more.state)
 ]
 
 module _ (N : Decider) where
   -- a value that opens a connection
-  arrival_fine : (k n : ℕ) (o : Option ScriptEvent) (r : Running) → IsSomeAnd o IsArrival → IsOpen k (state_of r)
-      → IsFine (suc k) (after_value (doing N) n o r)
-  arrival_fine k n None r is p = absurd is
-  arrival_fine k n (Some e) r is p =
-      subst (λ x. IsFine (suc k) (after_event N n x r)) (sym is) (arrived_fine k r p)
+  arrival_fine : (k n : ℕ) (o : Option ScriptEvent) (r : Running) → k < 32 → IsSomeAnd o IsArrival
+      → IsOpen k (state_of r) → IsFine (suc k) (after_value (doing N) n o r)
+  arrival_fine k n None r room is p = absurd is
+  arrival_fine k n (Some e) r room is p =
+      subst (λ x. IsFine (suc k) (after_event N n x r)) (sym is) (arrived_fine k r room p)
 
   -- an event that one of k connections sends, or a drain
   sending_fine : (k n : ℕ) (e : ScriptEvent) (r : Running) → IsSending k e → IsOpen k (state_of r)
@@ -185,13 +192,14 @@ module _ (N : Decider) where
   -- ---- values
 
   -- as many connections come as there are values
-  pub arrivals_fine : (k m n : ℕ) (vs : List Plain) (r : Running) → m ≡ k + length vs → WriteEvents IsArrival vs
-      → IsOpen k (state_of r) → IsFine m (after_values (doing N) n vs r)
-  arrivals_fine k m n [] r counted all p = record { running = p.running; many = omega (arith, p.many, counted) }
-  arrivals_fine k m n (v ∷ vs) r counted all p =
+  pub arrivals_fine : (k m n : ℕ) (vs : List Plain) (r : Running) → m ≡ k + length vs → m ≤ 32
+      → WriteEvents IsArrival vs → IsOpen k (state_of r) → IsFine m (after_values (doing N) n vs r)
+  arrivals_fine k m n [] r counted few all p =
+      let same : k ≡ m = omega (arith, counted) in subst (λ j. IsOpen j (state_of r)) same p
+  arrivals_fine k m n (v ∷ vs) r counted few all p =
       on_fine (suc k) m (after_values (doing N) (n + 1) vs) (after_value (doing N) n (event_of v) r)
-      (arrival_fine k n (event_of v) r all.0 p)
-      (λ t q. arrivals_fine (suc k) m (n + 1) vs t (omega (arith, counted)) all.1 q)
+      (arrival_fine k n (event_of v) r (omega (arith, counted, few)) all.0 p)
+      (λ t q. arrivals_fine (suc k) m (n + 1) vs t (omega (arith, counted)) few all.1 q)
 
   -- and behind them what they send
   pub sendings_fine : (k n : ℕ) (vs : List Plain) (r : Running) → WriteEvents (IsSending k) vs → IsOpen k (state_of r)

@@ -27,7 +27,7 @@ arrivals (suc k) = both (λ v. IsSomeAnd (event_of v) IsArrival) (opens k) _ (ar
 
 -- ---- a turn
 
-bytes_written : (j : ℕ) (es : List TurnEvent) → j < 2 ^ 32
+pub bytes_written : (j : ℕ) (es : List TurnEvent) → j < 2 ^ 32
     → event_of (bytes_event j es) ≡ Some (Bytes j (written (packet_value (packet.Turn es))))
 bytes_written j es small =
     let is : nat_lt j (2 ^ 32) ≡ true = grind (arith, nat_tests, small) in
@@ -44,7 +44,7 @@ pub few_connections : (n : ℕ) → n ≤ most_items → connections_of n ≤ 10
 few_connections n few = omega (arith, (div_ceil_times n 2000 (omega arith)).1, few)
 
 -- a turn that is there begins below the number of all items
-begins : (n t : ℕ) → t < rounded_up n 500 → 500 * t < n
+pub begins : (n t : ℕ) → t < rounded_up n 500 → 500 * t < n
 begins n t there = omega (arith, (div_ceil_times n 500 (omega arith)).1, there)
 
 pub own_turn : (n t : ℕ) → t < rounded_up n 500 → connection_of (500 * t) ≤ connections_of n

@@ -1,11 +1,7 @@
 -- The bytes of a load read back: they are the values of the load.
 use Rattle.std.proofs.Common.{◌≡◌, ℕ, zero, suc, ◌*◌, ◌^◌, ◌<◌, ◌≤◌, List, [], ◌∷◌, ◌++◌, length, take, drop, codes}
-use Rattle.std.proofs.Common.{Bool, true, ◌&&◌, nat_lt, refl, sym, ap, subst, arith, ltb-true, length-append}
-use Rattle.std.proofs.lemmas.Bool.{and_parts}
-use Rattle.std.proofs.lemmas.Str.{IsUtf8-append, IsUtf8-nil, IsUtf8-encode, encode_ascii}
+use Rattle.std.proofs.Common.{true, refl, sym, ap, subst, arith, length-append}
 use Rattle.std.specs.List.{AllByRecursion, flat_map}
-use Rattle.std.specs.Str.{IsUtf8}
-use lib.Utf8.{low_scalar}
 use Rattle.pv_value.specs.Plain.{Plain, byte_string, symbol}
 use Rattle.pv_value.specs.Depth.{depth}
 use Rattle.pv_value.specs.WellFormed.{IsWellFormed}
@@ -26,6 +22,7 @@ use Rattle.sc_load.specs.Loads.{rounded_up, observes, loads, sent_by, connection
 use Rattle.sc_load.specs.Loads.{opens, load_events, load_bytes}
 use Rattle.load_laws.specs.LoadEvents.{connections_of}
 use Rattle.load_laws.proofs.LoadEvents.{both, few_connections, own_turn}
+use Rattle.load_laws.proofs.Spelled.{all_small, small_text}
 
 -- ---- what is written leads
 
@@ -68,20 +65,6 @@ values_read (v ∷ vs) all few =
     )
 
 -- ---- words and numbers
-
--- each is an ASCII character
-abbrev all_small : List ℕ → Bool
-all_small [] = true
-all_small (b ∷ bs) = nat_lt b 128 && all_small bs
-
--- such bytes are UTF-8
-small_text : (bs : List ℕ) → all_small bs ≡ true → IsUtf8 bs
-small_text [] small = IsUtf8-nil
-small_text (b ∷ bs) small =
-    let h = and_parts (nat_lt b 128) (all_small bs) small in
-    let low : b < 128 = ltb-true b 128 h.0 in
-    IsUtf8-append (b ∷ []) bs (subst IsUtf8 (encode_ascii b low) (IsUtf8-encode b (low_scalar b (omega (arith, low)))))
-    (small_text bs h.1)
 
 -- a number of 32 bits may be written
 small_number : (j : ℕ) → j < 2 ^ 32 → IsWellFormed (number j)

@@ -26,5 +26,5 @@ returns-in_err-ran-clause-limits c =
     let stops : StopsAt input.Binary (load_bytes loading.start loading.count) fault =
     subst (λ bytes. StopsAt input.Binary bytes fault) same c.in_err-ran.ensures.stop in
     stopped_so _ fault c.from_residual-in_err-ran.ensures.1
-    (for_a_limit c.next_is_decided.ensures.0 c.next_is_decided.ensures.1 c.loads_stop_for_limits_alone.ensures
+    (for_a_limit c.next_is_decided.ensures.0 c.next_is_decided.ensures.1 c.loads_stop_for_limits_alone.ensures.limits
     loading.start loading.count few fault stops)

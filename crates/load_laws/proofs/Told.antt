@@ -1,0 +1,95 @@
+-- What a connection is told in the run of a load: no reference, and few bytes.
+use Rattle.std.proofs.Common.{◌≡◌, ℕ, suc, ◌+◌, ◌*◌, ◌<◌, ◌≤◌, ◌⊎◌, inl, inr, List, [], ◌∷◌, ◌++◌, ◌==◌, length, map}
+use Rattle.std.proofs.Common.{Bool, true, false, cond, Option, Some, None, refl, sym, ap, ◌∙◌, subst, arith}
+use Rattle.std.specs.Prelude.{option_and_then}
+use Rattle.std.specs.List.{AllByRecursion}
+use Rattle.std.proofs.lemmas.Bool.Decides.{nat_tests}
+use Rattle.pv_value.specs.Plain.{Plain, sequence, plains}
+use Rattle.pv_words.specs.Words.{number}
+use Rattle.pv_binary.specs.Written.{written}
+use Rattle.ac_table.specs.declared.batches.Event.{Event}
+use Rattle.ac_table.specs.declared.batches.Event.TheVariants.{Assert, Retract, Message, Sync}
+use Rattle.ac_table.specs.declared.batches.Batch.{Batch}
+use Rattle.rl_packet.specs.declared.packets.Packet.TheVariants.{Turn}
+use Rattle.rl_packet.specs.declared.packets.TurnEvent.{TurnEvent}
+use Rattle.rl_packet.specs.Packets.{packet_value, aimed_value}
+use Rattle.rl_ports.specs.Ports.{PortsState}
+use Rattle.hub_machine.specs.declared.faults.Fault.{Fault}
+use Rattle.hub_machine.specs.Faults.{error_of}
+use Rattle.rl_wire.specs.Crossing.{fault_out, all_exported}
+use Rattle.hub_machine.specs.Machine.{foreign_told, told_value, foreign_to, sent_event, telling_fault, exports_after}
+use Rattle.hub_machine.specs.Machine.{overrun_by}
+use Rattle.load_laws.proofs.Costs.{event_cost, events_cost, IsOut, Fits}
+use Rattle.load_laws.proofs.Sizes.{told_short, retracting_short, turn_short, error_short}
+
+module _ (start n a : ℕ) (far : 17 ≤ a) where
+  is_out : (e : Event) → Fits start n a e → IsOut start n e
+  is_out e (inl here) = absurd (let one = here.0 in omega (arith, one, far))
+  is_out e (inr there) = there.1
+
+  -- ---- no reference
+
+  none_told : (k : ℕ) (e : Event) → IsOut start n e → foreign_told k (told_value e) ≡ []
+  none_told k (Assert h entity v) own = ap (λ x. foreign_told k (Some x)) own.1
+  none_told k (Retract h entity) own = refl
+  none_told k (Message entity v) own = absurd own
+  none_told k (Sync entity peer) own = absurd own
+
+  nothing_foreign : (k from : ℕ) (es : List Event) → AllByRecursion (Fits start n a) es
+      → foreign_to k (record { from = from; events = es }) ≡ []
+  nothing_foreign k from [] all = refl
+  nothing_foreign k from (e ∷ es) all =
+      (λ i. none_told k e (is_out e all.0) i ++ nothing_foreign k from es all.1 i)
+
+  pub no_fault : (k : ℕ) (b : Batch) (ports : PortsState) → AllByRecursion (Fits start n a) b.events
+      → telling_fault k b ports ≡ None
+  no_fault k b ports all =
+      ap (λ rs. option_and_then overrun_by (fault_out ports.exports rs)) (nothing_foreign k b.from b.events all)
+
+  pub same_exports : (k : ℕ) (b : Batch) (ports : PortsState) → AllByRecursion (Fits start n a) b.events
+      → exports_after k b ports ≡ ports.exports
+  same_exports k b ports all = ap (λ rs. all_exported ports.exports rs) (nothing_foreign k b.from b.events all)
+
+  -- ---- few bytes
+
+  abbrev IsShort : TurnEvent → Type 0
+  IsShort e = length (written (aimed_value e)) ≤ 100
+
+  event_short : (exports : List Plain) (k : ℕ) (e : Event) → IsOut start n e → IsShort (sent_event exports k e)
+  event_short exports k (Assert h entity v) own =
+      subst (λ x. IsShort (sent_event exports k (Assert h entity x))) (sym own.1) (told_short entity own.0 h)
+  event_short exports k (Retract h entity) own = retracting_short entity h
+  event_short exports k (Message entity v) own = absurd own
+  event_short exports k (Sync entity peer) own = absurd own
+
+  events_short : (exports : List Plain) (k : ℕ) (es : List Event) → AllByRecursion (Fits start n a) es
+      → AllByRecursion IsShort (map (sent_event exports k) es)
+  events_short exports k [] all = tt
+  events_short exports k (e ∷ es) all =
+      (event_short exports k e (is_out e all.0), events_short exports k es all.1)
+
+  -- each costs one
+  not_space : (a == 1) ≡ false
+  not_space = grind (arith, nat_tests, far)
+
+  event_costs : (e : Event) → 1 ≤ event_cost a e
+  event_costs (Assert h entity v) = subst (λ b. 1 ≤ cond b 3 1) (sym not_space) (omega arith)
+  event_costs (Retract h entity) = subst (λ b. 1 ≤ cond b 0 1) (sym not_space) (omega arith)
+  event_costs (Message entity v) = omega arith
+  event_costs (Sync entity peer) = omega arith
+
+  events_count : (exports : List Plain) (k : ℕ) (es : List Event)
+      → length (map (sent_event exports k) es) ≤ events_cost a es
+  events_count exports k [] = omega arith
+  events_count exports k (e ∷ es) =
+      let one = event_costs e in let later = events_count exports k es in omega (arith, one, later)
+
+  pub packet_short : (exports : List Plain) (k : ℕ) (b : Batch) → AllByRecursion (Fits start n a) b.events
+      → length (written (packet_value (Turn (map (sent_event exports k) b.events)))) ≤ 2 + 100 * events_cost a b.events
+  packet_short exports k b all =
+      let short = turn_short 100 (map (sent_event exports k) b.events) (events_short exports k b.events all) in
+      let count = events_count exports k b.events in
+      omega (arith, short, count)
+
+pub fault_short : (f : Fault) → length (written (packet_value (error_of f))) ≤ 200
+fault_short f = error_short f
