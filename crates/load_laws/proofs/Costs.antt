@@ -32,7 +32,7 @@ total f [] = 0
 total f (x ∷ xs) = f x + total f xs
 
 pub total_append : {X : Type 0} (f : X → ℕ) (xs ys : List X) → total f (xs ++ ys) ≡ total f xs + total f ys
-total_append f [] ys = refl
+total_append f [] ys = omega arith
 total_append f (x ∷ xs) ys = omega (arith, total_append f xs ys)
 
 -- those that pass a test and those that don't

@@ -1,6 +1,7 @@
 pub mod Captures
 pub mod Costs
 pub mod Course
+pub mod Framed
 pub mod Keys
 pub mod LoadEvents
 pub mod Loaded
@@ -8,7 +9,6 @@ pub mod Never
 pub mod Opened
 pub mod Packets
 pub mod Reading
-pub mod Reads
 pub mod Runs
 pub mod Sizes
 pub mod Spelled

@@ -33,7 +33,7 @@ use Rattle.load_laws.proofs.Loaded.{loaded_first, first_cost}
 use Rattle.load_laws.proofs.Opened.{open_first}
 use Rattle.load_laws.proofs.Packets.{IsEvent}
 use Rattle.load_laws.proofs.Reading.{load_read}
-use Rattle.load_laws.proofs.Reads.{IsSent, observes_sent, loads_sent}
+use Rattle.load_laws.proofs.Framed.{IsSent, observes_sent, loads_sent}
 use Rattle.load_laws.proofs.Runs.{IsKept, Goes, on_kept, more_kept, drained_kept, arrived_kept, bytes_kept}
 use Rattle.load_laws.proofs.Sizes.{AreShort, events_all, events_count, packet_of_turn, observes_short, loads_short}
 use Rattle.load_laws.proofs.Sizes.{few_turns, load_short}

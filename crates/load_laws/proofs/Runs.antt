@@ -33,7 +33,7 @@ use Rattle.load_laws.proofs.Costs.{rows_cost, actors_cost}
 use Rattle.load_laws.proofs.Loaded.{IsLoaded, Pays, may_come, reply_size, packet_pays, turn_pays, arrival_pays}
 use Rattle.load_laws.proofs.Opened.{IsOpen, IsDone, Does, packet_open, turn_open, arrives, may_come_in}
 use Rattle.load_laws.proofs.Packets.{IsEvent}
-use Rattle.load_laws.proofs.Reads.{IsSent, turn_next, nothing_next}
+use Rattle.load_laws.proofs.Framed.{IsSent, turn_next, nothing_next}
 
 -- ---- what is sent in one step more
 
@@ -46,7 +46,7 @@ all_sent_more s (f ∷ es) e =
     (packet_in (step_of (run_from (step_of s f).state es) e).reply))
 
 spelled_more : (ps qs : List Packet) → length (spelled (ps ++ qs)) ≡ length (spelled ps) + length (spelled qs)
-spelled_more [] qs = refl
+spelled_more [] qs = omega arith
 spelled_more (p ∷ ps) qs =
     let later = spelled_more ps qs in
     omega (

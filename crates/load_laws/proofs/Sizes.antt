@@ -196,7 +196,7 @@ abbrev size : List Plain → ℕ
 size vs = length (flat_map written vs)
 
 size_append : (xs ys : List Plain) → size (xs ++ ys) ≡ size xs + size ys
-size_append [] ys = refl
+size_append [] ys = omega arith
 size_append (x ∷ xs) ys =
     let later = size_append xs ys in
     omega (
@@ -205,6 +205,9 @@ size_append (x ∷ xs) ys =
       length-append (written x) (flat_map written (xs ++ ys)),
       length-append (written x) (flat_map written xs),
     )
+
+single_size : (v : Plain) → size (v ∷ []) ≡ length (written v)
+single_size v = omega (arith, length-append (written v) [])
 
 open_short : length (written (labelled (codes "open") (number 1 ∷ []))) ≤ 100
 open_short =
@@ -272,9 +275,6 @@ drain_short =
 pair_size : (v w : Plain) → size (v ∷ w ∷ []) ≡ length (written v) + length (written w)
 pair_size v w =
     omega (arith, length-append (written v) (written w ++ []), length-append (written w) [])
-
-single_size : (v : Plain) → size (v ∷ []) ≡ length (written v)
-single_size v = omega (arith, length-append (written v) [])
 
 sent_short : (j : ℕ) (es : List TurnEvent) → length (written (packet_value (Turn es))) ≤ 125002
     → size (sent_by j es) ≤ 250200

@@ -155,7 +155,7 @@ module _ (start n : ℕ) (few : n ≤ 20000) where
       let cost = put_cost start n 1 facet aim.at.actor aim.at.entity aim.value p fits in
       let far = w.far in
       let other : (aim.at.actor == 1) ≡ false = grind (arith, nat_tests, far) in
-      let three : cond (aim.at.actor == 1) 4 3 ≡ 3 = ap (λ b. cond b 4 3) other in
+      let three : ◌≡◌ {A = ℕ} (cond (aim.at.actor == 1) 4 3) 3 = ap {B = ℕ} (λ b. cond b 4 3) other in
       record {
         plan = put_fits start n 1 facet aim.at.actor aim.at.entity aim.value p (inr (far, w.told)) fits;
         got = refl;

@@ -185,7 +185,7 @@ module _ (start n : ℕ) (few : n ≤ 20000) where
       let cost = put_cost start n a 0 target entity v p f in
       let here = own.0 in
       let one : (target == 1) ≡ true = grind (arith, nat_tests, here) in
-      let four : cond (target == 1) 4 3 ≡ 4 = ap (λ b. cond b 4 3) one in
+      let four : ◌≡◌ {A = ℕ} (cond (target == 1) 4 3) 4 = ap {B = ℕ} (λ b. cond b 4 3) one in
       record {
         plan = put_fits start n a 0 target entity v p (inl (own.0, own.1)) f;
         cost = omega (arith, cost, four);
