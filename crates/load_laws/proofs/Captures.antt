@@ -1,8 +1,7 @@
 -- What the observations of a load capture of its items.
-use Rattle.std.proofs.Common.{◌≡◌, ℕ, ◌+◌, ◌<◌, ◌≤◌, ◌⊎◌, inl, inr, List, [], ◌∷◌, Bool, true, false, cond, ◌&&◌}
-use Rattle.std.proofs.Common.{Option, Some, None, refl, sym, ap, ◌∙◌, subst, codes, pos}
-use Rattle.std.specs.Prelude.{option_and_then}
-use Rattle.pv_value.specs.Plain.{Plain, symbol, sequence, embedded, plains}
+use Rattle.std.proofs.Common.{◌≡◌, ℕ, ◌+◌, ◌<◌, ◌⊎◌, inl, inr, List, [], ◌∷◌, Bool, true, false, cond}
+use Rattle.std.proofs.Common.{Some, None, refl, sym, ap, ◌∙◌, subst, codes}
+use Rattle.pv_value.specs.Plain.{Plain, symbol, embedded}
 use Rattle.pv_words.specs.Words.{labelled, number}
 use Rattle.pv_words.specs.Parts.{same, both}
 use Rattle.pv_words.specs.Lemmas.Same.{same_is}
@@ -10,7 +9,7 @@ use Rattle.dp_pattern.specs.declared.Group.TheVariants.{InRecord}
 use Rattle.dp_pattern.specs.Patterns.{Pattern, discard, bind, literal, group, no_fields, then_field}
 use Rattle.dp_pattern.specs.Matching.{matched}
 use Rattle.ds_space.specs.References.{reference_value, names_observer}
-use Rattle.ds_space.specs.Wants.{observer_of, captured, key_of}
+use Rattle.ds_space.specs.Wants.{observer_of, key_of}
 use Rattle.sc_load.specs.Loads.{pattern_of, loading, connection_of, drawn}
 
 -- ---- items, as the server keeps them

@@ -1,8 +1,8 @@
 -- What may still come of a table: handles, rows and events to connections. An assertion that waits for dataspace 1 may
 -- bring one of each, an event that waits for a connection is one, and a row at a connection may bring a retraction. What
 -- is done with a table makes the sum no greater, but for what a connection asserts.
-use Rattle.std.proofs.Common.{◌≡◌, ℕ, zero, suc, ◌+◌, ◌<◌, ◌≤◌, ◌⊎◌, inl, inr, List, [], ◌∷◌, ◌++◌, ◌==◌, Bool, true}
-use Rattle.std.proofs.Common.{false, cond, not, Option, Some, None, filter, drop, refl, sym, ap, ◌∙◌, subst, arith}
+use Rattle.std.proofs.Common.{◌≡◌, ℕ, ◌+◌, ◌<◌, ◌≤◌, ◌⊎◌, inl, inr, List, [], ◌∷◌, ◌++◌, ◌==◌, Bool, true}
+use Rattle.std.proofs.Common.{false, cond, not, Some, None, filter, drop, refl, sym, ap, ◌∙◌, subst, arith}
 use Rattle.std.proofs.Common.{Ordering, Less, Equal, Greater}
 use Rattle.std.specs.Prelude.{unwrap_or, slice_get, nat_lt, if◌then◌else◌}
 use Rattle.std.specs.Ordering.{nat_cmp, match_ordering, is_eq}
@@ -17,10 +17,10 @@ use Rattle.ac_table.specs.declared.batches.Event.{Event}
 use Rattle.ac_table.specs.declared.batches.Event.TheVariants.{Assert, Retract, Message, Sync}
 use Rattle.ac_table.specs.declared.batches.Batch.{Batch}
 use Rattle.ac_table.specs.Tables.{TableState, Actor, find_actor, first_in, with_inbox, pushed, popped, placed}
-use Rattle.ac_table.specs.Tables.{without_row, find_row, rows_of, rows_of_others, ended}
+use Rattle.ac_table.specs.Tables.{without_row, find_row, rows_of, ended}
 use Rattle.ac_world.specs.Outboxes.{Outbox, Plan, told_to, told, posted, put, drop_row, committed, retractions}
 use Rattle.ac_world.specs.Worlds.{entry_of, with_entry}
-use Rattle.ac_world.specs.Lemmas.Entries.{KeysAscend, AreAbove, ascend_none, ascend_with, each_with, entry_of_above}
+use Rattle.ac_world.specs.Lemmas.Entries.{KeysAscend, ascend_none, ascend_with, each_with, entry_of_above}
 use Rattle.ac_world.specs.Lemmas.Entries.{above_lower}
 use Rattle.hub_valid.specs.Lemmas.Lives.{rows_posted, next_posted}
 use Rattle.load_laws.proofs.Captures.{IsItem}
@@ -302,9 +302,11 @@ module _ (start n : ℕ) where
           → FitActors (cond c (record { number = x.number; inbox = x.inbox ++ b ∷ [] } ∷ xs)
           (x ∷ with_inbox a (λ bs. bs ++ b ∷ []) xs))
       by true is later =
-          let same : x.number ≡ a = grind (arith, nat_tests, is) in
-          (all_append (λ d. AllByRecursion (Fits x.number) d.events) x.inbox (b ∷ []) all.0
-          (subst (λ c. AllByRecursion (Fits c) b.events) (sym same) own, tt), all.1)
+          let same : x.number ≡ a = grind (arith, nat_tests, is) in (
+            all_append (λ d. AllByRecursion (Fits x.number) d.events) x.inbox (b ∷ []) all.0
+                (subst (λ c. AllByRecursion (Fits c) b.events) (sym same) own, tt),
+            all.1,
+          )
       by false is later = (all.0, later)
 
   posted_actors_cost : (from : ℕ) (out : Outbox) (t : TableState)

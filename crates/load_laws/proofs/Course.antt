@@ -31,7 +31,7 @@ use Rattle.sc_script.specs.Runs.{unless_too_much, by_reply, stepped, turned_wher
 use Rattle.sc_script.specs.Runs.{read_where, with_packet, with_no_packet, with_next, all_read, without_stream}
 use Rattle.sc_script.specs.Runs.{bytes_come, was_opened, after_event, doing}
 use Rattle.load_laws.specs.LoadEvents.{IsArrival, IsSending, WriteEvents}
-use Rattle.load_laws.proofs.Opened.{IsOpen, Stays, HasRoom, KeepsOpen, come, packet_keeps, bad_keeps, close_keeps}
+use Rattle.load_laws.proofs.Opened.{IsOpen, HasRoom, KeepsOpen, come, packet_keeps, bad_keeps, close_keeps}
 use Rattle.load_laws.proofs.Opened.{turn_keeps}
 
 -- too much is sent, or the numbers are used up

@@ -1,23 +1,22 @@
 -- What a decider tells of the bytes that a connection of a load sends: one turn, whole, and nothing behind it.
-use Rattle.std.proofs.Common.{◌≡◌, ℕ, suc, ◌+◌, ◌*◌, ◌^◌, ◌<◌, ◌≤◌, List, [], ◌∷◌, ◌++◌, length, map, take, Bool, true}
-use Rattle.std.proofs.Common.{false, cond, ◌&&◌, nat_lt, Option, Some, None, refl, sym, ap, ◌∙◌, subst, arith}
+use Rattle.std.proofs.Common.{◌≡◌, ℕ, ◌+◌, ◌*◌, ◌^◌, ◌<◌, ◌≤◌, List, [], ◌∷◌, length, map, true}
+use Rattle.std.proofs.Common.{cond, ◌&&◌, nat_lt, Some, None, refl, ap, arith}
 use Rattle.std.specs.Prelude.{is_some, max}
 use Rattle.std.specs.List.{AllByRecursion}
 use Rattle.std.proofs.lemmas.Bool.Decides.{nat_tests}
 use Rattle.std.proofs.lemmas.List.Elements.{All-nil}
-use Rattle.pv_value.specs.Plain.{Plain, sequence, plains}
+use Rattle.pv_value.specs.Plain.{Plain, plains}
 use Rattle.pv_value.specs.Depth.{depth, deepest}
 use Rattle.pv_binary.specs.Fronts.{at_tag}
 use Rattle.pv_binary.specs.Written.{written}
 use Rattle.rl_packet.specs.Wired.{IsTurnEvent, is_wired}
-use Rattle.rl_packet.specs.Packets.{packet_value, aimed_value, turn_value}
+use Rattle.rl_packet.specs.Packets.{packet_value, aimed_value}
 use Rattle.rl_packet.specs.declared.packets.Packet.TheVariants.{Turn}
 use Rattle.rl_packet.specs.declared.packets.TurnEvent.{TurnEvent}
 use Rattle.rl_stream.specs.Limits.{packet_bytes}
 use Rattle.rl_stream.specs.Nexts.{OneNext, Decider, Decides}
 use Rattle.rl_stream.specs.declared.nexts.Next.TheVariants.{Whole, Waits}
-use Rattle.sc_load.specs.Loads.{observation, loading, observes, loads, events_of}
-use Rattle.load_laws.proofs.Sizes.{AreShort, events_all, packet_of_turn}
+use Rattle.sc_load.specs.Loads.{observation, observes, loads}
 use Rattle.load_laws.proofs.Spelled.{IsSmall, AreSmall, are_bytes, begins_whole, observation_event_small}
 use Rattle.load_laws.proofs.Spelled.{loading_event_small, observation_shallow, loading_shallow}
 

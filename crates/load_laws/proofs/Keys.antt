@@ -1,11 +1,11 @@
 -- What a dataspace wants more when an item of a load comes: one key at most; and nothing when a value goes.
-use Rattle.std.proofs.Common.{◌≡◌, ℕ, ◌<◌, ◌⊎◌, inl, inr, List, [], ◌∷◌, Bool, true, false, cond, ◌||◌, not, Option}
-use Rattle.std.proofs.Common.{Some, None, refl, sym, ap, ◌∙◌, subst}
+use Rattle.std.proofs.Common.{◌≡◌, ℕ, ◌⊎◌, inl, inr, List, [], ◌∷◌, Bool, true, false, cond, ◌||◌, not}
+use Rattle.std.proofs.Common.{refl, sym, ap, ◌∙◌, subst}
 use Rattle.std.specs.Cmp.{eq_by_cmp_equiv}
 use Rattle.std.specs.Prelude.{Contains}
 use Rattle.std.specs.Ordering.{is_eq}
-use Rattle.std.specs.declared.cmp.Ordering.TheVariants.{Less, Equal}
-use Rattle.std.specs.List.{AllByRecursion, filter}
+use Rattle.std.specs.declared.cmp.Ordering.TheVariants.{Less}
+use Rattle.std.specs.List.{AllByRecursion}
 use Rattle.std.specs.List.Sorted.{IsStrictlySortedBy}
 use Rattle.std.proofs.lemmas.Cmp.{tied_itself}
 use Rattle.std.proofs.lemmas.Map.Views.{list_any-from_Contains, Contains-from_any}
@@ -19,7 +19,7 @@ use Rattle.ds_space.specs.Wants.{wants, key_of}
 use Rattle.ds_space.specs.Changes.{among, without}
 use Rattle.ds_space.specs.Laws.{IsOfTheRule}
 use Rattle.ds_space.specs.Lemmas.Lists.{of_the_rule, by_the_rule, wants_ascend}
-use Rattle.load_laws.proofs.Captures.{IsOf, IsItem, key_for, captures, capture_of, observed}
+use Rattle.load_laws.proofs.Captures.{IsOf, IsItem, key_for, captures, capture_of}
 
 -- ---- members
 
@@ -110,17 +110,17 @@ module _ (start n i : ℕ) (v : Plain) (own : IsOf start i v) (olds news : List 
           → (r.value ≡ v) ⊎ (among r.value olds ≡ true) → k ≡ key_for start i
       by r (inl o) (inl w) =
           let c = capture_of start i i r.observation r.value r.pattern r.captures (subst (IsOf start i) (sym o) own)
-              (subst (IsOf start i) (sym w) own) r.is_pattern r.captured in
+          (subst (IsOf start i) (sym w) own) r.is_pattern r.captured in
           r.key ∙ (λ j. key_of (c.0 j) (c.3 j))
       by r (inl o) (inr w) =
           let item = among_all (IsItem start n) r.value olds items w in
           let c = capture_of start i item.0 r.observation r.value r.pattern r.captures
-              (subst (IsOf start i) (sym o) own) item.2 r.is_pattern r.captured in
+          (subst (IsOf start i) (sym o) own) item.2 r.is_pattern r.captured in
           r.key ∙ (λ j. key_of (c.0 j) (c.3 j))
       by r (inr o) (inl w) =
           let item = among_all (IsItem start n) r.observation olds items o in
           let c = capture_of start item.0 i r.observation r.value r.pattern r.captures item.2
-              (subst (IsOf start i) (sym w) own) r.is_pattern r.captured in
+          (subst (IsOf start i) (sym w) own) r.is_pattern r.captured in
           r.key ∙ (λ j. key_of (c.0 j) (c.3 j)) ∙ ap (key_for start) c.2
       by r (inr o) (inr w) =
           let was : among k (wants olds) ≡ true =

@@ -1,9 +1,7 @@
 -- A server in which nothing but a load goes on, and what its steps send: no more than what may come of the world.
-use Rattle.std.proofs.Common.{◌≡◌, ℕ, suc, ◌+◌, ◌*◌, ◌-◌, ◌<◌, ◌≤◌, List, [], ◌∷◌, length, Bool, true, false, cond}
-use Rattle.std.proofs.Common.{Option, Some, None, refl, sym, ap, ◌∙◌, subst, arith, map}
-use Rattle.std.specs.Prelude.{nat_le}
+use Rattle.std.proofs.Common.{◌≡◌, ℕ, ◌+◌, ◌*◌, ◌-◌, ◌≤◌, List, [], length}
+use Rattle.std.proofs.Common.{Option, Some, None, refl, ◌∙◌, arith}
 use Rattle.std.specs.List.{AllByRecursion}
-use Rattle.std.proofs.lemmas.Bool.Decides.{nat_tests}
 use Rattle.pv_value.specs.Plain.{Plain}
 use Rattle.pv_binary.specs.Written.{written}
 use Rattle.ps_schema.specs.declared.Definition.{Definition}
@@ -12,25 +10,24 @@ use Rattle.ac_world.specs.declared.spreads.Spread.{Spread}
 use Rattle.ac_world.specs.declared.turns.Turned.{Turned}
 use Rattle.ac_world.specs.declared.turns.Turned.TheVariants as turned
 use Rattle.ac_world.specs.Turns.{turn}
-use Rattle.ac_world.specs.Worlds.{WorldState, with_entry, without_entry, entry_of, actor_of}
+use Rattle.ac_world.specs.Worlds.{without_entry, actor_of}
 use Rattle.ac_world.specs.Lemmas.Entries.{each_with, each_without, each_found}
-use Rattle.rl_packet.specs.declared.packets.Packet.TheVariants as packet
 use Rattle.rl_packet.specs.declared.packets.TurnEvent.{TurnEvent}
 use Rattle.rl_packet.specs.Packets.{packet_value}
 use Rattle.rl_ports.specs.Ports.{PortsState, ports_to, with_exports}
 use Rattle.hub_machine.specs.declared.faults.Fault.{Fault}
 use Rattle.hub_machine.specs.State.{State, opening, ports_of}
-use Rattle.hub_machine.specs.Admission.{Admitting, Admitted, refused, admitted, admission}
+use Rattle.hub_machine.specs.Admission.{Admitted, refused, admitted, admission}
 use Rattle.hub_machine.specs.Endings.{nameless, failed, dismissed, finished}
-use Rattle.hub_machine.specs.Machine.{After, actor_reference, opened, unchanged, accepted, judged, packet_at, exporting}
-use Rattle.hub_machine.specs.Machine.{packet_to, exports_after, telling_fault, told_unless, tell, fault_for, tell_fault}
+use Rattle.hub_machine.specs.Machine.{After, actor_reference, opened, accepted, judged, packet_at, exporting}
+use Rattle.hub_machine.specs.Machine.{exports_after, telling_fault, told_unless, tell, fault_for, tell_fault}
 use Rattle.hub_machine.specs.Machine.{after_turn, turn_of}
 use Rattle.hub_machine.specs.declared.steps.Reply.{Reply}
 use Rattle.hub_machine.specs.declared.steps.Reply.TheVariants as reply
 use Rattle.hub_valid.specs.Lemmas.StepEnds.{finished_keeps}
 use Rattle.load_laws.proofs.Costs.{table_cost, events_cost, Fits}
 use Rattle.load_laws.proofs.Opened.{kept_of}
-use Rattle.load_laws.proofs.Packets.{first_export, IsEvent, IsGood, Admits, packet_admits}
+use Rattle.load_laws.proofs.Packets.{first_export, IsEvent, IsGood, packet_admits}
 use Rattle.load_laws.proofs.Told.{no_fault, same_exports, packet_short, fault_short}
 use Rattle.load_laws.proofs.Worlds.{IsLoading, IsTold, paid, world_turns, world_sends, world_arrives, world_ends}
 

@@ -1,9 +1,8 @@
 -- A load never stops: the run of all its values goes on, one turn and one drain behind another.
-use Rattle.std.proofs.Common.{◌≡◌, ℕ, zero, suc, ◌+◌, ◌*◌, ◌-◌, ◌/◌, ◌^◌, ◌<◌, ◌≤◌, ◌⊎◌, inl, inr, List, [], ◌∷◌, ◌++◌}
+use Rattle.std.proofs.Common.{◌≡◌, ℕ, zero, suc, ◌+◌, ◌*◌, ◌-◌, ◌^◌, ◌<◌, ◌≤◌, inl, inr, List, [], ◌∷◌, ◌++◌}
 use Rattle.std.proofs.Common.{length, min, true, Option, Some, None, refl, sym, subst, ap, ◌∙◌, arith, codes, cond}
 use Rattle.std.specs.Prelude.{IsSomeAnd}
 use Rattle.std.specs.List.{AllByRecursion}
-use Rattle.std.proofs.lemmas.Grind.{div_ceil_times}
 use Rattle.pv_value.specs.Plain.{Plain}
 use Rattle.pv_words.specs.Words.{labelled, number}
 use Rattle.pv_binary.specs.Written.{written}
@@ -18,13 +17,10 @@ use Rattle.sc_events.specs.declared.inputs.Form.TheVariants.{Binary}
 use Rattle.sc_schema.specs.Courses.{after_value, after_values, ended, course_of, IsCourseOfValues}
 use Rattle.sc_schema.specs.Firsts.{first_text, IsVerdict}
 use Rattle.sc_schema.specs.Lemmas.Courses.{in_parts, IsOneReading}
-use Rattle.sc_load.specs.Limits.{most_items}
 use Rattle.sc_load.specs.Loads.{rounded_up, observes, loads, bytes_event, sent_by, events_of, connection_of, turn_of}
 use Rattle.sc_load.specs.Loads.{turns_of, all_turns, opens, load_events, load_bytes}
 use Rattle.sc_script.specs.Limits.{most_sent}
-use Rattle.sc_script.specs.Runs.{Running, Cause, Course, goes, stops, bad, state_of, beginning, doing, after_event, bytes_come}
-use Rattle.sc_script.specs.Runs.{stepped}
-use Rattle.hub_machine.specs.declared.steps.Step.TheVariants as step
+use Rattle.sc_script.specs.Runs.{Running, Cause, Course, goes, stops, bad, beginning, doing, after_event, bytes_come}
 use Rattle.load_laws.specs.LoadEvents.{connections_of, IsArrival, WriteEvents}
 use Rattle.load_laws.specs.Loads.{LoadsNeverStop}
 use Rattle.load_laws.proofs.Course.{opened_once}
@@ -82,7 +78,7 @@ module _ (start n : ℕ) (few : n ≤ 20000) (one : OneNext) (N : Decider) (deci
       let f : ℕ = d - 200 * turns in
       let same : f + 200 * turns ≡ d = omega (arith, low, less) in
       let all = drained_kept start n few k f turns r (omega (arith, same, most))
-          (more_kept start n few k c f r (omega (arith, low, less)) p) in
+      (more_kept start n few k c f r (omega (arith, low, less)) p) in
       subst (λ x. Goes start n few k d (after_event N m x r)) (sym is)
       (subst (λ b. Goes start n few k b (after_event N m (Drain turns) r)) same all)
 
@@ -138,33 +134,33 @@ module _ (start n : ℕ) (few : n ≤ 20000) (one : OneNext) (N : Decider) (deci
 
   module _ (event : ℕ → TurnEvent) (kind : AreKind start n few event) (k : ℕ) (are : k ≡ connections_of n) (low : k ≤ 10)
     where
-    one_turn_kept : (c m t : ℕ) (r : Running) → t < rounded_up n 500 → c + 2200200 ≤ most_sent
-        → IsKept start n few k c r → Goes start n few k (c + 2200200) (after_values (doing N) m (turn_of event n t) r)
-    one_turn_kept c m t r there most p =
-        pair_kept k c m (connection_of (500 * t)) (events_of event (500 * t) (min 500 (n - 500 * t))) r
-        (positive (500 * t)) (subst (λ x. connection_of (500 * t) ≤ x) (sym are) (own_turn n t there)) low
-        (events_all (IsEvent start n few (connection_of (500 * t))) event (500 * t) (min 500 (n - 500 * t))
-        (λ i above below. kind.own (connection_of (500 * t)) i (item_there n t i (begins n t there) below)
-        (one_connection t i above (item_near n t i below))))
-        (events_all IsSent event (500 * t) (min 500 (n - 500 * t))
-        (λ i above below. kind.sent i (item_there n t i (begins n t there) below)))
-        (packet_of_turn event (500 * t) (min 500 (n - 500 * t)) kind.short (few_items n t))
-        (subst (λ x. x ≤ 500) (sym (events_count event (500 * t) (min 500 (n - 500 * t)))) (few_items n t)) most p
+      one_turn_kept : (c m t : ℕ) (r : Running) → t < rounded_up n 500 → c + 2200200 ≤ most_sent
+          → IsKept start n few k c r → Goes start n few k (c + 2200200) (after_values (doing N) m (turn_of event n t) r)
+      one_turn_kept c m t r there most p =
+          pair_kept k c m (connection_of (500 * t)) (events_of event (500 * t) (min 500 (n - 500 * t))) r
+          (positive (500 * t)) (subst (λ x. connection_of (500 * t) ≤ x) (sym are) (own_turn n t there)) low
+          (events_all (IsEvent start n few (connection_of (500 * t))) event (500 * t) (min 500 (n - 500 * t))
+          (λ i above below. kind.own (connection_of (500 * t)) i (item_there n t i (begins n t there) below)
+          (one_connection t i above (item_near n t i below))))
+          (events_all IsSent event (500 * t) (min 500 (n - 500 * t))
+          (λ i above below. kind.sent i (item_there n t i (begins n t there) below)))
+          (packet_of_turn event (500 * t) (min 500 (n - 500 * t)) kind.short (few_items n t))
+          (subst (λ x. x ≤ 500) (sym (events_count event (500 * t) (min 500 (n - 500 * t)))) (few_items n t)) most p
 
-    turns_kept : (c m t : ℕ) (r : Running) → t ≤ rounded_up n 500 → c + 2200200 * t ≤ most_sent
-        → IsKept start n few k c r
-        → Goes start n few k (c + 2200200 * t) (after_values (doing N) m (turns_of event n t) r)
-    turns_kept c m zero r there most p = more_kept start n few k c (c + 2200200 * 0) r (omega arith) p
-    turns_kept c m (suc t) r there most p =
-        let b : ℕ = c + 2200200 * t in
-        let same : b + 2200200 ≡ c + 2200200 * suc t = omega arith in
-        let first = turns_kept c m t r (omega (arith, there)) (omega (arith, most)) p in
-        subst (λ d. Goes start n few k d (after_values (doing N) m (turns_of event n (suc t)) r)) same
-        (subst (Goes start n few k (b + 2200200))
-        (sym (in_parts (doing N) m (turns_of event n t) (turn_of event n t) r))
-        (on_kept start n few k b k (b + 2200200) (after_values (doing N) (m + length (turns_of event n t)) (turn_of event n t))
-        (after_values (doing N) m (turns_of event n t) r) first
-        (λ u q. one_turn_kept b (m + length (turns_of event n t)) t u (omega (arith, there)) (omega (arith, most)) q)))
+      turns_kept : (c m t : ℕ) (r : Running) → t ≤ rounded_up n 500 → c + 2200200 * t ≤ most_sent
+          → IsKept start n few k c r
+          → Goes start n few k (c + 2200200 * t) (after_values (doing N) m (turns_of event n t) r)
+      turns_kept c m zero r there most p = more_kept start n few k c (c + 2200200 * 0) r (omega arith) p
+      turns_kept c m (suc t) r there most p =
+          let b : ℕ = c + 2200200 * t in
+          let same : b + 2200200 ≡ c + 2200200 * suc t = omega arith in
+          let first = turns_kept c m t r (omega (arith, there)) (omega (arith, most)) p in
+          subst (λ d. Goes start n few k d (after_values (doing N) m (turns_of event n (suc t)) r)) same
+          (subst (Goes start n few k (b + 2200200))
+          (sym (in_parts (doing N) m (turns_of event n t) (turn_of event n t) r))
+          (on_kept start n few k b k (b + 2200200) (after_values (doing N) (m + length (turns_of event n t)) (turn_of event n t))
+          (after_values (doing N) m (turns_of event n t) r) first
+          (λ u q. one_turn_kept b (m + length (turns_of event n t)) t u (omega (arith, there)) (omega (arith, most)) q)))
 
   -- ---- arrivals
 

@@ -1,6 +1,6 @@
 -- What a step leaves: the server goes on, as many connections have come as had, and those that have names are among them.
 use Rattle.std.proofs.Common.{◌≡◌, ℕ, suc, ◌+◌, ◌-◌, ◌<◌, ◌≤◌, ◌⊎◌, inl, inr, List, [], ◌∷◌, Bool, true, false, cond}
-use Rattle.std.proofs.Common.{Option, Some, None, refl, sym, subst, ap, ◌∙◌, arith, Less}
+use Rattle.std.proofs.Common.{Option, Some, None, refl, sym, subst, ap, ◌∙◌, arith}
 use Rattle.std.specs.Prelude.{nat_le, length}
 use Rattle.std.specs.List.{AllByRecursion}
 use Rattle.std.specs.Map.{keys_of}
@@ -75,7 +75,7 @@ few_above : (m k : ℕ) (es : Names) → m ≤ k → AreAbove m (keys_of es) →
 few_above m k [] low above among s = omega (arith, low)
 few_above m k (e ∷ es) low above among s =
     let later = few_above e.0 k es among.0.1 (sorted_head nat_cmp e.0 (keys_of es) s) among.1
-        (sorted_tail nat_cmp e.0 (keys_of es) s) in
+    (sorted_tail nat_cmp e.0 (keys_of es) s) in
     let first : m < e.0 = grind (arith, nat_tests, above.0) in
     omega (arith, later, first)
 

@@ -2,7 +2,7 @@
 use Rattle.std.proofs.Common.{◌≡◌, ℕ, zero, suc, ◌+◌, ◌*◌, ◌-◌, ◌^◌, ◌<◌, ◌≤◌, List, [], ◌∷◌, ◌++◌, length, drop, Bool}
 use Rattle.std.proofs.Common.{true, false, cond, nat_le, nat_lt, Option, Some, None, refl, sym, subst, ap, ◌∙◌, arith}
 use Rattle.std.proofs.Common.{length-append, append-nil, append_assoc}
-use Rattle.std.specs.Prelude.{IsSomeAnd, unwrap_or}
+use Rattle.std.specs.Prelude.{unwrap_or}
 use Rattle.std.specs.List.{AllByRecursion}
 use Rattle.std.proofs.lemmas.Bool.Decides.{nat_tests}
 use Rattle.pv_binary.specs.Written.{written}
@@ -27,7 +27,7 @@ use Rattle.hub_machine.specs.declared.steps.Reply.TheVariants as reply
 use Rattle.sc_schema.specs.Courses.{GoesTo}
 use Rattle.sc_script.specs.Limits.{most_sent}
 use Rattle.sc_script.specs.Runs.{Running, Course, goes, stops, goes_on, limit, state_of, sent_size, with_step}
-use Rattle.sc_script.specs.Runs.{all_sent_from, spelled, unless_too_much, by_reply, stepped, turned_where, drained}
+use Rattle.sc_script.specs.Runs.{all_sent_from, spelled, by_reply, stepped, turned_where, drained}
 use Rattle.sc_script.specs.Runs.{stream_of, with_stream, read_where, with_next, all_read, without_stream, bytes_come}
 use Rattle.load_laws.proofs.Costs.{rows_cost, actors_cost}
 use Rattle.load_laws.proofs.Loaded.{IsLoaded, Pays, may_come, reply_size, packet_pays, turn_pays, arrival_pays}

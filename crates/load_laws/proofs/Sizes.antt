@@ -1,11 +1,10 @@
 -- How many bytes what a load says and is told takes at most.
 use Rattle.std.proofs.Common.{◌≡◌, ℕ, zero, suc, ◌+◌, ◌*◌, ◌<◌, ◌≤◌, List, [], ◌∷◌, ◌++◌, length, Bool, true, cond}
-use Rattle.std.proofs.Common.{refl, sym, subst, ap, arith, length-append, nat_lt, pos, codes, ◌%◌, ◌/◌, ◌-◌, false, map, min}
+use Rattle.std.proofs.Common.{refl, arith, length-append, nat_lt, pos, codes, ◌%◌, ◌/◌, ◌-◌, false, map, min}
 use Rattle.std.specs.List.{AllByRecursion, flat_map}
 use Rattle.std.proofs.lemmas.Grind.{div_ceil_times}
 use Rattle.std.proofs.lemmas.Bool.Decides.{nat_tests}
-use Rattle.pv_value.specs.Plain.{Plain, symbol, sequence, byte_string, plains, Plains, no_more, then_more}
-use Rattle.pv_value.specs.Plain.{string}
+use Rattle.pv_value.specs.Plain.{Plain, sequence, byte_string, plains}
 use Rattle.rl_packet.specs.Packets.{packet_value, aimed_value}
 use Rattle.rl_packet.specs.declared.packets.Packet.TheVariants.{Turn}
 use Rattle.rl_packet.specs.declared.packets.TurnEvent.{TurnEvent}
@@ -19,7 +18,7 @@ use Rattle.sc_load.specs.Loads.{observation, loading, drawn, rounded_up, observe
 use Rattle.sc_load.specs.Loads.{connection_of, turn_of, turns_of, all_turns, opens, load_events, load_bytes}
 use Rattle.pv_words.specs.Words.{labelled, number}
 use Rattle.pv_binary.specs.Written.{written, written_all}
-use Rattle.pv_binary.specs.Numbers.{varint, varint_in, counted, int_bytes}
+use Rattle.pv_binary.specs.Numbers.{varint, varint_in, int_bytes}
 use Rattle.pv_binary.proofs.Ints.{int_bytes_short}
 
 -- a count below 128 takes a byte
@@ -293,7 +292,7 @@ turns_short event n (suc t) short =
     let k : ℕ = min 500 (n - first) in
     let later = turns_short event n t short in
     let turn = sent_short (connection_of first) (events_of event first k)
-        (packet_of_turn event first k short (omega arith)) in
+    (packet_of_turn event first k short (omega arith)) in
     sums (size (turns_of event n t)) (size (turn_of event n t)) (size (turns_of event n (suc t))) t later turn
     (size_append (turns_of event n t) (turn_of event n t))
   where

@@ -1,21 +1,20 @@
 -- What is written of what a load asserts are bytes, and reading them gives it back.
 use Rattle.std.proofs.Common.{◌≡◌, ℕ, zero, suc, ◌+◌, ◌*◌, ◌/◌, ◌%◌, ◌^◌, ◌<◌, ◌≤◌, List, [], ◌∷◌, ◌++◌, length}
-use Rattle.std.proofs.Common.{Bool, true, false, cond, ◌&&◌, ◌==◌, ℤ, nat_lt, refl, sym, ap, subst, arith, codes, take, pos, ltb-true}
+use Rattle.std.proofs.Common.{Bool, true, false, cond, ◌&&◌, ◌==◌, ℤ, nat_lt, refl, sym, subst, arith, take, ltb-true}
 use Rattle.std.proofs.lemmas.Bool.{and_parts}
 use Rattle.std.proofs.lemmas.Bool.Decides.{nat_tests}
 use Rattle.std.proofs.lemmas.List.{take_all}
 use Rattle.std.proofs.lemmas.List.Elements.{All-from_recursion}
 use Rattle.std.specs.Int.{w128, bytes_high_first, byte_at, cast_unsigned}
 use Rattle.std.specs.Int.RustNames.{FitsSigned}
-use Rattle.std.specs.List.{AllByRecursion}
 use Rattle.std.specs.List.Sorted.{IsStrictlySortedBy}
 use Rattle.std.proofs.lemmas.Str.{IsUtf8-append, IsUtf8-nil, IsUtf8-encode, encode_ascii}
 use Rattle.std.specs.Str.{IsUtf8}
 use lib.Utf8.{low_scalar}
 use Rattle.pv_value.specs.Plain.{Plain, boolean, double, integer, string, byte_string, symbol, record_of, sequence}
 use Rattle.pv_value.specs.Plain.{set_of, dictionary, embedded, Plains, no_more, then_more, PlainPairs, no_pairs}
-use Rattle.pv_value.specs.Plain.{then_pair, paired, plains}
-use Rattle.pv_value.specs.Depth.{depth, deepest}
+use Rattle.pv_value.specs.Plain.{then_pair, paired}
+use Rattle.pv_value.specs.Depth.{depth}
 use Rattle.pv_value.specs.WellFormed.{IsWellFormed, AreWellFormed, ArePairsWellFormed, KeysAscend}
 use Rattle.pv_words.specs.Words.{number}
 use Rattle.pv_read.specs.Limits.{read_depth}
@@ -26,7 +25,7 @@ use Rattle.pv_binary.specs.Spells.{Spells}
 use Rattle.pv_binary.specs.Written.{written, written_all, written_pairs}
 use Rattle.pv_binary.proofs.Varints.{IsBytes}
 use Rattle.pv_binary.proofs.Written.{spelled}
-use Rattle.sc_load.specs.Loads.{observation, loading, drawn, fields_of}
+use Rattle.sc_load.specs.Loads.{observation, loading, drawn}
 use Rattle.load_laws.proofs.Sizes.{asserting}
 
 -- ---- words
@@ -146,9 +145,11 @@ mutual
   written_bytes : (v : Plain) → IsSmall v → IsBytes (written v)
   written_bytes (integer z) h = (omega arith, counted_bytes (int_bytes z) (int_small z))
   written_bytes (symbol s) h = (omega arith, counted_bytes s (small_bytes s h.0))
-  written_bytes (record_of l fs) h =
-      (omega arith, bytes_append (written l) _ (written_bytes l h.0)
-      (bytes_append (written_all fs) (0x84 ∷ []) (all_bytes fs h.1) (omega arith, tt)))
+  written_bytes (record_of l fs) h = (
+    omega arith,
+    bytes_append (written l) _ (written_bytes l h.0)
+        (bytes_append (written_all fs) (0x84 ∷ []) (all_bytes fs h.1) (omega arith, tt)),
+  )
   written_bytes (sequence xs) h =
       (omega arith, bytes_append (written_all xs) (0x84 ∷ []) (all_bytes xs h) (omega arith, tt))
   written_bytes (dictionary ps) h =

@@ -1,7 +1,7 @@
 -- A turn of dataspace 1 over what a load asserts: nothing else is told, and what may come grows no greater.
-use Rattle.std.proofs.Common.{◌≡◌, ◌≢◌, ℕ, zero, suc, ◌+◌, ◌*◌, ◌^◌, ◌<◌, ◌≤◌, ◌⊎◌, inl, inr, List, [], ◌∷◌, ◌++◌, ◌==◌}
+use Rattle.std.proofs.Common.{◌≡◌, ℕ, ◌+◌, ◌<◌, ◌≤◌, ◌⊎◌, inl, inr, List, [], ◌∷◌, ◌++◌, ◌==◌}
 use Rattle.std.proofs.Common.{Bool, true, false, cond, Option, Some, None, refl, sym, ap, ◌∙◌, subst, arith, map}
-use Rattle.std.specs.Prelude.{option_and_then, unwrap_or, nat_lt, codes}
+use Rattle.std.specs.Prelude.{option_and_then, nat_lt}
 use Rattle.std.specs.List.{AllByRecursion}
 use Rattle.std.specs.Map.{values_of}
 use Rattle.std.proofs.lemmas.Bool.Decides.{nat_tests}
@@ -26,16 +26,15 @@ use Rattle.ac_table.specs.Tables.{find_row}
 use Rattle.ac_world.specs.declared.aims.Aim.{Aim}
 use Rattle.ac_world.specs.Aims.{aim_of, aim_by}
 use Rattle.ac_world.specs.Behaviours.{Behaviour, dataspace}
-use Rattle.ac_world.specs.Housing.{housed, vacated}
-use Rattle.ac_world.specs.Outboxes.{Plan, put, drop_row, drop_own, dropped, with_trees}
-use Rattle.ac_world.specs.Turns.{Turning, handle_for, drop_met, vacating, row_gone, left, housing, row_come, came_at, came}
-use Rattle.ac_world.specs.Turns.{changed_by, all_changed, with_rows, regot, spreading, by_assertion, applied, taken_in}
+use Rattle.ac_world.specs.Housing.{housed}
+use Rattle.ac_world.specs.Outboxes.{Plan, drop_row, drop_own, dropped}
+use Rattle.ac_world.specs.Turns.{Turning, handle_for, drop_met, left, housing, came_at}
+use Rattle.ac_world.specs.Turns.{changed_by, all_changed, with_rows, regot, spreading, by_assertion, taken_in}
 use Rattle.ac_world.specs.Turns.{turned_by, all_turned}
-use Rattle.ac_world.specs.Worlds.{with_entry, without_entry}
 use Rattle.ac_world.specs.Lemmas.Entries.{each_with, each_without, values_pass, values_all}
-use Rattle.load_laws.proofs.Captures.{IsOf, IsItem, key_for, captures, observed}
+use Rattle.load_laws.proofs.Captures.{IsOf, IsItem, key_for, captures}
 use Rattle.load_laws.proofs.Costs.{plan_cost, event_cost, events_cost, IsIn, Fits, FitsPlan, put_fits, put_cost}
-use Rattle.load_laws.proofs.Costs.{dropped_fits, dropped_cost, FitsTable}
+use Rattle.load_laws.proofs.Costs.{dropped_fits, dropped_cost}
 use Rattle.load_laws.proofs.Keys.{all_of, keys_come, keys_stay}
 use Rattle.sc_load.specs.Loads.{connection_of, drawn}
 

@@ -6,7 +6,6 @@ use Rattle.pv_value.specs.Plain.{Plain}
 use Rattle.pv_words.specs.Words.{labelled, number}
 use Rattle.rl_stream.specs.Nexts.{Decider}
 use Rattle.sc_events.specs.Events.{event_of}
-use Rattle.sc_events.specs.Limits.{most_input}
 use Rattle.sc_events.specs.declared.events.ScriptEvent.{ScriptEvent}
 use Rattle.sc_events.specs.declared.events.ScriptEvent.TheVariants.{Bytes, Drain}
 use Rattle.sc_events.specs.declared.inputs.Form.TheVariants.{Binary}
@@ -15,7 +14,7 @@ use Rattle.sc_schema.specs.Firsts.{text_in, first_text, IsVerdict}
 use Rattle.sc_schema.specs.Lemmas.Courses.{in_parts, IsOneReading}
 use Rattle.sc_load.specs.Limits.{most_items}
 use Rattle.sc_load.specs.Loads.{observes, loads, all_turns, opens, load_events, load_bytes}
-use Rattle.sc_script.specs.Runs.{Running, Cause, limit, stops, state_of, beginning, doing}
+use Rattle.sc_script.specs.Runs.{Running, Cause, stops, state_of, beginning, doing}
 use Rattle.load_laws.specs.LoadEvents.{connections_of, IsArrival, IsSending, WriteEvents}
 use Rattle.load_laws.specs.Loads.{LoadsStopForLimits, LoadsStopForTwoLimits}
 use Rattle.load_laws.proofs.Course.{IsFine, IsLate, on_fine, arrivals_fine, sendings_fine}

@@ -1,13 +1,11 @@
 -- A world in which nothing but a load goes on: dataspace 1 has got and is told of items alone, connections are told of
 -- what is captured of them, and nobody else is told anything.
-use Rattle.std.proofs.Common.{◌≡◌, ◌≢◌, ℕ, zero, suc, ◌+◌, ◌*◌, ◌<◌, ◌≤◌, ◌⊎◌, inl, inr, List, [], ◌∷◌, ◌==◌, length}
-use Rattle.std.proofs.Common.{Bool, true, false, cond, Option, Some, None, refl, sym, ap, ◌∙◌, subst, arith}
-use Rattle.std.specs.Prelude.{unwrap_or, nat_lt}
+use Rattle.std.proofs.Common.{◌≡◌, ◌≢◌, ℕ, ◌+◌, ◌*◌, ◌<◌, ◌≤◌, inl, inr, List, [], ◌∷◌, ◌==◌, length}
+use Rattle.std.proofs.Common.{Bool, true, false, cond, Option, Some, None, refl, sym, ap, subst, arith}
+use Rattle.std.specs.Prelude.{unwrap_or}
 use Rattle.std.specs.List.{AllByRecursion}
 use Rattle.std.proofs.lemmas.Bool.Decides.{nat_tests}
-use Rattle.ps_schema.specs.declared.Definition.{Definition}
 use Rattle.ac_table.specs.declared.batches.Event.{Event}
-use Rattle.ac_table.specs.declared.batches.Event.TheVariants.{Assert}
 use Rattle.ac_table.specs.declared.batches.Batch.{Batch}
 use Rattle.ac_table.specs.Tables.{TableState, Actor, is_live, first_batch, popped}
 use Rattle.ac_world.specs.declared.acts.Act.{Act}
@@ -15,7 +13,7 @@ use Rattle.ac_world.specs.declared.acts.Act.TheVariants as act
 use Rattle.ac_world.specs.declared.turns.Turned.{Turned}
 use Rattle.ac_world.specs.declared.turns.Turned.TheVariants as turned
 use Rattle.ac_world.specs.Behaviours.{Behaviour, behaviour_of, dataspace}
-use Rattle.ac_world.specs.Outboxes.{Plan, plan_over, acted, all_acted, committed}
+use Rattle.ac_world.specs.Outboxes.{Plan, plan_over, acted, all_acted}
 use Rattle.ac_world.specs.Turns.{Turning, After, all_turned, begin_turn, end_turn, system_turn, connection_turn, turn_with}
 use Rattle.ac_world.specs.Turns.{turn_first, turn}
 use Rattle.ac_world.specs.Worlds.{WorldState, Resident, no_resident, resident_of, entry_of, is_system, gone, ended_of}
@@ -72,7 +70,7 @@ module _ (start n : ℕ) (few : n ≤ 20000) where
   space_turn b w fit l =
       let begin : Turning = begin_turn 1 w in
       let all = events_turn start n few w.schema b.from b.events begin fit (over_fits w.table l.table)
-          (resident_items 1 w l) in
+      (resident_items 1 w l) in
       let t : Turning = all_turned (dataspace w.schema) 1 b.from b.events begin in
       record {
         world = record {
