@@ -72,8 +72,7 @@ told_status (Reference m) k (suc (suc (suc (suc i))), l, e) = absurd (omega (ari
 told_status (Load d) k (zero, l, e) = (0, lit< tt, e)
 told_status (Load d) k (suc zero, l, e) = (4, lit< tt, e)
 told_status (Load d) k (suc (suc zero), l, e) = (5, lit< tt, e)
-told_status (Load d) k (suc (suc (suc zero)), l, e) = (6, lit< tt, e)
-told_status (Load d) k (suc (suc (suc (suc i))), l, e) = absurd (omega (arith, l))
+told_status (Load d) k (suc (suc (suc i)), l, e) = absurd (omega (arith, l))
 
 -- what the words ask for has the statuses that are said
 pub notice_known : (o : Option Request) (n : Notice) (k : ℕ) → Some (Tell n) ≡ o → Contains (statuses_told n) k

@@ -46,10 +46,8 @@ load_stops l stopped.NoMemory h = tt
 
 load_status : (l : Loading) (e : ScriptFault) → StopsALoad e
     → Contains (statuses_told (Load l)) (status_of (from_script e))
-load_status l (stopped.Bad k) never = absurd never
-load_status l (stopped.Limit w) over = (3, lit< tt, refl)
-load_status l (stopped.Schema k) never = absurd never
-load_status l stopped.NoMemory lost = (2, lit< tt, refl)
+load_status l e lost =
+    subst (λ f. Contains (statuses_told (Load l)) (status_of (from_script f))) (sym lost) (2, lit< tt, refl)
 
 -- words that are no key and values
 pub words_told : {T : Type 0} (n : Notice) (m : Minting) → n ≡ Reference m → (view : T → List ℕ) (e : WordsFault)

@@ -11,7 +11,7 @@ use Rattle.sc_load.specs.Loads.{load_bytes}
 use Rattle.sc_report.specs.Reports.{ConnectionState, RanState}
 use Rattle.sc_script.specs.Runs.{Cause}
 use Rattle.sc_script.specs.declared.faults.ScriptFault.{ScriptFault}
-use Rattle.sc_script.specs.declared.faults.ScriptFault.TheVariants.{Bad, Limit, Schema, NoMemory}
+use Rattle.sc_script.specs.declared.faults.ScriptFault.TheVariants.{NoMemory}
 use Rattle.dsd_top.specs.Asked.{Loading}
 use Rattle.dsd_top.specs.Makings.{LeavesSuch, StopsFor}
 
@@ -46,9 +46,6 @@ IsLoadLine l text = LeavesSuch input.Binary (load_bytes l.start l.count) (λ ran
 abbrev pub StopsLoad : Loading → Cause → Type 0
 StopsLoad l c = StopsFor input.Binary (load_bytes l.start l.count) c
 
--- what stops a load is a limit, or want of memory
+-- what stops a load is want of memory alone
 abbrev pub StopsALoad : ScriptFault → Type 0
-StopsALoad (Bad n) = ⊥
-StopsALoad (Limit w) = Unit {0}
-StopsALoad (Schema n) = ⊥
-StopsALoad NoMemory = Unit {0}
+StopsALoad e = e ≡ NoMemory

@@ -54,7 +54,7 @@ abbrev pub statuses_told : Notice → List ℕ
 statuses_told Usage = 0 ∷ 4 ∷ []
 statuses_told Version = 0 ∷ 4 ∷ []
 statuses_told (Reference m) = 0 ∷ 2 ∷ 4 ∷ 5 ∷ []
-statuses_told (Load l) = 0 ∷ 4 ∷ 5 ∷ 6 ∷ []
+statuses_told (Load l) = 0 ∷ 4 ∷ 5 ∷ []
 
 -- those that come for what the words ask for, and where they ask for nothing
 abbrev pub statuses_of : Option Request → List ℕ

@@ -12,7 +12,7 @@ use crate::words::Loading;
 use ds_skeleton::Skeleton;
 use hub_laws::settled_holdings_are_from_scratch;
 use lc_watch::Table;
-use load_laws::loads_stop_for_limits_alone;
+use load_laws::loads_never_stop;
 use pv_value::{NoMemory, Node, Value};
 use pv_words::{labelled, number, number_in};
 use rl_packet::Holding;
@@ -79,16 +79,16 @@ fn load_value(alloc: Global, loading: &Loading, ran: &Ran) -> Result<Value, NoMe
     labelled(alloc, "load", fields)
 }
 
-/// The line of the run of a load, or the first cause that stops it, which is a limit.
+/// The line of the run of a load, or want of memory: no load stops for another cause.
 pub fn load_line(alloc: Global, loading: &Loading) -> Result<Vec<u8>, ScriptFault>
     ensures line { IfOk result (λ line. IsLoadLine loading.now line.items) }
     ensures stop { IfErr result
         (StopsAt input.Binary (load_bytes loading.now.start loading.now.count)) }
-    ensures limits { IfErr result StopsALoad }
+    ensures memory { IfErr result StopsALoad }
 {
     settled_holdings_are_from_scratch();
     next_is_decided();
-    loads_stop_for_limits_alone();
+    loads_never_stop();
     let script = load_script(alloc, loading.start(), loading.count())?;
     let bytes = script.as_slice();
     let ran = run_script::<Skeleton, Conformance, Table>(

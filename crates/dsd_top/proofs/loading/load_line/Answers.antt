@@ -6,7 +6,7 @@ use Rattle.sc_load.specs.Limits.{most_items}
 use Rattle.sc_load.specs.Loads.{load_bytes}
 use Rattle.sc_script.specs.Scripts.{StopsAt}
 use Rattle.dsd_top.proofs.Reported.{loaded}
-use Rattle.dsd_top.proofs.Stopped.{for_a_limit, stopped_so}
+use Rattle.dsd_top.proofs.Stopped.{for_memory, stopped_so}
 use Rattle.dsd_top.proofs.loading.load_line.Goals as goal
 
 pub returns-clause-line : goal.returns-clause-line
@@ -17,8 +17,8 @@ returns-clause-line c =
     loaded c.args.loading.now _ _ _ _ law same c.in_ok-ran.ensures.run c.in_ok-value.ensures
     c.in_ok-value_in.ensures
 
-pub returns-in_err-ran-clause-limits : goal.returns-in_err-ran-clause-limits
-returns-in_err-ran-clause-limits c =
+pub returns-in_err-ran-clause-memory : goal.returns-in_err-ran-clause-memory
+returns-in_err-ran-clause-memory c =
     let loading = c.args.loading.now in
     let fault = c.in_err-ran.field-0.0 in
     let same : c.as_slice-bytes.result.now ≡ load_bytes loading.start loading.count = search rules in
@@ -26,5 +26,5 @@ returns-in_err-ran-clause-limits c =
     let stops : StopsAt input.Binary (load_bytes loading.start loading.count) fault =
     subst (λ bytes. StopsAt input.Binary bytes fault) same c.in_err-ran.ensures.stop in
     stopped_so _ fault c.from_residual-in_err-ran.ensures.1
-    (for_a_limit c.next_is_decided.ensures.0 c.next_is_decided.ensures.1 c.loads_stop_for_limits_alone.ensures.limits
+    (for_memory c.next_is_decided.ensures.0 c.next_is_decided.ensures.1 c.loads_never_stop.ensures
     loading.start loading.count few fault stops)

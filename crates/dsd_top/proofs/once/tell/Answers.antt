@@ -53,7 +53,7 @@ returns-in_err-line-in-Load-clause-known g c =
     said_err (λ f. Contains (statuses_told c.args.notice.now) (status_of f)) _ _
     c.from_residual-in_err-line-in-Load.ensures.1
     (load_known c.args.notice.now c.in-Load.loading c.in-Load.is c.in_err-line-in-Load.field-0.0
-    c.in_err-line-in-Load.ensures.limits)
+    c.in_err-line-in-Load.ensures.memory)
 
 pub returns-in_err-line-in-Load-clause-cause : goal.returns-in_err-line-in-Load-clause-cause
 returns-in_err-line-in-Load-clause-cause g c =
