@@ -7,13 +7,13 @@ use Rattle.std.specs.Ordering.{nat_cmp}
 use Rattle.pv_value.specs.Plain.{Plain}
 use Rattle.ds_space.specs.Changes.{among}
 use Rattle.ds_space.specs.Limits.{most_wanted_weight}
-use Rattle.ds_space.specs.Spaces.{Rows, changed}
+use Rattle.ds_space.specs.Spaces.{Rows, changed, Fits}
 use Rattle.ds_space.specs.declared.space.SpaceEvent.{SpaceEvent}
 use Rattle.ds_space.specs.declared.space.SpaceEvent.TheVariants.{Add, Gone}
 use Rattle.ds_space.specs.declared.space.Change.{Change}
 use Rattle.ds_space.specs.declared.space.Change.TheVariants.{Left, Came}
-use Rattle.ac_watch.specs.Watching.{Watch, Fits, made, keys_over, key_changes}
-use Rattle.ac_watch.specs.Watching.{sequences, weight_of_all, weight_of_made}
+use Rattle.ac_watch.specs.Watching.{Watch, made, keys_over, key_changes}
+use Rattle.ac_watch.specs.Watching.{sequences, watcher_weight, weight_of_all, weight_of_made}
 use Rattle.ac_watch.specs.Lemmas.Rows.{IsLonger, longer_by_row, longer_than_without}
 use Rattle.ac_watch.proofs.Wanting.{new_comes, new_goes, standing_comes, standing_goes}
 use Rattle.ac_watch.proofs.Weights.{standing_weight, new_weight, fitting, whole}
@@ -46,9 +46,10 @@ follows e w old new cs is rows keys =
 
 -- and what it wants after a row more isn't over the limit
 pub within : (h : ℕ) (v : Plain) (w old : Watch) (new : Rows) (n : ℕ) → w ≡ old → new ≡ changed w.got (Add h v)
-    → n ≡ weighs w.name new → n ≤ most_wanted_weight → Fits old.name (values_of (changed old.got (Add h v))) (Add h v)
+    → n ≡ weighs w.name new → n ≤ most_wanted_weight
+    → Fits (watcher_weight old.name) (values_of (changed old.got (Add h v))) (Add h v)
 within h v w old new n same rows is fits =
-    subst (λ (o : Watch). Fits o.name (values_of (changed o.got (Add h v))) (Add h v)) same
+    subst (λ (o : Watch). Fits (watcher_weight o.name) (values_of (changed o.got (Add h v))) (Add h v)) same
     (fitting n (weighs w.name (changed w.got (Add h v))) (is ∙ ap (weighs w.name) rows) fits)
 
 module _ (name : List ℕ) (h : ℕ) (v : Plain) (old new : Rows) (none : lookup (is_at (nat_cmp h)) old ≡ None)

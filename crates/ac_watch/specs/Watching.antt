@@ -3,21 +3,16 @@
 use Rattle.std.specs.Prelude.{◌≡◌, ℕ, pos, ◌+◌, ◌-◌, ◌^◌, ◌≤◌, ◌<◌, min, Bool, true, false, List, [], ◌∷◌}
 use Rattle.std.specs.Prelude.{◌++◌, map, Option, None}
 use Rattle.std.specs.List.{flat_map, filter, slice_get}
-use Rattle.std.specs.Map.{values_of}
 use Rattle.pv_value.specs.Plain.{Plain, integer, sequence, no_more, then_more, plains, listed}
 use Rattle.pv_value.specs.Order.{order}
 use Rattle.pv_value.specs.Sets.{ascending_by}
 use Rattle.pv_value.specs.Weight.{weight}
 use Rattle.pv_words.specs.Words.{number}
-use Rattle.ds_space.specs.Limits.{most_wanted_weight}
-use Rattle.ds_space.specs.Spaces.{Rows, changed}
-use Rattle.ds_space.specs.Changes.{without}
+use Rattle.ds_space.specs.Spaces.{Rows, IsAppliedWith}
+use Rattle.ds_space.specs.Changes.{changes}
 use Rattle.ds_space.specs.declared.space.SpaceEvent.{SpaceEvent}
-use Rattle.ds_space.specs.declared.space.SpaceEvent.TheVariants.{Add, Gone}
 use Rattle.ds_space.specs.declared.space.Change.{Change}
-use Rattle.ds_space.specs.declared.space.Change.TheVariants.{Left, Came}
 use Rattle.ds_space.specs.declared.space.Applied.{Applied}
-use Rattle.ds_space.specs.declared.space.Applied.TheVariants.{Done, Over}
 use Rattle.lc_watch.specs.Behaviours.{behave}
 
 -- ---- what is wanted
@@ -81,24 +76,10 @@ pub record Watch : Type 0 where
 -- the keys that are wanted no more, ascending, and then those that are new, ascending
 abbrev pub key_changes : List ℕ → List Plain → List Plain → List Change
 key_changes name old new =
-    map Left (without (watcher_keys name old) (watcher_keys name new))
-    ++ map Came (without (watcher_keys name new) (watcher_keys name old))
+    changes (watcher_keys name old) (watcher_keys name new)
 
--- an event after which these are the values is done: what would be wanted weighs no more than 33,554,432
-abbrev pub Fits : List ℕ → List Plain → SpaceEvent → Type 0
-Fits name vs (Add n v) = watcher_weight name vs ≤ most_wanted_weight
-Fits name vs (Gone n) = Unit {0}
-
--- or it isn't, and w is the weight
-abbrev pub IsOver : List ℕ → List Plain → SpaceEvent → ℕ → Type 0
-IsOver name vs (Add n v) w = (most_wanted_weight < w) × (w ≡ watcher_weight name vs)
-IsOver name vs (Gone n) w = ⊥
-
--- the rows are those after the event, and the changes those in what is wanted; or nothing has changed
+-- what becomes of an event; the name stays
 abbrev pub IsWatched : Watch → SpaceEvent → Applied Watch → Type 0
-IsWatched old e (Done w cs) =
-    (w.got ≡ changed old.got e) × (w.name ≡ old.name)
-    × (cs.items ≡ key_changes old.name (values_of old.got) (values_of (changed old.got e)))
-    × Fits old.name (values_of (changed old.got e)) e
-IsWatched old e (Over w n) =
-    (w.got ≡ old.got) × (w.name ≡ old.name) × IsOver old.name (values_of (changed old.got e)) e n
+IsWatched old e applied =
+    IsAppliedWith (λ w. w.got) (λ w. w.name ≡ old.name) (λ before after cs. cs ≡ key_changes old.name before after)
+    (watcher_weight old.name) old.got e applied

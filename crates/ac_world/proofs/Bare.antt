@@ -1,15 +1,14 @@
 -- A reference without caveats is read as its two numbers, and lets each value pass as it is.
-use Rattle.std.proofs.Common.{◌≡◌, ℕ, ◌^◌, cond, Bool, true, false, ◌&&◌, nat_lt, List, [], Option, Some}
-use Rattle.std.proofs.Common.{None, refl, ap, sym, ◌∙◌}
+use Rattle.std.proofs.Common.{◌≡◌, ℕ, ◌^◌, Bool, true, false, nat_lt, List, [], Option, Some}
+use Rattle.std.proofs.Common.{None, refl, ap}
 use Rattle.std.proofs.Common.{◌∷◌, length, option_map, option_and_then, pos, ◌<◌, arith}
 use Rattle.std.proofs.lemmas.Bool.{lt-ltb}
 use Rattle.std.proofs.lemmas.Bool.Decides.{nat_tests}
 use Rattle.pv_value.specs.Plain.{Plain, integer, sequence, no_more, then_more, plains}
-use Rattle.pv_words.specs.Parts.{same}
 use Rattle.pv_words.specs.Words.{number_in}
 use Rattle.pv_words.specs.Lemmas.Same.{same_self}
 use Rattle.ps_schema.specs.declared.Definition.{Definition}
-use Rattle.sr_caveat.specs.Caps.{Cap, cap_of, cap_at, if_spelled}
+use Rattle.sr_caveat.specs.Caps.{cap_at, if_spelled}
 use Rattle.ds_space.specs.declared.references.Reference.{Reference}
 use Rattle.ds_space.specs.References.{reference_of}
 use Rattle.ac_world.specs.Aims.{Aim, aim_at, aim_by, has_caveats}

@@ -1,20 +1,25 @@
 -- A system actor's turn, one change and one event at a time; and an event that the actor has done.
 use Rattle.std.proofs.Common.{◌≡◌, ◌<◌, ◌≤◌, ℕ, List, [], ◌∷◌, ◌++◌, true, false, cond, nat_lt, refl, ap, sym, ◌∙◌}
-use Rattle.std.proofs.Common.{arith, if◌then◌else◌, Result, Ok, Err, OnOk}
+use Rattle.std.proofs.Common.{arith, if◌then◌else◌, Result, Ok, Err, OnOk, Option, Some, None, Vec, Global}
 use Rattle.std.proofs.lemmas.Bool.Decides.{nat_tests}
 use Rattle.std.specs.Map.{values_of}
 use Rattle.ac_table.specs.declared.batches.Event.{Event}
 use Rattle.ds_space.specs.Limits.{most_wanted_weight}
-use Rattle.ds_space.specs.Spaces.{Rows, changed}
+use Rattle.ds_space.specs.Changes.{changes}
+use Rattle.ds_space.specs.Spaces.{Rows, changed, Fits, IsOver}
 use Rattle.ds_space.specs.declared.space.SpaceEvent.{SpaceEvent}
 use Rattle.ds_space.specs.declared.space.SpaceEvent.TheVariants.{Add, Gone}
 use Rattle.ds_space.specs.declared.space.Change.{Change}
-use Rattle.ac_world.specs.declared.turning.Turning.{Turning as TurningBy}
+use Rattle.ds_space.specs.declared.space.Change.TheVariants.{Left, Came}
+use Rattle.ds_space.specs.declared.space.Applied.TheVariants.{Done, Over}
+use Rattle.ac_world.specs.declared.aims.Aim.{Aim}
+use Rattle.ac_world.specs.declared.residents.Resident.{Resident as ResidentBy}
 use Rattle.ac_world.specs.Behaviours.{Behaviour, fanned_weight}
-use Rattle.ac_world.specs.Keeping.{turning_by, TurnsBy}
-use Rattle.ac_world.specs.Systems.{changes, FitsBy, IsOverBy}
+use Rattle.ac_world.specs.Keeping.{TurningBy, turning, turning_by, TurnsBy, Stands, GoesOn}
+use Rattle.ac_world.specs.Staying.{Lasting}
+use Rattle.ac_world.specs.Systems.{IsAppliedBy}
 use Rattle.ac_world.specs.Turns.{Turning, changed_by, all_changed, with_rows, regot, spreading, by_assertion, applied}
-use Rattle.ac_world.specs.Turns.{turned_by, all_turned, say_all, by_message, passes_on}
+use Rattle.ac_world.specs.Turns.{came_at, turned_by, all_turned, say_all, by_message, passes_on}
 use Rattle.ac_world.specs.Outboxes.{Plan}
 use Rattle.ac_world.specs.declared.spreads.Spread.{Spread}
 use Rattle.ds_space.specs.declared.space.Fanned.{Fanned}
@@ -43,6 +48,58 @@ pub turns_on : {S : Type 0} {X E : Type 0} (rows_of : S → Rows) (behaviour : S
 turns_on rows_of behaviour t u f (Ok x) turns same = (turns, ap behaviour same)
 turns_on rows_of behaviour t u f (Err e) turns same = tt
 
+-- ---- an actor goes on, and stands
+
+pub goes_not : {S : Type 0} (rows_of : S → Rows) (behaviour : S → Behaviour) (lasting : S → Lasting) (a : ℕ)
+    (t : TurningBy S) → Stands a (turning_by rows_of t) → GoesOn rows_of behaviour lasting a t (λ y x. x) t
+goes_not rows_of behaviour lasting a t s = record { stands = s; turns = (refl, refl); lasts = refl }
+
+-- by what is the same of where it begins
+pub goes_as : {S : Type 0} (rows_of : S → Rows) (behaviour : S → Behaviour) (lasting : S → Lasting) (a : ℕ)
+    (t u : TurningBy S) (f g : Behaviour → Turning → Turning)
+    → f (behaviour t.resident.system) (turning_by rows_of t) ≡ g (behaviour t.resident.system) (turning_by rows_of t)
+    → GoesOn rows_of behaviour lasting a t f u → GoesOn rows_of behaviour lasting a t g u
+goes_as rows_of behaviour lasting a t u f g same goes =
+    record { stands = goes.stands; turns = (goes.turns.0 ∙ same, goes.turns.1); lasts = goes.lasts }
+
+pub goes_then : {S : Type 0} (rows_of : S → Rows) (behaviour : S → Behaviour) (lasting : S → Lasting) (a : ℕ)
+    (t u v : TurningBy S) (f g h : Behaviour → Turning → Turning)
+    → ((y : Behaviour) (x : Turning) → h y x ≡ g y (f y x)) → GoesOn rows_of behaviour lasting a t f u
+    → GoesOn rows_of behaviour lasting a u g v → GoesOn rows_of behaviour lasting a t h v
+goes_then rows_of behaviour lasting a t u v f g h both first later = record {
+  stands = later.stands;
+  turns = turns_then rows_of behaviour t u v f g h both first.turns later.turns;
+  lasts = later.lasts ∙ first.lasts;
+}
+
+-- what a call says of an actor that is kept as it is, where it comes to an end
+pub goes_on : {S : Type 0} {X E : Type 0} (rows_of : S → Rows) (behaviour : S → Behaviour) (lasting : S → Lasting)
+    (a : ℕ) (t u : TurningBy S) (f : Behaviour → Turning → Turning) (r : Result X E)
+    → OnOk r (Stands a (turning_by rows_of u))
+    → OnOk r (turning_by rows_of u ≡ f (behaviour t.resident.system) (turning_by rows_of t))
+    → OnOk r (u.resident.system ≡ t.resident.system) → OnOk r (GoesOn rows_of behaviour lasting a t f u)
+goes_on rows_of behaviour lasting a t u f (Ok x) stands turns same =
+    record { stands = stands; turns = (turns, ap behaviour same); lasts = ap lasting same }
+goes_on rows_of behaviour lasting a t u f (Err e) stands turns same = tt
+
+-- ---- who spread so far is nothing to a change
+
+unspread : (y : Behaviour) (a : ℕ) (c : Change) (t : Turning) (ss : List Spread)
+    → record (changed_by y a c t) { spreads = ss } ≡ changed_by y a c (record t { spreads = ss })
+unspread y a (Left k) t ss = refl
+unspread y a (Came k) t ss = by (y.aim k)
+  where
+    by : (o : Option Aim) → record (came_at a (y.group k) k o t) { spreads = ss }
+        ≡ came_at a (y.group k) k o (record t { spreads = ss })
+    by None = refl
+    by (Some aim) = refl
+
+all_unspread : (y : Behaviour) (a : ℕ) (cs : List Change) (t : Turning) (ss : List Spread)
+    → record (all_changed y a cs t) { spreads = ss } ≡ all_changed y a cs (record t { spreads = ss })
+all_unspread y a [] t ss = refl
+all_unspread y a (c ∷ cs) t ss =
+    all_unspread y a cs (changed_by y a c t) ss ∙ ap (all_changed y a cs) (unspread y a c t ss)
+
 -- ---- one more change
 
 pub all_changed-push : (y : Behaviour) (a : ℕ) (cs : List Change) (c : Change) (t : Turning)
@@ -66,7 +123,7 @@ is_above : (n m : ℕ) → n < m → nat_lt n m ≡ true
 is_above n m h = grind (arith, nat_tests)
 
 regot-fits : (y : Behaviour) (a from : ℕ) (e : SpaceEvent) (t : Turning)
-    → FitsBy y (values_of (changed t.resident.got e)) e
+    → Fits y.weight (values_of (changed t.resident.got e)) e
     → regot y a (changed t.resident.got e) t ≡ applied y a from e t
 regot-fits y a from (Add h v) t fits =
     sym (ap (λ b. cond b
@@ -78,7 +135,7 @@ regot-fits y a from (Gone h) t fits = refl
 pub applied-done : (y : Behaviour) (a from : ℕ) (e : SpaceEvent) (t : Turning) (rows : Rows) (cs : List Change)
     → rows ≡ changed t.resident.got e
     → cs ≡ changes (y.keys (values_of t.resident.got)) (y.keys (values_of (changed t.resident.got e)))
-    → FitsBy y (values_of (changed t.resident.got e)) e
+    → Fits y.weight (values_of (changed t.resident.got e)) e
     → all_changed y a cs (with_rows rows t) ≡ applied y a from e t
 applied-done y a from e t rows cs is are fits =
     ap (λ r. all_changed y a cs (with_rows r t)) is
@@ -87,7 +144,7 @@ applied-done y a from e t rows cs is are fits =
 
 -- or it is passed over
 pub applied-over : (y : Behaviour) (a from : ℕ) (e : SpaceEvent) (t : Turning) (w : ℕ)
-    → IsOverBy y (values_of (changed t.resident.got e)) e w
+    → IsOver y.weight (values_of (changed t.resident.got e)) e w
     → spreading (by_assertion t.plan.table a from w) t ≡ applied y a from e t
 applied-over y a from (Add h v) t w over =
     let weight : ℕ = y.weight (values_of (changed t.resident.got (Add h v))) in
@@ -96,6 +153,54 @@ applied-over y a from (Add h v) t w over =
     (regot y a (changed t.resident.got (Add h v)) t))
     (ap (nat_lt most_wanted_weight) (sym over.1) ∙ is_above _ _ over.0))
 applied-over y a from (Gone h) t w over = absurd over
+
+-- the actor after the event, and its changes
+pub goes_done : {S : Type 0} (rows_of : S → Rows) (behaviour : S → Behaviour) (lasting : S → Lasting) (a from : ℕ)
+    (e : SpaceEvent) (s : S) (cs : Vec Change Global) (r new : ResidentBy S) (p after : Plan) (ss : List Spread)
+    → IsAppliedBy rows_of behaviour (behaviour r.system) (rows_of r.system) e (Done s cs)
+    → lasting s ≡ lasting r.system
+    → GoesOn rows_of behaviour lasting a (turning (record r { system = s }) p []) (λ y. all_changed y a cs.items)
+    (turning new after [])
+    → GoesOn rows_of behaviour lasting a (turning r p ss) (λ y. applied y a from e) (turning new after ss)
+goes_done rows_of behaviour lasting a from e s cs r new p after ss told stays goes =
+    let t : Turning = turning_by rows_of (turning r p ss) in
+    let y : Behaviour = behaviour r.system in
+    let none : Turning = turning_by rows_of (turning (record r { system = s }) p []) in
+    record {
+      stands = record { live = goes.stands.live; rooted = goes.stands.rooted; houses = goes.stands.houses };
+      turns = (
+        ap (λ (u : Turning). record u { spreads = ss }) goes.turns.0
+            ∙ all_unspread (behaviour s) a cs.items none ss
+            ∙ ap (λ (z : Behaviour). all_changed z a cs.items (with_rows (rows_of s) t)) told.1
+            ∙ applied-done y a from e t (rows_of s) cs.items told.0 told.2 told.3,
+        goes.turns.1 ∙ told.1,
+      );
+      lasts = goes.lasts ∙ stays;
+    }
+
+-- or the actor as before, and one more that spread
+pub goes_over : {S : Type 0} (rows_of : S → Rows) (behaviour : S → Behaviour) (lasting : S → Lasting) (a from : ℕ)
+    (e : SpaceEvent) (s : S) (w : ℕ) (r : ResidentBy S) (p : Plan) (ss new : List Spread)
+    → IsAppliedBy rows_of behaviour (behaviour r.system) (rows_of r.system) e (Over s w)
+    → lasting s ≡ lasting r.system → new ≡ by_assertion p.table a from w ss
+    → Stands a (turning_by rows_of (turning r p ss))
+    → GoesOn rows_of behaviour lasting a (turning r p ss) (λ y. applied y a from e)
+    (turning (record r { system = s }) p new)
+goes_over rows_of behaviour lasting a from e s w r p ss new told stays is stands =
+    let t : Turning = turning_by rows_of (turning r p ss) in
+    record {
+      stands = record { live = stands.live; rooted = stands.rooted; houses = stands.houses };
+      turns = (
+        (λ i. record {
+          resident = record { got = told.0 i; handles = t.resident.handles; facets = t.resident.facets };
+          plan = p;
+          spreads = is i;
+        })
+            ∙ applied-over (behaviour r.system) a from e t w told.2,
+        told.1,
+      );
+      lasts = stays;
+    }
 
 -- ---- a message
 

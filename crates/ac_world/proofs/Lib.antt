@@ -7,8 +7,10 @@ pub mod Housings
 pub mod Known
 pub mod Lives
 pub mod Numbers
+pub mod Outcoming
 pub mod Pushes
 pub mod Shapes
+pub mod Sound
 pub mod Spaces
 pub mod Sparing
 pub mod Standing

@@ -6,13 +6,13 @@ use Rattle.ds_space.specs.Spaces.{Fits}
 use Rattle.ds_space.specs.declared.space.SpaceEvent.{SpaceEvent}
 use Rattle.ds_space.specs.declared.space.SpaceEvent.TheVariants.{Add, Gone}
 use Rattle.ds_space.specs.declared.space.Change.{Change}
-use Rattle.ds_space.specs.Changes.{AreChanges}
-use Rattle.ds_space.specs.Wants.{wants}
+use Rattle.ds_space.specs.Changes.{AreChanges, changes}
+use Rattle.ds_space.specs.Wants.{wants, wanted_weight}
 use Rattle.ds_space.specs.Lemmas.Exact.{changes_exact}
 use Rattle.ac_world.specs.Behaviours.{dataspace}
-use Rattle.ac_world.specs.Systems.{FitsBy, changes}
 
-pub fits_by : (ds : List Definition) (vs : List Plain) (e : SpaceEvent) → Fits vs e → FitsBy (dataspace ds) vs e
+pub fits_by : (ds : List Definition) (vs : List Plain) (e : SpaceEvent) → Fits wanted_weight vs e
+    → Fits (dataspace ds).weight vs e
 fits_by ds vs (Add n v) fits = fits
 fits_by ds vs (Gone n) fits = tt
 

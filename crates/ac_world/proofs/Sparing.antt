@@ -24,7 +24,7 @@ use Rattle.ac_world.specs.Aims.{aim_at, aim_for}
 use Rattle.ac_world.specs.Behaviours.{Behaviour}
 use Rattle.ac_world.specs.Housing.{Vacated, facet_for, housed_at, vacated_at}
 use Rattle.ac_world.specs.Outboxes.{Plan, drop_row, drop_own, dropped, acted, all_acted}
-use Rattle.ac_world.specs.Systems.{changes}
+use Rattle.ds_space.specs.Changes.{changes}
 use Rattle.ac_world.specs.Turns.{Turning, drop_met, handle_for, vacating, row_gone, housing, came_at}
 use Rattle.ac_world.specs.Turns.{changed_by, all_changed, with_rows, regot, applied, taken_in}
 use Rattle.ac_world.specs.Turns.{say_at, say_all, passed_on, turned_by, all_turned}

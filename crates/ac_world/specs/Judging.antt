@@ -7,7 +7,8 @@ use Rattle.dp_pattern.specs.Written.{pattern_of}
 use Rattle.ac_world.specs.declared.watched.Watched.{Watched}
 use Rattle.ac_world.specs.Worlds.{is_space}
 
--- it watches a pattern, in which nothing is embedded, at a dataspace, asserts at a dataspace by a behaviour that is known,
+-- it watches a pattern, in which nothing is embedded, at a dataspace, asserts at a dataspace by a behaviour that is
+-- known,
 -- and no dataspace would be both watched and asserted at, by itself or with one of those that were made
 pub record IsJudged (x : Watched) (made : List Watched) : Type 0 where
   pub from : is_space x.from ≡ true

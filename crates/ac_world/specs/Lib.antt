@@ -7,6 +7,7 @@ pub mod Lemmas
 pub mod Limits
 pub mod Others
 pub mod Outboxes
+pub mod Outcomes
 pub mod Readings
 pub mod Staying
 pub mod Sums

@@ -25,7 +25,7 @@ use Rattle.ac_world.specs.Worlds.{WorldState, Resident, resident_of, held_by, wi
 use Rattle.ac_world.specs.Worlds.{all_delivered}
 use Rattle.ac_world.specs.Aims.{Aim, aim_at, aim_for}
 use Rattle.ac_world.specs.Behaviours.{Behaviour, behaviour_of, fanned_weight}
-use Rattle.ac_world.specs.Systems.{changes}
+use Rattle.ds_space.specs.Changes.{changes}
 use Rattle.ac_world.specs.declared.spreads.Spread.{Spread}
 use Rattle.ac_world.specs.declared.turns.Turned.{Turned}
 use Rattle.ac_world.specs.declared.turns.Turned.TheVariants as turned

@@ -4,14 +4,16 @@ ghost use Rattle.ac_world.specs.Aims.{observation_of};
 ghost use Rattle.ac_world.specs.Behaviours.{dataspace};
 
 use crate::aims::{Aim, observation_of};
+use crate::context::Context;
 use crate::readings::Readings;
-use crate::systems::System;
+use crate::systems::{Outcome, System};
 use ds_space::{Applied, Fan, Space, SpaceEvent};
 use lc_watch::Behaves;
 use pv_value::{NoMemory, Value};
 use sr_pass::Judge;
 use std::alloc::Global;
 use std::marker::Model;
+use std::mem::replace;
 
 /// A dataspace. Contracts see its rows.
 #[derive(Drop)]
@@ -58,14 +60,22 @@ impl<S: Space + Drop> System for Dataspace<S> {
     ghost first = { λ k g e. e };
 
     fn apply<B: Behaves>(
-        self,
+        &mut self,
         alloc: Global,
         _behaves: &B,
         event: SpaceEvent,
-    ) -> Result<Applied<Self>, NoMemory> {
-        match self.space.apply(alloc, event)? {
-            Applied::Done(space, changes) => Ok(Applied::Done(Dataspace { space }, changes)),
-            Applied::Over(space, weight) => Ok(Applied::Over(Dataspace { space }, weight)),
+    ) -> Result<Outcome, NoMemory> {
+        // A space goes by value, and for want of memory it is gone.
+        let space = replace(&mut self.space, S::fresh(alloc));
+        match space.apply(alloc, event)? {
+            Applied::Done(space, changes) => {
+                self.space = space;
+                Ok(Outcome::Done(changes))
+            }
+            Applied::Over(space, weight) => {
+                self.space = space;
+                Ok(Outcome::Over(weight))
+            }
         }
     }
 
@@ -79,13 +89,11 @@ impl<S: Space + Drop> System for Dataspace<S> {
 
     fn aim<J: Judge, B: Behaves>(
         &self,
-        alloc: Global,
-        judge: &J,
-        _behaves: &B,
+        cx: &Context<J, B>,
         readings: &mut Readings,
         key: &Value,
     ) -> Result<Option<Aim>, NoMemory> {
-        readings.aim_of(alloc, judge, key)
+        readings.aim_of(cx.alloc, cx.judge, key)
     }
 
     fn fan(&self, alloc: Global, message: &Value) -> Result<Fan, NoMemory> {

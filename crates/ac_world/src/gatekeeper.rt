@@ -1,5 +1,5 @@
 //! The gatekeeper, which answers those who resolve signed references.
-ghost use Rattle.std.specs.Prelude.{◌≡◌, List, [], ◌∷◌, ◌&&◌, None, IfOk, refl};
+ghost use Rattle.std.specs.Prelude.{◌≡◌, List, [], ◌∷◌, ◌&&◌, None, IfOk, OnOk, refl};
 ghost use Rattle.std.specs.Prelude.{if◌then◌else◌, codes};
 ghost use Rattle.std.specs.Map.{lookup};
 ghost use Rattle.std.specs.BTreeMap.{is_at};
@@ -10,14 +10,15 @@ ghost use Rattle.ds_space.specs.declared.space.SpaceEvent.TheVariants.{Add, Gone
 ghost use Rattle.ac_world.specs.Behaviours.{asks as asks_for, answer_for, gatekeeper};
 ghost use Rattle.pv_words.specs.Words.{is_word};
 ghost use Rattle.ac_world.specs.Lemmas.Grouping.{ungrouped};
-ghost use Rattle.ac_world.specs.Staying.{StaysIn};
+ghost use Rattle.ac_world.specs.Outcomes.{outcome_at};
 ghost use Rattle.ac_world.specs.Systems.{IsAppliedBy};
 
 use crate::aims::Aim;
+use crate::context::Context;
 use crate::readings::Readings;
-use crate::systems::System;
+use crate::systems::{Outcome, System};
 use ds_rows::Rows;
-use ds_space::{Applied, Change, Changes, Fan, SpaceEvent, is_observer};
+use ds_space::{Change, Changes, Fan, SpaceEvent, is_observer};
 use gk_sturdy::{Bindings, reply};
 use lc_watch::Behaves;
 use pv_value::{NoMemory, Node, Text, Value};
@@ -58,44 +59,35 @@ impl Gatekeeper {
     }
 
     /// A row comes, under a handle that is new.
-    fn add(
-        mut self,
-        alloc: Global,
-        handle: u64,
-        value: Value,
-    ) -> Result<Applied<Gatekeeper>, NoMemory>
-        requires { lookup (is_at (nat_cmp handle)) self.got ≡ None }
-        ensures applied { IfOk result (λ applied. (ds : List Definition)
+    fn add(&mut self, alloc: Global, handle: u64, value: Value) -> Result<Outcome, NoMemory>
+        requires { lookup (is_at (nat_cmp handle)) self.old.got ≡ None }
+        ensures applied { IfOk result (λ outcome. (ds : List Definition)
             → IsAppliedBy (λ g. g.got) (λ g. gatekeeper ds g.bindings)
-            (gatekeeper ds self.bindings) self.got (Add handle value) applied) }
-        ensures lasting { IfOk result (StaysIn
-            (λ g. record { bound = g.bindings; task = None })
-            (record { bound = self.bindings; task = None })) }
+            (gatekeeper ds self.old.bindings) self.old.got (Add handle value)
+            (outcome_at self.new outcome)) }
+        ensures lasting { OnOk result (self.new.bindings ≡ self.old.bindings) }
     {
         let asked = asks(&value);
         let came = Change::Came(value.copy()?);
         let first = self.rows.add(handle, value)?;
         let changes = change_if(alloc, asked && first, came)?;
-        Ok(Applied::Done(self, changes))
+        Ok(Outcome::Done(changes))
     }
 
     /// A row goes, where it is there.
-    fn remove(mut self, alloc: Global, handle: u64) -> Result<Applied<Gatekeeper>, NoMemory>
-        ensures applied { IfOk result (λ applied. (ds : List Definition)
+    fn remove(&mut self, alloc: Global, handle: u64) -> Result<Outcome, NoMemory>
+        ensures applied { IfOk result (λ outcome. (ds : List Definition)
             → IsAppliedBy (λ g. g.got) (λ g. gatekeeper ds g.bindings)
-            (gatekeeper ds self.bindings) self.got (Gone handle) applied) }
-        ensures lasting { IfOk result (StaysIn
-            (λ g. record { bound = g.bindings; task = None })
-            (record { bound = self.bindings; task = None })) }
+            (gatekeeper ds self.old.bindings) self.old.got (Gone handle)
+            (outcome_at self.new outcome)) }
+        ensures lasting { OnOk result (self.new.bindings ≡ self.old.bindings) }
     {
-        match self.rows.remove(handle) {
-            Some((value, last)) => {
-                let asked = asks(&value);
-                let changes = change_if(alloc, asked && last, Change::Left(value))?;
-                Ok(Applied::Done(self, changes))
-            }
-            None => Ok(Applied::Done(self, Vec::new(alloc))),
-        }
+        let Some((value, last)) = self.rows.remove(handle) else {
+            return Ok(Outcome::Done(Vec::new(alloc)));
+        };
+        let asked = asks(&value);
+        let changes = change_if(alloc, asked && last, Change::Left(value))?;
+        Ok(Outcome::Done(changes))
     }
 }
 
@@ -115,11 +107,11 @@ impl System for Gatekeeper {
     ghost first = { ungrouped };
 
     fn apply<B: Behaves>(
-        self,
+        &mut self,
         alloc: Global,
         _behaves: &B,
         event: SpaceEvent,
-    ) -> Result<Applied<Self>, NoMemory> {
+    ) -> Result<Outcome, NoMemory> {
         match event {
             SpaceEvent::Add(handle, value) => self.add(alloc, handle, value),
             SpaceEvent::Gone(handle) => self.remove(alloc, handle),
@@ -136,13 +128,11 @@ impl System for Gatekeeper {
 
     fn aim<J: Judge, B: Behaves>(
         &self,
-        alloc: Global,
-        judge: &J,
-        _behaves: &B,
+        cx: &Context<J, B>,
         readings: &mut Readings,
         key: &Value,
     ) -> Result<Option<Aim>, NoMemory> {
-        answer_for(alloc, judge, readings, &self.bindings, key)
+        answer_for(cx.alloc, cx.judge, readings, &self.bindings, key)
     }
 
     fn fan(&self, alloc: Global, _message: &Value) -> Result<Fan, NoMemory> {

@@ -8,11 +8,13 @@
 mod actors;
 mod acts;
 mod aims;
+mod context;
 mod dataspaces;
 mod gatekeeper;
 mod held;
 mod others;
 mod outboxes;
+mod parts;
 mod plans;
 mod readings;
 mod residents;

@@ -7,12 +7,13 @@ ghost use Rattle.ac_world.specs.Others.{task_in, rows_in};
 ghost use Rattle.ac_world.specs.Watchers.{task_at};
 
 use crate::aims::{Aim, observation_of};
+use crate::context::Context;
 use crate::dataspaces::Dataspace;
 use crate::readings::Readings;
-use crate::systems::System;
+use crate::systems::{Outcome, System};
 use crate::watched::{Watched, watcher_of};
 use crate::watchers::Watcher;
-use ds_space::{Applied, Fan, Space, SpaceEvent};
+use ds_space::{Fan, Space, SpaceEvent};
 use lc_watch::Behaves;
 use pv_value::{NoMemory, Value};
 use sr_pass::Judge;
@@ -60,25 +61,14 @@ impl<S: Space + Drop> System for Other<Dataspace<S>> {
     ghost first = { λ k g e. e };
 
     fn apply<B: Behaves>(
-        self,
+        &mut self,
         alloc: Global,
         behaves: &B,
         event: SpaceEvent,
-    ) -> Result<Applied<Self>, NoMemory> {
+    ) -> Result<Outcome, NoMemory> {
         match self {
-            Other::Space(space) => match space.apply(alloc, behaves, event)? {
-                Applied::Done(space, changes) => Ok(Applied::Done(Other::Space(space), changes)),
-                Applied::Over(space, weight) => Ok(Applied::Over(Other::Space(space), weight)),
-            },
-            Other::Watcher(watcher) => match watcher.apply(alloc, behaves, event)? {
-                Applied::Done(watcher, changes) => {
-                    Ok(Applied::Done(Other::Watcher(watcher), changes))
-                }
-                Applied::Over(watcher, weight) => Ok(Applied::Over(
-                    Other::Watcher(watcher),
-                    weight,
-                )),
-            },
+            Other::Space(space) => space.apply(alloc, behaves, event),
+            Other::Watcher(watcher) => watcher.apply(alloc, behaves, event),
         }
     }
 
@@ -95,15 +85,13 @@ impl<S: Space + Drop> System for Other<Dataspace<S>> {
 
     fn aim<J: Judge, B: Behaves>(
         &self,
-        alloc: Global,
-        judge: &J,
-        behaves: &B,
+        cx: &Context<J, B>,
         readings: &mut Readings,
         key: &Value,
     ) -> Result<Option<Aim>, NoMemory> {
         match self {
-            Other::Space(space) => space.aim(alloc, judge, behaves, readings, key),
-            Other::Watcher(watcher) => watcher.aim(alloc, judge, behaves, readings, key),
+            Other::Space(space) => space.aim(cx, readings, key),
+            Other::Watcher(watcher) => watcher.aim(cx, readings, key),
         }
     }
 

@@ -8,6 +8,7 @@ use pv_value::NoMemory;
 use std::alloc::Global;
 use std::collections::BTreeMap;
 use std::marker::Model;
+use std::mem::replace;
 
 /// The events for each target.
 #[derive(Drop)]
@@ -42,6 +43,15 @@ impl Outbox {
             alloc,
             lists: BTreeMap::new(alloc),
         }
+    }
+
+    /// Takes all of it out.
+    pub fn take(&mut self) -> Outbox
+        ensures taken { result ≡ self.old }
+        ensures empty { self.new ≡ [] }
+    {
+        let empty = Outbox::new(self.alloc);
+        replace(self, empty)
     }
 
     /// One more event for a target.

@@ -77,7 +77,7 @@ impl Plan {
     }
 
     /// One more facet of a live owner, right below facet 0; answers its number.
-    pub fn found(&mut self, owner: u32) -> Result<u32, NoMemory>
+    pub fn allocate_facet(&mut self, owner: u32) -> Result<u32, NoMemory>
         requires live { is_live owner self.old.table ≡ true }
         requires root { has_facet owner 0 self.old.table ≡ true }
         ensures number { IfOk result (λ n. n ≡ least_free (tree_of owner self.old.table)) }
@@ -94,7 +94,7 @@ impl Plan {
     }
 
     /// Stops a facet right below facet 0, where no row stands in it; answers whether it did.
-    pub fn vacate(&mut self, owner: u32, facet: u32) -> Result<bool, NoMemory>
+    pub fn release_facet(&mut self, owner: u32, facet: u32) -> Result<bool, NoMemory>
         requires live { is_live owner self.old.table ≡ true }
         requires there { has_facet owner facet self.old.table ≡ true }
         requires below { 0 < facet }
@@ -234,12 +234,11 @@ impl Plan {
         Ok(())
     }
 
-    /// All of it is done: the table after it, in which each live target has its batch.
-    pub fn commit(self, from: u32) -> Result<Table, NoMemory>
-        ensures { IfOk result (λ t. t ≡ committed from self) }
+    /// All of it is done: each live target has its batch, and nothing is to be posted any more.
+    pub fn commit(&mut self, from: u32) -> Result<(), NoMemory>
+        ensures { OnOk result (self.new ≡ plan_over (committed from self.old)) }
     {
-        let Plan { mut table, out } = self;
-        out.post(from, &mut table)?;
-        Ok(table)
+        let out = self.out.take();
+        out.post(from, &mut self.table)
     }
 }

@@ -30,20 +30,20 @@ impl<S: Space + Drop, J: Judge + Drop, B: Behaves + Drop> World<S, J, B> {
     pub fn row_weight(&self, actor: u32) -> u64
         ensures { result ≡ top (row_weight actor self.now) }
     {
-        self.table.row_weight(actor)
+        self.parts.plan.table.row_weight(actor)
     }
 
     /// What of an actor's waits for system actors.
     pub fn backlog(&self, actor: u32) -> Load
         ensures { result ≡ top_load (backlog actor self.now) }
     {
-        self.table.load_below(actor, FIRST_CONNECTION)
+        self.parts.plan.table.load_below(actor, FIRST_CONNECTION)
     }
 
     /// What an actor has got, and what waits for it.
     pub fn deliveries(&self, actor: u32) -> Load
         ensures { result ≡ top_load (deliveries actor self.now) }
     {
-        load_got(actor, &self.held).and(self.table.load(actor))
+        load_got(actor, &self.parts.held).and(self.parts.plan.table.load(actor))
     }
 }

@@ -1,21 +1,32 @@
 //! System actors: what they do by what they have got.
-ghost use Rattle.std.specs.Prelude.{◌≡◌, ℕ, List, IfOk, Option, Some, option_copied};
+ghost use Rattle.std.specs.Prelude.{◌≡◌, ℕ, List, IfOk, OnOk, Option, Some, option_copied};
 ghost use Rattle.std.specs.Map.{values_of};
 ghost use Rattle.pv_value.specs.Plain.{Plain};
 ghost use Rattle.ds_space.specs.Spaces.{IsNew, has_row};
 ghost use Rattle.ps_schema.specs.declared.Definition.{Definition};
 ghost use Rattle.ac_world.specs.Aims.{observation_of};
 ghost use Rattle.ac_world.specs.Behaviours.{Behaviour};
-ghost use Rattle.ac_world.specs.Staying.{Lasting, StaysIn};
+ghost use Rattle.ac_world.specs.Outcomes.{outcome_at};
+ghost use Rattle.ac_world.specs.Staying.{Lasting};
 ghost use Rattle.ac_world.specs.Systems.{IsAppliedBy, IsFanBy};
 
 use crate::aims::Aim;
+use crate::context::Context;
 use crate::readings::Readings;
-use ds_space::{Applied, Fan, SpaceEvent};
+use ds_space::{Changes, Fan, SpaceEvent};
 use lc_watch::Behaves;
 use pv_value::{NoMemory, Value};
 use sr_pass::Judge;
 use std::alloc::Global;
+
+/// What became of an event.
+#[derive(Drop)]
+pub enum Outcome {
+    /// It is done, and so what is wanted changed.
+    Done(Changes),
+    /// More would be wanted than may be: so much. The actor is the same as before.
+    Over(u64),
+}
 
 /// What a system actor has got, as rows under handles, and what it does by that.
 pub trait System {
@@ -34,15 +45,16 @@ pub trait System {
 
     /// A row comes or goes. For want of memory the actor is gone.
     fn apply<B: Behaves>(
-        self,
+        &mut self,
         alloc: Global,
         behaves: &B,
         event: SpaceEvent,
-    ) -> Result<Applied<Self>, NoMemory>
-        requires { IsNew (rows self) event }
-        ensures applied { IfOk result (λ applied. (ds : List Definition)
-            → IsAppliedBy rows (behaviour ds) (behaviour ds self) (rows self) event applied) }
-        ensures lasting { IfOk result (StaysIn lasting (lasting self)) };
+    ) -> Result<Outcome, NoMemory>
+        requires { IsNew (rows self.old) event }
+        ensures applied { IfOk result (λ outcome. (ds : List Definition)
+            → IsAppliedBy rows (behaviour ds) (behaviour ds self.old) (rows self.old) event
+            (outcome_at self.new outcome)) }
+        ensures lasting { OnOk result (lasting self.new ≡ lasting self.old) };
 
     /// Whether a row has this handle.
     fn has(&self, handle: u64) -> bool
@@ -55,14 +67,12 @@ pub trait System {
     /// What arrives of what a key wants.
     fn aim<J: Judge, B: Behaves>(
         &self,
-        alloc: Global,
-        judge: &J,
-        behaves: &B,
+        cx: &Context<J, B>,
         readings: &mut Readings,
         key: &Value,
     ) -> Result<Option<Aim>, NoMemory>
         ensures { IfOk result
-            (λ aim. aim ≡ (behaviour (J.schema judge.now) self.now).aim key.now) };
+            (λ aim. aim ≡ (behaviour (J.schema cx.now.judge.now) self.now).aim key.now) };
 
     /// To whom a message goes.
     fn fan(&self, alloc: Global, message: &Value) -> Result<Fan, NoMemory>

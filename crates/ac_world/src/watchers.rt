@@ -5,8 +5,9 @@ ghost use Rattle.ac_world.specs.Aims.{observation_of};
 ghost use Rattle.ac_world.specs.Behaviours.{aim_in, watcher};
 
 use crate::aims::{Aim, observation_of};
+use crate::context::Context;
 use crate::readings::Readings;
-use crate::systems::System;
+use crate::systems::{Outcome, System};
 use ac_watch::Watching;
 use ds_space::{Applied, Fan, Reference, SpaceEvent};
 use lc_watch::Behaves;
@@ -14,6 +15,7 @@ use pv_value::{NoMemory, Text, Value};
 use sr_pass::Judge;
 use std::alloc::Global;
 use std::marker::Model;
+use std::mem::replace;
 
 /// A watcher: what it has got, and the dataspace at which it asserts.
 #[derive(Drop)]
@@ -65,18 +67,23 @@ impl System for Watcher {
     ghost first = { λ k g e. e };
 
     fn apply<B: Behaves>(
-        self,
+        &mut self,
         alloc: Global,
         behaves: &B,
         event: SpaceEvent,
-    ) -> Result<Applied<Self>, NoMemory> {
-        let Watcher { watching, to } = self;
+    ) -> Result<Outcome, NoMemory> {
+        // What it watches goes by value, and for want of memory it is gone.
+        let nothing = Watching::new(alloc, Text::from_str(alloc, "")?);
+        let watching = replace(&mut self.watching, nothing);
         match watching.apply(alloc, behaves, event)? {
-            Applied::Done(watching, changes) => Ok(Applied::Done(
-                Watcher { watching, to },
-                changes,
-            )),
-            Applied::Over(watching, weight) => Ok(Applied::Over(Watcher { watching, to }, weight)),
+            Applied::Done(watching, changes) => {
+                self.watching = watching;
+                Ok(Outcome::Done(changes))
+            }
+            Applied::Over(watching, weight) => {
+                self.watching = watching;
+                Ok(Outcome::Over(weight))
+            }
         }
     }
 
@@ -90,13 +97,11 @@ impl System for Watcher {
 
     fn aim<J: Judge, B: Behaves>(
         &self,
-        alloc: Global,
-        _judge: &J,
-        behaves: &B,
+        cx: &Context<J, B>,
         _readings: &mut Readings,
         key: &Value,
     ) -> Result<Option<Aim>, NoMemory> {
-        let Some(value) = self.watching.value_at(alloc, behaves, key)? else {
+        let Some(value) = self.watching.value_at(cx.alloc, cx.behaves, key)? else {
             return Ok(None);
         };
         let at = Reference {

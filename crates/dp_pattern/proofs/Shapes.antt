@@ -1,15 +1,15 @@
 -- Records of words, by how many fields they have, and groups by their keys.
-use Rattle.std.proofs.Common.{◌≡◌, ◌+◌, ◌<◌, ◌≤◌, ℕ, List, [], ◌∷◌, ◌++◌, length, get_or, Bool, true, false, ◌&&◌}
+use Rattle.std.proofs.Common.{◌≡◌, suc, ◌+◌, ◌<◌, ◌≤◌, ℕ, List, [], ◌∷◌, ◌++◌, length, get_or, Bool, true, false, ◌&&◌}
 use Rattle.std.proofs.Common.{Option, Some, None, option_map, map, drop, refl, sym, ap, ◌∙◌, arith}
 use Rattle.std.proofs.lemmas.List.{at_drop_more}
 use Rattle.pv_value.specs.View.{key_and_value}
 use Rattle.pv_value.specs.declared.Entry.{Entry}
-use Rattle.pv_value.specs.Plain.{Plain, pairs, PlainPairs, no_pairs, then_pair}
-use Rattle.pv_words.specs.Words.{labelled}
-use Rattle.dp_pattern.specs.Patterns.{Group, InRecord, InSequence, InDictionary, Pattern, group, Fields, no_fields}
-use Rattle.dp_pattern.specs.Patterns.{then_field}
+use Rattle.pv_value.specs.Plain.{Plain, plains, pairs, PlainPairs, no_pairs, then_pair}
+use Rattle.pv_words.specs.Words.{labelled, number}
+use Rattle.dp_pattern.specs.Patterns.{Extent, Group, InRecord, InSequence, InDictionary, Pattern, group}
+use Rattle.dp_pattern.specs.Patterns.{Fields, no_fields, then_field}
 use Rattle.dp_pattern.specs.Written.{is_place, are_places, group_of, grouped, with_field, pattern_of, fields_in}
-use Rattle.dp_pattern.specs.Written.{places_in, keys_fit}
+use Rattle.dp_pattern.specs.Written.{places_in, keys_fit, items_from, count_of}
 use Rattle.dp_pattern.specs.View.{listed_fields}
 use Rattle.dp_pattern.specs.declared.Field.{Field}
 
@@ -61,6 +61,20 @@ pub fields_drop : (es : List Entry) (i : ℕ) (e : Entry) → i < length es → 
 fields_drop es i e h is =
     at_drop_more (λ (es : List Entry). fields_in (pairs (map key_and_value es))) es i e h ∙ rw (← is) refl
 
+pub places_drop : (xs : List Plain) (n i : ℕ) (x : Plain) → i < length xs → x ≡ get_or xs i x
+    → items_from n (plains (drop i xs))
+    ≡ with_field (number n) (pattern_of x) (items_from (suc n) (plains (drop (i + 1) xs)))
+places_drop xs n i x h is =
+    at_drop_more (λ (ys : List Plain). items_from n (plains ys)) xs i x h ∙ rw (← is) refl
+
+pub one_longer : {T : Type 0} (xs : List T) (x : T) → length (xs ++ x ∷ []) ≡ suc (length xs)
+one_longer [] x = refl
+one_longer (y ∷ ys) x = ap suc (one_longer ys x)
+
+pub counted : (fs : List Field) → count_of (listed_fields fs) ≡ length fs
+counted [] = refl
+counted (f ∷ fs) = ap suc (counted fs)
+
 -- ---- the keys of fields
 
 places_by : (k : Plain) (o : Option Pattern) (gs : Option Fields) (ps : PlainPairs) (fs : Fields)
@@ -82,11 +96,11 @@ places_of (then_pair k v ps) fs e = places_by k (pattern_of v) (fields_in ps) ps
 fit_by : (g : Group) (fs : Option Fields) (b : Bool) → ((hs : Fields) → fs ≡ Some hs → are_places hs ≡ b) → b ≡ true
     → grouped (Some g) fs ≡ option_map (group g) fs
 fit_by InDictionary None b f e = refl
-fit_by InSequence None b f e = refl
-fit_by (InRecord label) None b f e = refl
+fit_by (InSequence x) None b f e = refl
+fit_by (InRecord label x) None b f e = refl
 fit_by InDictionary (Some hs) b f e = refl
-fit_by InSequence (Some hs) b f e = rw (f hs refl ∙ e)
-fit_by (InRecord label) (Some hs) b f e = rw (f hs refl ∙ e)
+fit_by (InSequence x) (Some hs) b f e = rw (f hs refl ∙ e)
+fit_by (InRecord label x) (Some hs) b f e = rw (f hs refl ∙ e)
 
 any_fit : (fs : Option Fields) → grouped (Some InDictionary) fs ≡ option_map (group InDictionary) fs
 any_fit None = refl
@@ -95,23 +109,23 @@ any_fit (Some hs) = refl
 pub grouped_fit : (g : Group) (ps : PlainPairs) → keys_fit g ps ≡ true
     → grouped (Some g) (fields_in ps) ≡ option_map (group g) (fields_in ps)
 grouped_fit InDictionary ps e = any_fit (fields_in ps)
-grouped_fit InSequence ps e = fit_by InSequence (fields_in ps) (places_in ps) (places_of ps) e
-grouped_fit (InRecord label) ps e = fit_by (InRecord label) (fields_in ps) (places_in ps) (places_of ps) e
+grouped_fit (InSequence x) ps e = fit_by (InSequence x) (fields_in ps) (places_in ps) (places_of ps) e
+grouped_fit (InRecord label x) ps e = fit_by (InRecord label x) (fields_in ps) (places_in ps) (places_of ps) e
 
-sequence_misfits : (fs : Option Fields) (b : Bool) → ((hs : Fields) → fs ≡ Some hs → are_places hs ≡ b) → b ≡ false
-    → None ≡ grouped (Some InSequence) fs
-sequence_misfits None b f e = refl
-sequence_misfits (Some hs) b f e = rw (f hs refl ∙ e)
+sequence_misfits : (x : Extent) (fs : Option Fields) (b : Bool)
+    → ((hs : Fields) → fs ≡ Some hs → are_places hs ≡ b) → b ≡ false → None ≡ grouped (Some (InSequence x)) fs
+sequence_misfits x None b f e = refl
+sequence_misfits x (Some hs) b f e = rw (f hs refl ∙ e)
 
-record_misfits : (l : Plain) (fs : Option Fields) (b : Bool) → ((hs : Fields) → fs ≡ Some hs → are_places hs ≡ b)
-    → b ≡ false → None ≡ grouped (Some (InRecord l)) fs
-record_misfits l None b f e = refl
-record_misfits l (Some hs) b f e = rw (f hs refl ∙ e)
+record_misfits : (l : Plain) (x : Extent) (fs : Option Fields) (b : Bool)
+    → ((hs : Fields) → fs ≡ Some hs → are_places hs ≡ b) → b ≡ false → None ≡ grouped (Some (InRecord l x)) fs
+record_misfits l x None b f e = refl
+record_misfits l x (Some hs) b f e = rw (f hs refl ∙ e)
 
 pub grouped_misfit : (g : Group) (ps : PlainPairs) → keys_fit g ps ≡ false → None ≡ grouped (Some g) (fields_in ps)
 grouped_misfit InDictionary ps e = cc
-grouped_misfit InSequence ps e = sequence_misfits (fields_in ps) (places_in ps) (places_of ps) e
-grouped_misfit (InRecord label) ps e = record_misfits label (fields_in ps) (places_in ps) (places_of ps) e
+grouped_misfit (InSequence x) ps e = sequence_misfits x (fields_in ps) (places_in ps) (places_of ps) e
+grouped_misfit (InRecord label x) ps e = record_misfits label x (fields_in ps) (places_in ps) (places_of ps) e
 
 pub grouped_none : (fs : Option Fields) → grouped None fs ≡ None
 grouped_none fs = refl

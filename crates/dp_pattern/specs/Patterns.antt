@@ -1,5 +1,7 @@
 -- What a dataspace pattern is. Syndicate Protocol, "dataspace patterns".
 use Rattle.pv_value.specs.Plain.{Plain}
+pub use Rattle.dp_pattern.specs.declared.Extent.{Extent}
+pub use Rattle.dp_pattern.specs.declared.Extent.TheVariants.{Open, Exactly}
 pub use Rattle.dp_pattern.specs.declared.Group.{Group}
 pub use Rattle.dp_pattern.specs.declared.Group.TheVariants.{InRecord, InSequence, InDictionary}
 

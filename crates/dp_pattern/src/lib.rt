@@ -35,7 +35,8 @@ pub enum Form {
     Bind(Box<DPat>),
     /// `<lit v>`, which the value matches alone.
     Lit(Value),
-    /// `<group g {key: p ..}>`: a value of this kind whose parts under the keys match.
+    /// `<group g {key: p ..}>`, or in the older spelling `<rec label [p ..]>`, `<arr [p ..]>` or
+    /// `<dict {key: p ..}>`: a value of this kind whose parts under the keys match.
     Group(Group, Vec<Field>),
 }
 
@@ -50,12 +51,21 @@ pub struct Field {
 /// What a group looks into.
 #[derive(Drop)]
 pub enum Group {
-    /// `<rec label>`, a record of this label.
-    InRecord(Value),
-    /// `<arr>`, a sequence.
-    InSequence,
+    /// A record of this label: `<rec label>`, or `<rec label [p ..]>` of exactly so many fields.
+    InRecord(Value, Extent),
+    /// A sequence: `<arr>`, or `<arr [p ..]>` of exactly so many items.
+    InSequence(Extent),
     /// `<dict>`, a dictionary.
     InDictionary,
+}
+
+/// How many fields or items a value is to have.
+#[derive(Clone, Copy)]
+pub enum Extent {
+    /// Any number: those that no key names are passed over.
+    Open,
+    /// Exactly so many.
+    Exactly(usize),
 }
 
 impl Model for DPat {

@@ -1,17 +1,20 @@
 //! The patterns that values write.
-ghost use Rattle.std.specs.Prelude.{◌≡◌, IfOk, map, option_map, IsTrue};
-ghost use Rattle.pv_value.specs.Plain.{pairs};
+ghost use Rattle.std.specs.Prelude.{◌≡◌, IfOk, Some, None, map, option_map, IsTrue};
+ghost use Rattle.std.specs.Prelude.{if◌then◌else◌};
+ghost use Rattle.pv_value.specs.Plain.{pairs, plains};
 ghost use Rattle.pv_value.specs.View.{key_and_value};
 ghost use Rattle.dp_pattern.specs.Written.{pattern_of, no_field, one_field, two_fields, is_literal};
 ghost use Rattle.dp_pattern.specs.Written.{is_place};
 ghost use Rattle.dp_pattern.specs.Written.{group_of, bare_group, labelled_group, grouped};
-ghost use Rattle.dp_pattern.specs.Written.{fields_of, fields_in};
+ghost use Rattle.dp_pattern.specs.Written.{older_field, exact_record, exact_sequence};
+ghost use Rattle.dp_pattern.specs.Written.{fields_of, fields_in, items_of, items_from};
 ghost use Rattle.dp_pattern.specs.Written.{places_in, keys_fit};
+ghost use Rattle.dp_pattern.specs.Patterns.{literal};
 ghost use Rattle.dp_pattern.specs.View.{listed_fields, view_form};
 
-use crate::{DPat, Field, Form, Group};
+use crate::{DPat, Extent, Field, Form, Group};
 use pv_value::{Entry, NoMemory, Node, Text, Value};
-use pv_words::{is_word, worded};
+use pv_words::{is_word, number, worded};
 use std::alloc::Global;
 
 /// The pattern that a value writes, where it is of the grammar.
@@ -47,10 +50,11 @@ fn parse_bare(word: &Text) -> Option<DPat>
     }
 }
 
-/// `<bind p>` or `<lit v>`.
+/// `<bind p>` or `<lit v>`, or what has one field in the older grammar.
 #[cycle(parse)]
 fn parse_one(alloc: Global, word: &Text, x: &Value) -> Result<Option<DPat>, NoMemory>
-    ensures { IfOk result (λ p. p ≡ one_field word.now x.now (pattern_of x.now)) }
+    ensures { IfOk result (λ p. p ≡ one_field word.now x.now (pattern_of x.now)
+        (items_of x.now) (fields_of x.now)) }
 {
     if is_word(word, b"bind") {
         return match parse(alloc, x)? {
@@ -58,13 +62,44 @@ fn parse_one(alloc: Global, word: &Text, x: &Value) -> Result<Option<DPat>, NoMe
             None => Ok(None),
         };
     }
-    if is_word(word, b"lit") && is_literal(x) {
-        return Ok(Some(form(Form::Lit(x.copy()?))));
+    if is_word(word, b"lit") {
+        return parse_literal(x);
+    }
+    parse_older(alloc, word, x)
+}
+
+/// `<lit v>`.
+fn parse_literal(x: &Value) -> Result<Option<DPat>, NoMemory>
+    ensures { IfOk result (λ p. p ≡ (if is_literal x.now then Some (literal x.now) else None)) }
+{
+    if is_literal(x) {
+        Ok(Some(form(Form::Lit(x.copy()?))))
+    } else {
+        Ok(None)
+    }
+}
+
+/// `<arr [p ..]>` or `<dict {key: p ..}>`.
+#[cycle(parse)]
+fn parse_older(alloc: Global, word: &Text, x: &Value) -> Result<Option<DPat>, NoMemory>
+    ensures { IfOk result (λ p. p ≡ older_field word.now (items_of x.now) (fields_of x.now)) }
+{
+    if is_word(word, b"arr") {
+        return match parse_items(alloc, x)? {
+            Some(fields) => Ok(Some(exact_sequence(fields))),
+            None => Ok(None),
+        };
+    }
+    if is_word(word, b"dict") {
+        return match parse_fields(alloc, x)? {
+            Some(fields) => Ok(Some(form(Form::Group(Group::InDictionary, fields)))),
+            None => Ok(None),
+        };
     }
     Ok(None)
 }
 
-/// `<group g {key: p ..}>`.
+/// `<group g {key: p ..}>` or `<rec label [p ..]>`.
 #[cycle(parse)]
 fn parse_two(
     alloc: Global,
@@ -73,12 +108,34 @@ fn parse_two(
     fields: &Value,
 ) -> Result<Option<DPat>, NoMemory>
     ensures { IfOk result (λ p. p
-        ≡ two_fields word.now (group_of group.now) (fields_of fields.now)) }
+        ≡ two_fields word.now group.now (items_of fields.now) (fields_of fields.now)) }
 {
-    if !is_word(word, b"group") {
-        return Ok(None);
+    if is_word(word, b"group") {
+        return parse_group(alloc, group, fields);
     }
-    parse_group(alloc, group, fields)
+    if is_word(word, b"rec") {
+        return match parse_items(alloc, fields)? {
+            Some(fields) => Ok(Some(exact_record(group, fields)?)),
+            None => Ok(None),
+        };
+    }
+    Ok(None)
+}
+
+/// `<rec label [p ..]>`, by its label and what its items write.
+fn exact_record(label: &Value, fields: Vec<Field>) -> Result<DPat, NoMemory>
+    ensures { IfOk result (λ p. p ≡ exact_record label.now (listed_fields fields.items)) }
+{
+    let extent = Extent::Exactly(fields.as_slice().len());
+    Ok(form(Form::Group(Group::InRecord(label.copy()?, extent), fields)))
+}
+
+/// `<arr [p ..]>`, by what its items write.
+fn exact_sequence(fields: Vec<Field>) -> DPat
+    ensures { result ≡ exact_sequence (listed_fields fields.items) }
+{
+    let extent = Extent::Exactly(fields.as_slice().len());
+    form(Form::Group(Group::InSequence(extent), fields))
 }
 
 #[cycle(parse)]
@@ -94,15 +151,26 @@ fn parse_group(alloc: Global, group: &Value, fields: &Value) -> Result<Option<DP
     if !keys_fit(&group, entries.as_slice()) {
         return Ok(None);
     }
-    match parse_fields(alloc, entries.as_slice())? {
+    match parse_entries(alloc, entries.as_slice())? {
         Some(fields) => Ok(Some(form(Form::Group(group, fields)))),
         None => Ok(None),
     }
 }
 
+/// The patterns of the values of a dictionary, under their keys.
+#[cycle(parse)]
+fn parse_fields(alloc: Global, value: &Value) -> Result<Option<Vec<Field>>, NoMemory>
+    ensures { IfOk result (λ fs. option_map (λ v. listed_fields v.items) fs ≡ fields_of value.now) }
+{
+    match &value.node {
+        Node::Dict(entries) => parse_entries(alloc, entries.as_slice()),
+        _ => Ok(None),
+    }
+}
+
 /// The patterns of the entries' values, under their keys.
 #[cycle(parse)]
-fn parse_fields(alloc: Global, entries: &[Entry]) -> Result<Option<Vec<Field>>, NoMemory>
+fn parse_entries(alloc: Global, entries: &[Entry]) -> Result<Option<Vec<Field>>, NoMemory>
     ensures { IfOk result (λ fs. option_map (λ v. listed_fields v.items) fs
         ≡ fields_in (pairs (map key_and_value entries.now))) }
 {
@@ -112,6 +180,34 @@ fn parse_fields(alloc: Global, entries: &[Entry]) -> Result<Option<Vec<Field>>, 
             return Ok(None);
         };
         let key = e.key.copy()?;
+        fields.push(Field { key, pattern })?;
+    }
+    Ok(Some(fields))
+}
+
+/// The patterns of the items of a sequence, under their places.
+#[cycle(parse)]
+fn parse_items(alloc: Global, value: &Value) -> Result<Option<Vec<Field>>, NoMemory>
+    ensures { IfOk result (λ fs. option_map (λ v. listed_fields v.items) fs ≡ items_of value.now) }
+{
+    match &value.node {
+        Node::Seq(items) => parse_places(alloc, items.as_slice()),
+        _ => Ok(None),
+    }
+}
+
+/// The patterns of values, under their places from 0 on.
+#[cycle(parse)]
+fn parse_places(alloc: Global, values: &[Value]) -> Result<Option<Vec<Field>>, NoMemory>
+    ensures { IfOk result (λ fs. option_map (λ v. listed_fields v.items) fs
+        ≡ items_from 0 (plains values.now)) }
+{
+    let mut fields = Vec::new(alloc);
+    for x in values {
+        let Some(pattern) = parse(alloc, x)? else {
+            return Ok(None);
+        };
+        let key = number(fields.as_slice().len() as u64);
         fields.push(Field { key, pattern })?;
     }
     Ok(Some(fields))
@@ -177,7 +273,7 @@ fn bare_group(word: &Text) -> Option<Group>
     ensures { result ≡ bare_group word.now }
 {
     if is_word(word, b"arr") {
-        return Some(Group::InSequence);
+        return Some(Group::InSequence(Extent::Open));
     }
     if is_word(word, b"dict") {
         return Some(Group::InDictionary);
@@ -190,7 +286,7 @@ fn labelled_group(word: &Text, label: &Value) -> Result<Option<Group>, NoMemory>
     ensures { IfOk result (λ g. g ≡ labelled_group word.now label.now) }
 {
     if is_word(word, b"rec") {
-        Ok(Some(Group::InRecord(label.copy()?)))
+        Ok(Some(Group::InRecord(label.copy()?, Extent::Open)))
     } else {
         Ok(None)
     }

@@ -1,10 +1,12 @@
 -- Outlines as values, by which they are told apart.
-use Rattle.std.specs.Prelude.{List, [], ◌∷◌, map, codes}
+use Rattle.std.specs.Prelude.{false, List, [], ◌∷◌, map, codes}
 use Rattle.std.specs.declared.cmp.Ordering.{Ordering}
 use Rattle.std.specs.Ordering.{on}
-use Rattle.pv_value.specs.Plain.{Plain, sequence, plains}
+use Rattle.pv_value.specs.Plain.{Plain, boolean, sequence, plains}
 use Rattle.pv_value.specs.Order.{order}
-use Rattle.pv_words.specs.Words.{labelled}
+use Rattle.pv_words.specs.Words.{labelled, number}
+use Rattle.dp_pattern.specs.declared.Extent.{Extent}
+use Rattle.dp_pattern.specs.declared.Extent.TheVariants.{Open, Exactly}
 use Rattle.ds_shape.specs.Paths.{Step, Field, Item, Under}
 use Rattle.ds_shape.specs.Outlines.{Kind, Any, Record, Sequence, Dictionary, Test, Outline}
 
@@ -22,11 +24,16 @@ step_value (Under key) = labelled (codes "under") (key ∷ [])
 abbrev pub path_value : List Step → Plain
 path_value path = list_value (map step_value path)
 
--- `<any>`, `<rec label>`, `<arr>`, `<dict>`
+-- how many, or `#f` where there may be any number
+abbrev pub extent_value : Extent → Plain
+extent_value Open = boolean false
+extent_value (Exactly n) = number n
+
+-- `<any>`, `<rec label extent>`, `<arr extent>`, `<dict>`
 abbrev pub kind_value : Kind → Plain
 kind_value Any = labelled (codes "any") []
-kind_value (Record label) = labelled (codes "rec") (label ∷ [])
-kind_value Sequence = labelled (codes "arr") []
+kind_value (Record label e) = labelled (codes "rec") (label ∷ extent_value e ∷ [])
+kind_value (Sequence e) = labelled (codes "arr") (extent_value e ∷ [])
 kind_value Dictionary = labelled (codes "dict") []
 
 -- `[path kind]`

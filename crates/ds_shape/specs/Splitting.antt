@@ -11,14 +11,14 @@ pub use Rattle.ds_shape.specs.declared.splitting.Constant.{Constant}
 
 -- what a group asks of the value
 abbrev pub kind_of : Group → Kind
-kind_of (InRecord label) = Record label
-kind_of InSequence = Sequence
+kind_of (InRecord label e) = Record label e
+kind_of (InSequence e) = Sequence e
 kind_of InDictionary = Dictionary
 
 -- the step to the part that a key of the group names
 abbrev pub step_of : Group → Plain → Step
-step_of (InRecord label) key = Field key
-step_of InSequence key = Item key
+step_of (InRecord label e) key = Field key
+step_of (InSequence e) key = Item key
 step_of InDictionary key = Under key
 
 -- the same, seen from a value in which this path leads to the whole

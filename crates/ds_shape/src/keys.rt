@@ -2,12 +2,13 @@
 ghost use Rattle.std.specs.Prelude.{◌≡◌, ◌∷◌, [], map, IfOk};
 ghost use Rattle.pv_words.specs.Words.{labelled};
 ghost use Rattle.ds_shape.specs.Keys.{list_value, step_value, path_value, kind_value, test_value};
-ghost use Rattle.ds_shape.specs.Keys.{outline_value};
+ghost use Rattle.ds_shape.specs.Keys.{extent_value, outline_value};
 
 use crate::outlines::{Kind, Outline, Test};
 use crate::paths::{Path, Step};
+use dp_pattern::Extent;
 use pv_value::{Items, NoMemory, Value};
-use pv_words::labelled;
+use pv_words::{labelled, number};
 use std::alloc::Global;
 
 impl Outline {
@@ -78,15 +79,30 @@ fn step_value(alloc: Global, step: &Step) -> Result<Value, NoMemory>
     }
 }
 
-/// `<any>`, `<rec label>`, `<arr>` or `<dict>`.
+/// `<any>`, `<rec label extent>`, `<arr extent>` or `<dict>`.
 fn kind_value(alloc: Global, kind: &Kind) -> Result<Value, NoMemory>
     ensures { IfOk result (λ v. v ≡ kind_value kind.now) }
 {
     match kind {
         Kind::Any => labelled(alloc, "any", Vec::new(alloc)),
-        Kind::Record(label) => word_with(alloc, "rec", label),
-        Kind::Sequence => labelled(alloc, "arr", Vec::new(alloc)),
+        Kind::Record(label, extent) => {
+            let mut fields = Vec::new(alloc);
+            fields.push(label.copy()?)?;
+            fields.push(extent_value(*extent))?;
+            labelled(alloc, "rec", fields)
+        }
+        Kind::Sequence(extent) => word_with(alloc, "arr", &extent_value(*extent)),
         Kind::Dictionary => labelled(alloc, "dict", Vec::new(alloc)),
+    }
+}
+
+/// The number of fields or items, or false where there may be any.
+fn extent_value(extent: Extent) -> Value
+    ensures { result ≡ extent_value extent }
+{
+    match extent {
+        Extent::Open => Value::boolean(false),
+        Extent::Exactly(count) => number(count as u64),
     }
 }
 

@@ -3,11 +3,14 @@ ghost use Rattle.std.specs.Prelude.{◌≡◌, map};
 ghost use Rattle.std.specs.Ordering.{nat_cmp};
 ghost use Rattle.pv_value.specs.Order.{order, orders};
 ghost use Rattle.pv_value.specs.Plain.{plains};
-ghost use Rattle.ds_shape.specs.Keys.{step_value, path_value, kind_value, test_value};
+ghost use Rattle.ds_shape.specs.Keys.{step_value, path_value, extent_value, kind_value, test_value};
+ghost use Rattle.ds_shape.specs.Outlines.{Record};
 ghost use Rattle.ds_shape.specs.Keys.{outline_order};
 
 use crate::outlines::{Kind, Outline, Test};
 use crate::paths::{Path, Step};
+use dp_pattern::Extent;
+use pv_value::Value;
 use std::cmp::Ordering;
 
 fn compare_outlines(a: &Outline, b: &Outline) -> Ordering
@@ -96,12 +99,35 @@ fn compare_kinds(a: &Kind, b: &Kind) -> Ordering
 {
     match (a, b) {
         (Kind::Any, Kind::Any) => Ordering::Equal,
-        (Kind::Sequence, Kind::Sequence) => Ordering::Equal,
+        (Kind::Sequence(d), Kind::Sequence(e)) => compare_extents(*d, *e),
         (Kind::Dictionary, Kind::Dictionary) => Ordering::Equal,
-        (Kind::Record(x), Kind::Record(y)) => x.cmp(y),
-        (Kind::Any, _) | (_, Kind::Record(_)) | (Kind::Sequence, Kind::Dictionary) =>
+        (Kind::Record(x, d), Kind::Record(y, e)) => compare_records(x, *d, y, *e),
+        (Kind::Any, _) | (_, Kind::Record(_, _)) | (Kind::Sequence(_), Kind::Dictionary) =>
             Ordering::Less,
         _ => Ordering::Greater,
+    }
+}
+
+/// By label, then by extent.
+fn compare_records(x: &Value, d: Extent, y: &Value, e: Extent) -> Ordering
+    ensures { result ≡ order (kind_value (Record x.now d)) (kind_value (Record y.now e)) }
+{
+    let by_label = x.cmp(y);
+    if by_label.is_ne() {
+        return by_label;
+    }
+    compare_extents(d, e)
+}
+
+/// Any number first, then by number.
+fn compare_extents(d: Extent, e: Extent) -> Ordering
+    ensures { result ≡ order (extent_value d) (extent_value e) }
+{
+    match (d, e) {
+        (Extent::Open, Extent::Open) => Ordering::Equal,
+        (Extent::Open, Extent::Exactly(_)) => Ordering::Less,
+        (Extent::Exactly(_), Extent::Open) => Ordering::Greater,
+        (Extent::Exactly(n), Extent::Exactly(m)) => n.cmp(&m),
     }
 }
 

@@ -1,5 +1,6 @@
 //! Outlines and shapes: what splitting makes of a pattern.
 use crate::paths::Path;
+use dp_pattern::Extent;
 use pv_value::Value;
 use std::marker::Model;
 
@@ -8,10 +9,10 @@ use std::marker::Model;
 pub enum Kind {
     /// Nothing but that it is there.
     Any,
-    /// That it is a record of this label.
-    Record(Value),
-    /// That it is a sequence.
-    Sequence,
+    /// That it is a record of this label, and of so many fields.
+    Record(Value, Extent),
+    /// That it is a sequence of so many items.
+    Sequence(Extent),
     /// That it is a dictionary.
     Dictionary,
 }

@@ -124,8 +124,8 @@ fn kind_of(group: &Group) -> Result<Kind, NoMemory>
     ensures { IfOk result (λ k. k ≡ kind_of group.now) }
 {
     match group {
-        Group::InRecord(label) => Ok(Kind::Record(label.copy()?)),
-        Group::InSequence => Ok(Kind::Sequence),
+        Group::InRecord(label, extent) => Ok(Kind::Record(label.copy()?, *extent)),
+        Group::InSequence(extent) => Ok(Kind::Sequence(*extent)),
         Group::InDictionary => Ok(Kind::Dictionary),
     }
 }
@@ -136,8 +136,8 @@ fn step_of(group: &Group, key: &Value) -> Result<Step, NoMemory>
 {
     let key = key.copy()?;
     match group {
-        Group::InRecord(_) => Ok(Step::Field(key)),
-        Group::InSequence => Ok(Step::Item(key)),
+        Group::InRecord(_, _) => Ok(Step::Field(key)),
+        Group::InSequence(_) => Ok(Step::Item(key)),
         Group::InDictionary => Ok(Step::Under(key)),
     }
 }

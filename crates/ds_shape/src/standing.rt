@@ -59,8 +59,10 @@ fn is_kind(kind: &Kind, value: &Value) -> bool
 {
     match (kind, &value.node) {
         (Kind::Any, _) => true,
-        (Kind::Record(label), Node::Rec(rec)) => rec.label == *label,
-        (Kind::Sequence, Node::Seq(_)) => true,
+        (Kind::Record(label, extent), Node::Rec(rec)) => {
+            rec.label == *label && extent.is_met_by(rec.fields.as_slice().len())
+        }
+        (Kind::Sequence(extent), Node::Seq(items)) => extent.is_met_by(items.len()),
         (Kind::Dictionary, Node::Dict(_)) => true,
         _ => false,
     }

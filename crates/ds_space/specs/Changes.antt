@@ -18,6 +18,10 @@ among k ks = list_any (same k) ks
 abbrev pub without : List Plain → List Plain → List Plain
 without ks ls = filter (λ k. not (among k ls)) ks
 
+-- of ascending keys those that go, and then those that are new
+abbrev pub changes : List Plain → List Plain → List Change
+changes before after = map Left (without before after) ++ map Came (without after before)
+
 -- k is wanted over the first values and not over the second
 abbrev pub only_over : List Plain → List Plain → Plain → Bool
 only_over vs ws k = wanted vs k && not (wanted ws k)

@@ -6,7 +6,7 @@ use Rattle.std.specs.BTreeMap.{insert_entry, is_at}
 use Rattle.pv_value.specs.Plain.{Plain}
 use Rattle.ds_space.specs.Limits.{most_wanted_weight}
 use Rattle.ds_space.specs.Wants.{wanted_weight}
-use Rattle.ds_space.specs.Changes.{AreChanges}
+use Rattle.ds_space.specs.Changes.{Change, AreChanges}
 use Rattle.ds_space.specs.Fans.{fan_of, fan_weight}
 use Rattle.ds_space.specs.declared.space.SpaceEvent.{SpaceEvent}
 use Rattle.ds_space.specs.declared.space.SpaceEvent.TheVariants.{Add, Gone}
@@ -31,21 +31,30 @@ abbrev pub changed : Rows → SpaceEvent → Rows
 changed rows (Add n v) = insert_entry nat_cmp rows n v
 changed rows (Gone n) = remove_entry (is_at (nat_cmp n)) rows
 
--- an event after which these are the values is done: what would be wanted weighs no more than 33,554,432
-abbrev pub Fits : List Plain → SpaceEvent → Type 0
-Fits vs (Add n v) = wanted_weight vs ≤ most_wanted_weight
-Fits vs (Gone n) = Unit {0}
+-- an event after which these are the values is done: what would be wanted over them, weighed so, is no more than
+-- 33,554,432
+abbrev pub Fits : (List Plain → ℕ) → List Plain → SpaceEvent → Type 0
+Fits weighed vs (Add n v) = weighed vs ≤ most_wanted_weight
+Fits weighed vs (Gone n) = Unit {0}
 
 -- or it isn't, and w is the weight
-abbrev pub IsOver : List Plain → SpaceEvent → ℕ → Type 0
-IsOver vs (Add n v) w = (most_wanted_weight < w) × (w ≡ wanted_weight vs)
-IsOver vs (Gone n) w = ⊥
+abbrev pub IsOver : (List Plain → ℕ) → List Plain → SpaceEvent → ℕ → Type 0
+IsOver weighed vs (Add n v) w = (most_wanted_weight < w) × (w ≡ weighed vs)
+IsOver weighed vs (Gone n) w = ⊥
 
+-- what becomes of an event at whoever keeps rows, wants keys by their values, and stays what it is: the rows are those
+-- after the event, and the changes those in what is wanted; or nothing has changed
+abbrev pub IsAppliedWith : {S : Type 0} → (S → Rows) → (S → Type 0) → (List Plain → List Plain → List Change → Type 0)
+    → (List Plain → ℕ) → Rows → SpaceEvent → Applied S → Type 0
+IsAppliedWith rows_of Stays Changes weighed old e (Done s cs) =
+    (rows_of s ≡ changed old e) × Stays s × Changes (values_of old) (values_of (changed old e)) cs.items
+    × Fits weighed (values_of (changed old e)) e
+IsAppliedWith rows_of Stays Changes weighed old e (Over s w) =
+    (rows_of s ≡ old) × Stays s × IsOver weighed (values_of (changed old e)) e w
+
+-- at a space
 abbrev pub IsApplied : {S : Type 0} → (S → Rows) → Rows → SpaceEvent → Applied S → Type 0
-IsApplied rows_of old e (Done s cs) =
-    (rows_of s ≡ changed old e) × AreChanges (values_of old) (values_of (changed old e)) cs.items
-    × Fits (values_of (changed old e)) e
-IsApplied rows_of old e (Over s w) = (rows_of s ≡ old) × IsOver (values_of (changed old e)) e w
+IsApplied rows_of old e applied = IsAppliedWith rows_of (λ s. Unit {0}) AreChanges wanted_weight old e applied
 
 -- to whom a message goes over these values, or that it would weigh more than 33,554,432
 abbrev pub IsFan : List Plain → Plain → Fan → Type 0

@@ -122,7 +122,8 @@ back_told b [] out all = all
 back_told b (r ∷ rs) out all =
     back_told b rs (told r.target (Retract r.handle r.entity) out)
     (subst (AllByRecursion IsRetraction) (sym (told_to-told b r.target (Retract r.handle r.entity) out))
-    (all_append IsRetraction (told_to b out) (event_for b r.target (Retract r.handle r.entity)) all (one (r.target == b))))
+    (all_append IsRetraction (told_to b out) (event_for b r.target (Retract r.handle r.entity)) all
+    (one (r.target == b))))
   where
     one : (c : Bool) → AllByRecursion IsRetraction (cond c (Retract r.handle r.entity ∷ []) [])
     one true = (tt, tt)

@@ -18,7 +18,7 @@ use Rattle.ac_world.specs.declared.aims.Aim.{Aim}
 use Rattle.ac_world.specs.Aims.{aim_at, aim_for}
 use Rattle.ac_world.specs.Behaviours.{Behaviour, fanned_weight}
 use Rattle.ac_world.specs.Outboxes.{Outbox, Plan, told, drop_row, drop_own}
-use Rattle.ac_world.specs.Systems.{changes}
+use Rattle.ds_space.specs.Changes.{changes}
 use Rattle.ac_world.specs.Turns.{Turning, handle_for, drop_met, left, came_at, changed_by, all_changed, with_rows, regot}
 use Rattle.ac_world.specs.Turns.{spreading, by_assertion, by_message, taken_in, say_at, say_all, passed_on}
 use Rattle.ac_world.specs.Turns.{turned_by, all_turned}
@@ -96,4 +96,5 @@ module _ (P : Outbox → Type 0) (more : (target : ℕ) (e : Event) (out : Outbo
   pub all_turned_has : (y : Behaviour) (a from : ℕ) (es : List Event) (t : Turning) → Has t
       → Has (all_turned y a from es t)
   all_turned_has y a from [] t has = has
-  all_turned_has y a from (e ∷ es) t has = all_turned_has y a from es (turned_by y a from e t) (turned_has y a from e t has)
+  all_turned_has y a from (e ∷ es) t has =
+      all_turned_has y a from es (turned_by y a from e t) (turned_has y a from e t has)

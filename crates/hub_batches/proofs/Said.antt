@@ -49,7 +49,8 @@ space_says ds a b space from m t =
 
     by : (c : Bool) → nat_lt most_wanted_weight (fan_weight vs m) ≡ c
         → told_to b (passes_on (dataspace ds) from m t).plan.out
-        ≡ told_to b t.plan.out ++ cond (true && not (nat_lt most_wanted_weight (fan_weight vs m))) (messages_over ds b vs m) []
+        ≡ told_to b t.plan.out
+        ++ cond (true && not (nat_lt most_wanted_weight (fan_weight vs m))) (messages_over ds b vs m) []
     by true heavy =
         ap (λ c. told_to b (cond c (spreading (by_message t.plan.table from (fan_weight vs m)) t)
         (record t { plan = say_all ds (fan_of vs m) t.plan })).plan.out) heavy

@@ -4,7 +4,7 @@ use Rattle.std.proofs.Common.{sym, ◌∙◌, subst, append-nil}
 use Rattle.std.specs.List.{AllByRecursion}
 use Rattle.std.specs.Map.{values_of}
 use Rattle.pv_value.specs.Plain.{Plain}
-use Rattle.ds_space.specs.Changes.{without}
+use Rattle.ds_space.specs.Changes.{without, changes}
 use Rattle.ds_space.specs.Spaces.{Rows, changed}
 use Rattle.ds_space.specs.declared.space.Change.TheVariants.{Left, Came}
 use Rattle.ds_space.specs.declared.space.SpaceEvent.TheVariants.{Gone}
@@ -14,7 +14,6 @@ use Rattle.ac_table.specs.declared.batches.Event.TheVariants.{Assert, Retract, M
 use Rattle.ac_table.specs.Tables.{find_row}
 use Rattle.ac_world.specs.Behaviours.{Behaviour}
 use Rattle.ac_world.specs.Outboxes.{Plan, drop_row, drop_own}
-use Rattle.ac_world.specs.Systems.{changes}
 use Rattle.ac_world.specs.Turns.{Turning, handle_for, drop_met, left, all_changed, with_rows, regot}
 use Rattle.ac_world.specs.Turns.{turned_by, all_turned}
 use Rattle.hub_valid.specs.Lemmas.WorldPlans.{AreTold, told_pass}

@@ -1,4 +1,5 @@
--- The rows of all actors stand in their facets as the world begins, as an actor comes, and as a connection does something.
+-- The rows of all actors stand in their facets as the world begins, as an actor comes, and as a connection does
+-- something.
 use Rattle.std.proofs.Common.{◌≡◌, ◌≢◌, ℕ, zero, suc, ◌+◌, ◌<◌, ◌≤◌, ◌==◌, ◌||◌, List, [], ◌∷◌, Bool, true, false}
 use Rattle.std.proofs.Common.{cond, not, Option, Some, None, is_some, unwrap_or, inl, inr, refl, ap, sym, ◌∙◌, subst}
 use Rattle.std.proofs.Common.{arith}
@@ -147,7 +148,8 @@ acted_roots a (act.Assert target entity v) p all = all_append IsRootRow p.table.
 acted_roots a (act.Retract h) p all = by (find_row h p.table.rows)
   where
     owned : (r : Row) (b : Bool) → AllByRecursion IsRootRow (cond b (drop_row r p) p).table.rows
-    owned r true = all_filter IsRootRow IsRootRow (λ q. not (q.handle == r.handle)) (λ q passed root. root) p.table.rows all
+    owned r true =
+        all_filter IsRootRow IsRootRow (λ q. not (q.handle == r.handle)) (λ q passed root. root) p.table.rows all
     owned r false = all
 
     by : (o : Option Row) → AllByRecursion IsRootRow (drop_own a o p).table.rows

@@ -413,7 +413,8 @@ module _ (group : Plain → Option Plain) (a : ℕ) (handles : List (Plain × �
       abbrev more_facets : Facets
       more_facets = insert_entry order facets x number
 
-      found_more : (y : Plain) → facet_for (Some y) more_facets ≡ cond (same x y) (Some number) (facet_for (Some y) facets)
+      found_more : (y : Plain) → facet_for (Some y) more_facets
+          ≡ cond (same x y) (Some number) (facet_for (Some y) facets)
       found_more y = lookup-insert_entry order_total order_same y x number facets
 
       also_home : (g : Option Plain) (f : ℕ) → facet_for g facets ≡ Some f → facet_for g more_facets ≡ Some f
@@ -441,7 +442,8 @@ module _ (group : Plain → Option Plain) (a : ℕ) (handles : List (Plain × �
       tree_more : insert_entry nat_cmp (tree_of a t) number 0 ≡ tree_of a (faceted a 0 number t)
       tree_more = sym (tree_faceted a 0 number t (tree_of_facet a 0 t d.built.rooted.root))
 
-      founded_in : AreHousedIn (Some x) (record { facet = number; facets = more_facets; trees = (faceted a 0 number t).trees })
+      founded_in : AreHousedIn (Some x)
+          (record { facet = number; facets = more_facets; trees = (faceted a 0 number t).trees })
       founded_in =
           let is_new = least_is_new (tree_of a t) d.built.ascends in
           record {

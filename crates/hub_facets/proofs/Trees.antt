@@ -146,7 +146,8 @@ system_alone a b w lives live k =
           (begin_turn a (without_first a w)))) k.ascend;
       dead = λ c is. elim (one_or_not c a) [
         | inl same ↦
-            absurd (let clash : true ≡ false = sym lives ∙ ap (λ i. is_live i w.table) (sym same) ∙ sym (live c) ∙ is in cc)
+            absurd (let clash : true ≡ false =
+            sym lives ∙ ap (λ i. is_live i w.table) (sym same) ∙ sym (live c) ∙ is in cc)
         | inr apart ↦
             ap (value_at c) trees
             ∙ all_turned_spared (λ t. value_at c t.trees) a (other_spared a c (grind (arith, nat_tests, apart))) y b.from
@@ -164,7 +165,8 @@ turn_alone a w k = by (is_live a w.table) (first_batch a w.table) refl (lasts_tu
     kind : (b : Batch) (c : Bool) → is_live a w.table ≡ true
         → ((d : ℕ) → is_live d (cond c (system_turn a b (without_first a w))
         (connection_turn a b (without_first a w))).world.table ≡ is_live d w.table)
-        → AreLiveAlone (cond c (system_turn a b (without_first a w)) (connection_turn a b (without_first a w))).world.table
+        → AreLiveAlone
+        (cond c (system_turn a b (without_first a w)) (connection_turn a b (without_first a w))).world.table
     kind b true lives live = system_alone a b w lives live k
     kind b false lives live = same_trees w.table (popped a w.table) refl live k
 

@@ -24,7 +24,7 @@ use Rattle.ac_world.specs.Aims.{aim_at, aim_for}
 use Rattle.ac_world.specs.Behaviours.{Behaviour, behaviour_of, fanned_weight}
 use Rattle.ac_world.specs.Housing.{housed}
 use Rattle.ac_world.specs.Outboxes.{Outbox, Plan, plan_over, drop_row, drop_own, acted, all_acted, posted, retractions}
-use Rattle.ac_world.specs.Systems.{changes}
+use Rattle.ds_space.specs.Changes.{changes}
 use Rattle.ac_world.specs.Turns.{After, Turning, handle_for, drop_met, came_at, changed_by, all_changed, with_rows, regot}
 use Rattle.ac_world.specs.Turns.{say_at, say_all, turned_by, all_turned, begin_turn, system_turn, connection_turn}
 use Rattle.ac_world.specs.Turns.{turn_with, turn_first, turn}

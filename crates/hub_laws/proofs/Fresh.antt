@@ -16,7 +16,7 @@ use Rattle.ac_world.specs.Outboxes.{Outbox, Plan, drop_own, drop_row, told, told
 use Rattle.ac_world.specs.declared.aims.Aim.{Aim}
 use Rattle.ac_world.specs.Behaviours.{Behaviour}
 use Rattle.ac_world.specs.Lemmas.Entries.{KeysAscend, all_append}
-use Rattle.ac_world.specs.Systems.{changes}
+use Rattle.ds_space.specs.Changes.{changes}
 use Rattle.ac_world.specs.Turns.{Turning, handle_for, drop_met, came_at, changed_by, all_changed, with_rows, regot}
 use Rattle.ac_world.specs.Turns.{turned_by, all_turned}
 use Rattle.hub_laws.specs.Standing.{events_of}

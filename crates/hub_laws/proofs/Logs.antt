@@ -23,7 +23,7 @@ use Rattle.ac_table.specs.Lemmas.Lists.{cmp_above}
 use Rattle.ps_schema.specs.declared.Definition.{Definition}
 use Rattle.ac_world.specs.declared.aims.Aim.{Aim}
 use Rattle.ac_world.specs.Behaviours.{Behaviour, fanned_weight}
-use Rattle.ac_world.specs.Systems.{changes}
+use Rattle.ds_space.specs.Changes.{changes}
 use Rattle.ac_world.specs.Turns.{Turning, came_at, changed_by, all_changed, with_rows, regot}
 use Rattle.ac_world.specs.Turns.{taken_in, passed_on, turned_by, all_turned}
 use Rattle.ac_world.specs.Worlds.{Deliveries, with_entry, without_entry, delivered, all_delivered}

@@ -19,7 +19,7 @@ use Rattle.pv_words.specs.Parts.{same}
 use Rattle.ds_space.specs.Spaces.{Rows}
 use Rattle.ds_space.specs.declared.space.Change.{Change}
 use Rattle.ds_space.specs.declared.space.Change.TheVariants.{Left, Came}
-use Rattle.ds_space.specs.Changes.{among, without}
+use Rattle.ds_space.specs.Changes.{among, without, changes}
 use Rattle.ds_space.specs.Lemmas.Keys.{same_turns}
 use Rattle.ds_space.specs.Lemmas.Lists.{unique}
 use Rattle.ac_table.specs.declared.batches.Row.{Row}
@@ -41,7 +41,6 @@ use Rattle.hub_laws.proofs.Owned.{HasRows, rows_of_met, met_of_rows, rows_same, 
 use Rattle.ac_watch.specs.Lemmas.Alone.{without_ascends, among_without}
 use Rattle.ac_world.specs.Behaviours.{Behaviour}
 use Rattle.ac_world.specs.declared.watched.Watched.{Watched}
-use Rattle.ac_world.specs.Systems.{changes}
 use Rattle.hub_laws.proofs.Wanted.{came_aimed}
 use Rattle.hub_laws.proofs.Passing.{among_passing, passing_ascends}
 

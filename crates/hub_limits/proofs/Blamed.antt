@@ -17,7 +17,7 @@ use Rattle.ac_world.specs.declared.spreads.Spread.{Spread}
 use Rattle.ac_world.specs.declared.turns.Turned.TheVariants as turned
 use Rattle.ac_world.specs.declared.aims.Aim.{Aim}
 use Rattle.ac_world.specs.Behaviours.{Behaviour, behaviour_of, fanned_weight}
-use Rattle.ac_world.specs.Systems.{changes}
+use Rattle.ds_space.specs.Changes.{changes}
 use Rattle.ac_world.specs.Turns.{After, Turning, is_listed, spread_by, may_end, culprit, by_assertion, by_message}
 use Rattle.ac_world.specs.Turns.{came_at, changed_by, all_changed, with_rows, regot, spreading, say_all, turned_by}
 use Rattle.ac_world.specs.Turns.{all_turned, begin_turn, system_turn, connection_turn, turn_first, turn}

@@ -5,6 +5,7 @@ use Rattle.pv_value.specs.Plain.{Plain, symbol, embedded}
 use Rattle.pv_words.specs.Words.{labelled, number}
 use Rattle.pv_words.specs.Parts.{same, both}
 use Rattle.pv_words.specs.Lemmas.Same.{same_is}
+use Rattle.dp_pattern.specs.declared.Extent.TheVariants.{Open}
 use Rattle.dp_pattern.specs.declared.Group.TheVariants.{InRecord}
 use Rattle.dp_pattern.specs.Patterns.{Pattern, discard, bind, literal, group, no_fields, then_field}
 use Rattle.dp_pattern.specs.Matching.{matched}
@@ -42,7 +43,7 @@ IsItem start n v = (i : ℕ) × (i < n) × IsOf start i v
 -- the pattern of item i
 abbrev the_pattern : ℕ → Pattern
 the_pattern i =
-    group (InRecord (symbol (codes "Load")))
+    group (InRecord (symbol (codes "Load")) Open)
     (then_field (number 0) (literal (number i)) (then_field (number 1) (bind discard) no_fields))
 
 -- it captures of what the same item asserts

@@ -158,7 +158,8 @@ module _ (start n : ℕ) (few : n ≤ 20000) (one : OneNext) (N : Decider) (deci
           subst (λ d. Goes start n few k d (after_values (doing N) m (turns_of event n (suc t)) r)) same
           (subst (Goes start n few k (b + 2200200))
           (sym (in_parts (doing N) m (turns_of event n t) (turn_of event n t) r))
-          (on_kept start n few k b k (b + 2200200) (after_values (doing N) (m + length (turns_of event n t)) (turn_of event n t))
+          (on_kept start n few k b k (b + 2200200)
+          (after_values (doing N) (m + length (turns_of event n t)) (turn_of event n t))
           (after_values (doing N) m (turns_of event n t) r) first
           (λ u q. one_turn_kept b (m + length (turns_of event n t)) t u (omega (arith, there)) (omega (arith, most)) q)))
 
@@ -238,7 +239,8 @@ module _ (one : OneNext) (start n : ℕ) (few : n ≤ 20000) (N : Decider) (deci
       let turns = few_turns n few in
       let most = ends_low few_opens turns in
       let low = few_connections n few in
-      subst (Goes start n few k last_end) (sym (in_parts (doing N) m (all_turns observes n) (all_turns (loads start) n) r))
+      subst (Goes start n few k last_end)
+      (sym (in_parts (doing N) m (all_turns observes n) (all_turns (loads start) n) r))
       (on_kept start n few k second_end k last_end
       (after_values (doing N) (m + length (all_turns observes n)) (all_turns (loads start) n))
       (after_values (doing N) m (all_turns observes n) r)
@@ -273,7 +275,8 @@ module _ (one : OneNext) (start n : ℕ) (few : n ≤ 20000) (N : Decider) (deci
       let back = load_read start n few (load_short start n few) in
       let same = reading Binary (load_bytes start n) vs (load_events start n) whole true read back in
       let parts : vs ≡ opens k ++ sent_in start n = same.0 ∙ in_order start n in
-      let none : first_text (opens k ++ sent_in start n) ≡ None = no_text k (opens k) (sent_in start n) l.arrivals l.sendings
+      let none : first_text (opens k ++ sent_in start n) ≡ None =
+      no_text k (opens k) (sent_in start n) l.arrivals l.sendings
       in
       let without : o ≡ Some [] = subst (λ x. IsVerdict x o) (ap first_text parts ∙ none) verdict in
       let all : stops c ≡ course_of (doing N) (Some []) (opens k ++ sent_in start n) true =

@@ -110,11 +110,13 @@ varint_bytes (suc k) n few = by (nat_lt n 128) refl (λ l. varint_bytes k (n / 1
     by : (b : Bool) → nat_lt n 128 ≡ b → (n / 128 ≤ k → IsBytes (varint_in k (n / 128)))
         → IsBytes (cond b (n ∷ []) ((n % 128 + 128) ∷ varint_in k (n / 128)))
     by true is later = let low : n < 128 = ltb-true n 128 is in (omega (arith, low), tt)
-    by false is later = let high : 128 ≤ n = grind (arith, nat_tests, is) in (omega arith, later (omega (arith, high, few)))
+    by false is later = let high : 128 ≤ n =
+        grind (arith, nat_tests, is) in (omega arith, later (omega (arith, high, few)))
 
 counted_bytes : (bs : List ℕ) → IsBytes bs → IsBytes (counted bs)
 unfolding varint
-counted_bytes bs h = bytes_append (varint_in (length bs) (length bs)) bs (varint_bytes (length bs) (length bs) (omega arith)) h
+counted_bytes bs h =
+    bytes_append (varint_in (length bs) (length bs)) bs (varint_bytes (length bs) (length bs) (omega arith)) h
 
 minimal_bytes : (bs : List ℕ) → IsBytes bs → IsBytes (minimal bs)
 minimal_bytes [] h = tt
@@ -181,7 +183,8 @@ pub begins_whole : (most : ℕ) (v : Plain) → IsSmall v → depth v ≤ read_d
     → BeginsWith (take most (written v)) (length (written v)) v
 begins_whole most v h shallow few =
     let all : take most (written v) ≡ written v = take_all most (written v) few in
-    let own : take (length (written v)) (written v) ≡ written v = take_all (length (written v)) (written v) (omega arith) in
+    let own : take (length (written v)) (written v) ≡ written v =
+    take_all (length (written v)) (written v) (omega arith) in
     subst (λ bs. BeginsWith bs (length (written v)) v) (sym all)
     (omega arith, subst (λ bs. Spells bs v) (sym own) (spelled v (well_formed v h)), shallow)
 
@@ -234,7 +237,8 @@ asserting_small oid h v low few own = (
 
 pub observation_event_small : (i : ℕ) → i < 2 ^ 64 → IsSmall (asserting 0 (observation i) (2 * i))
 observation_event_small i few =
-    asserting_small 0 (2 * i) (observation i) (omega arith) (omega (arith, few)) (observation_small i (omega (arith, few)))
+    asserting_small 0 (2 * i) (observation i) (omega arith) (omega (arith, few))
+    (observation_small i (omega (arith, few)))
 
 pub loading_event_small : (start i : ℕ) → i < 2 ^ 64 → IsSmall (asserting 0 (loading start i) (2 * i + 1))
 loading_event_small start i few =

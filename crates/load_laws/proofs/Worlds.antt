@@ -14,7 +14,8 @@ use Rattle.ac_world.specs.declared.turns.Turned.{Turned}
 use Rattle.ac_world.specs.declared.turns.Turned.TheVariants as turned
 use Rattle.ac_world.specs.Behaviours.{Behaviour, behaviour_of, dataspace}
 use Rattle.ac_world.specs.Outboxes.{Plan, plan_over, acted, all_acted}
-use Rattle.ac_world.specs.Turns.{Turning, After, all_turned, begin_turn, end_turn, system_turn, connection_turn, turn_with}
+use Rattle.ac_world.specs.Turns.{Turning, After, all_turned, begin_turn, end_turn, system_turn, connection_turn}
+use Rattle.ac_world.specs.Turns.{turn_with}
 use Rattle.ac_world.specs.Turns.{turn_first, turn}
 use Rattle.ac_world.specs.Worlds.{WorldState, Resident, no_resident, resident_of, entry_of, is_system, gone, ended_of}
 use Rattle.ac_world.specs.Worlds.{sent, arrived, actor_of}

@@ -50,69 +50,82 @@ value_is s l = ap (cast_signed w128) (from_bytes (pad s) (length_pad s l))
 value_8 : (z : ℤ) → FitsSigned w8 z → int_value (to_be_bytes w8 (cast_unsigned w8 z)) ≡ z
 value_8 z f =
     value_is (to_be_bytes w8 (cast_unsigned w8 z)) (lit≤ tt)
-    ∙ ap (cast_signed w128) (by (nat_lt (byte_at 0 (cast_unsigned w8 z)) 128) refl (worth_of_bytes 1 (cast_unsigned w8 z)))
+    ∙ ap (cast_signed w128)
+    (by (nat_lt (byte_at 0 (cast_unsigned w8 z)) 128) refl (worth_of_bytes 1 (cast_unsigned w8 z)))
     ∙ to_z-of_z w128 z (sfits_widen tt f)
   where
-    by : (t : Bool) → nat_lt (byte_at 0 (cast_unsigned w8 z)) 128 ≡ t → worth (to_be_bytes w8 (cast_unsigned w8 z)) ≡ (cast_unsigned w8 z) % 256 ^ 1
+    by : (t : Bool) → nat_lt (byte_at 0 (cast_unsigned w8 z)) 128 ≡ t → worth (to_be_bytes w8 (cast_unsigned w8 z))
+        ≡ (cast_unsigned w8 z) % 256 ^ 1
         → worth (pad (to_be_bytes w8 (cast_unsigned w8 z))) ≡ cast_unsigned w128 z
     by true e h =
         let p : worth (pad (to_be_bytes w8 (cast_unsigned w8 z))) ≡ worth (to_be_bytes w8 (cast_unsigned w8 z)) =
         by_sign (to_be_bytes w8 (cast_unsigned w8 z)) true (lit≤ tt) (ap (λ t. cond {A = ℕ} t 0 255) e) in
         omega (arith, ints, p, h, ltb-true (byte_at 0 (cast_unsigned w8 z)) 128 e)
     by false e h =
-        let p : worth (pad (to_be_bytes w8 (cast_unsigned w8 z))) + 256 ^ 1 ≡ 256 ^ 16 + worth (to_be_bytes w8 (cast_unsigned w8 z)) =
+        let p : worth (pad (to_be_bytes w8 (cast_unsigned w8 z))) + 256 ^ 1
+        ≡ 256 ^ 16 + worth (to_be_bytes w8 (cast_unsigned w8 z)) =
         by_sign (to_be_bytes w8 (cast_unsigned w8 z)) false (lit≤ tt) (ap (λ t. cond {A = ℕ} t 0 255) e) in
         omega (arith, ints, p, h, ltb-false (byte_at 0 (cast_unsigned w8 z)) 128 e)
 
 pub narrow_8 : (z : ℤ) → FitsSigned w8 z → int_bytes z ≡ minimal (to_be_bytes w8 (cast_unsigned w8 z))
-narrow_8 z f = ap int_bytes (sym (value_8 z f)) ∙ int_bytes_value (to_be_bytes w8 (cast_unsigned w8 z)) (are_bytes 1 (cast_unsigned w8 z)) (lit≤ tt)
+narrow_8 z f = ap int_bytes (sym (value_8 z f))
+    ∙ int_bytes_value (to_be_bytes w8 (cast_unsigned w8 z)) (are_bytes 1 (cast_unsigned w8 z)) (lit≤ tt)
 
 value_32 : (z : ℤ) → FitsSigned w32 z → int_value (to_be_bytes w32 (cast_unsigned w32 z)) ≡ z
 value_32 z f =
     value_is (to_be_bytes w32 (cast_unsigned w32 z)) (lit≤ tt)
-    ∙ ap (cast_signed w128) (by (nat_lt (byte_at 3 (cast_unsigned w32 z)) 128) refl (worth_of_bytes 4 (cast_unsigned w32 z)))
+    ∙ ap (cast_signed w128)
+    (by (nat_lt (byte_at 3 (cast_unsigned w32 z)) 128) refl (worth_of_bytes 4 (cast_unsigned w32 z)))
     ∙ to_z-of_z w128 z (sfits_widen tt f)
   where
-    by : (t : Bool) → nat_lt (byte_at 3 (cast_unsigned w32 z)) 128 ≡ t → worth (to_be_bytes w32 (cast_unsigned w32 z)) ≡ (cast_unsigned w32 z) % 256 ^ 4
+    by : (t : Bool) → nat_lt (byte_at 3 (cast_unsigned w32 z)) 128 ≡ t → worth (to_be_bytes w32 (cast_unsigned w32 z))
+        ≡ (cast_unsigned w32 z) % 256 ^ 4
         → worth (pad (to_be_bytes w32 (cast_unsigned w32 z))) ≡ cast_unsigned w128 z
     by true e h =
         let p : worth (pad (to_be_bytes w32 (cast_unsigned w32 z))) ≡ worth (to_be_bytes w32 (cast_unsigned w32 z)) =
         by_sign (to_be_bytes w32 (cast_unsigned w32 z)) true (lit≤ tt) (ap (λ t. cond {A = ℕ} t 0 255) e) in
         omega (arith, ints, p, h, ltb-true (byte_at 3 (cast_unsigned w32 z)) 128 e)
     by false e h =
-        let p : worth (pad (to_be_bytes w32 (cast_unsigned w32 z))) + 256 ^ 4 ≡ 256 ^ 16 + worth (to_be_bytes w32 (cast_unsigned w32 z)) =
+        let p : worth (pad (to_be_bytes w32 (cast_unsigned w32 z))) + 256 ^ 4
+        ≡ 256 ^ 16 + worth (to_be_bytes w32 (cast_unsigned w32 z)) =
         by_sign (to_be_bytes w32 (cast_unsigned w32 z)) false (lit≤ tt) (ap (λ t. cond {A = ℕ} t 0 255) e) in
         omega (arith, ints, p, h, ltb-false (byte_at 3 (cast_unsigned w32 z)) 128 e)
 
 pub narrow_32 : (z : ℤ) → FitsSigned w32 z → int_bytes z ≡ minimal (to_be_bytes w32 (cast_unsigned w32 z))
-narrow_32 z f = ap int_bytes (sym (value_32 z f)) ∙ int_bytes_value (to_be_bytes w32 (cast_unsigned w32 z)) (are_bytes 4 (cast_unsigned w32 z)) (lit≤ tt)
+narrow_32 z f = ap int_bytes (sym (value_32 z f))
+    ∙ int_bytes_value (to_be_bytes w32 (cast_unsigned w32 z)) (are_bytes 4 (cast_unsigned w32 z)) (lit≤ tt)
 
 value_64 : (z : ℤ) → FitsSigned w64 z → int_value (to_be_bytes w64 (cast_unsigned w64 z)) ≡ z
 value_64 z f =
     value_is (to_be_bytes w64 (cast_unsigned w64 z)) (lit≤ tt)
-    ∙ ap (cast_signed w128) (by (nat_lt (byte_at 7 (cast_unsigned w64 z)) 128) refl (worth_of_bytes 8 (cast_unsigned w64 z)))
+    ∙ ap (cast_signed w128)
+    (by (nat_lt (byte_at 7 (cast_unsigned w64 z)) 128) refl (worth_of_bytes 8 (cast_unsigned w64 z)))
     ∙ to_z-of_z w128 z (sfits_widen tt f)
   where
-    by : (t : Bool) → nat_lt (byte_at 7 (cast_unsigned w64 z)) 128 ≡ t → worth (to_be_bytes w64 (cast_unsigned w64 z)) ≡ (cast_unsigned w64 z) % 256 ^ 8
+    by : (t : Bool) → nat_lt (byte_at 7 (cast_unsigned w64 z)) 128 ≡ t → worth (to_be_bytes w64 (cast_unsigned w64 z))
+        ≡ (cast_unsigned w64 z) % 256 ^ 8
         → worth (pad (to_be_bytes w64 (cast_unsigned w64 z))) ≡ cast_unsigned w128 z
     by true e h =
         let p : worth (pad (to_be_bytes w64 (cast_unsigned w64 z))) ≡ worth (to_be_bytes w64 (cast_unsigned w64 z)) =
         by_sign (to_be_bytes w64 (cast_unsigned w64 z)) true (lit≤ tt) (ap (λ t. cond {A = ℕ} t 0 255) e) in
         omega (arith, ints, p, h, ltb-true (byte_at 7 (cast_unsigned w64 z)) 128 e)
     by false e h =
-        let p : worth (pad (to_be_bytes w64 (cast_unsigned w64 z))) + 256 ^ 8 ≡ 256 ^ 16 + worth (to_be_bytes w64 (cast_unsigned w64 z)) =
+        let p : worth (pad (to_be_bytes w64 (cast_unsigned w64 z))) + 256 ^ 8
+        ≡ 256 ^ 16 + worth (to_be_bytes w64 (cast_unsigned w64 z)) =
         by_sign (to_be_bytes w64 (cast_unsigned w64 z)) false (lit≤ tt) (ap (λ t. cond {A = ℕ} t 0 255) e) in
         omega (arith, ints, p, h, ltb-false (byte_at 7 (cast_unsigned w64 z)) 128 e)
 
 pub narrow_64 : (z : ℤ) → FitsSigned w64 z → int_bytes z ≡ minimal (to_be_bytes w64 (cast_unsigned w64 z))
-narrow_64 z f = ap int_bytes (sym (value_64 z f)) ∙ int_bytes_value (to_be_bytes w64 (cast_unsigned w64 z)) (are_bytes 8 (cast_unsigned w64 z)) (lit≤ tt)
+narrow_64 z f = ap int_bytes (sym (value_64 z f))
+    ∙ int_bytes_value (to_be_bytes w64 (cast_unsigned w64 z)) (are_bytes 8 (cast_unsigned w64 z)) (lit≤ tt)
 
 -- ---- the shortest spellings
 
 pub counted_zero : (z : ℤ) → z ≡ pos 0 → counted (int_bytes z) ≡ 0 ∷ []
 unfolding int_bytes
 counted_zero z e =
-    ap (λ y. counted (minimal (to_be_bytes w128 (cast_unsigned w128 y)))) e ∙ ap (λ bs. bs ++ []) (varint_last 0 (lit< tt))
+    ap (λ y. counted (minimal (to_be_bytes w128 (cast_unsigned w128 y)))) e
+    ∙ ap (λ bs. bs ++ []) (varint_last 0 (lit< tt))
 
 pub counted_one : (z : ℤ) → FitsSigned w8 z → (z ≡ pos 0 → ⊥)
     → counted (int_bytes z) ≡ 1 ∷ cast_unsigned w8 z ∷ []

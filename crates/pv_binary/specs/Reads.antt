@@ -18,7 +18,8 @@ Leads bytes v more = (n : ℕ) × BeginsWith bytes n v × (more ≡ drop n bytes
 
 -- the bytes begin with v, which nests at most d deep, after which more is left
 abbrev pub LeadsWithin : ℕ → List ℕ → Plain → List ℕ → Type 0
-LeadsWithin d bytes v more = (n : ℕ) × (n ≤ length bytes) × Spells (take n bytes) v × (depth v ≤ d) × (more ≡ drop n bytes)
+LeadsWithin d bytes v more = (n : ℕ) × (n ≤ length bytes) × Spells (take n bytes) v × (depth v ≤ d)
+    × (more ≡ drop n bytes)
 
 -- what stops the reading of a value: the bytes end within it, or a fault stands
 abbrev pub Stops : List ℕ → Fault BinKind → Type 0

@@ -1,7 +1,9 @@
 //! Reading atoms, from behind their tags. Nothing here takes memory.
-ghost use Rattle.std.specs.Prelude.{◌≡◌, ◌≤◌, ◌<◌, ◌*◌, ◌^◌, [], ◌∷◌, ◌++◌, length, replicate, IfOk, MatchOption};
+ghost use Rattle.std.specs.Prelude.{◌≡◌, ◌≤◌, ◌<◌, ◌*◌, ◌^◌, [], ◌∷◌, ◌++◌, length, replicate};
+ghost use Rattle.std.specs.Prelude.{IfOk, MatchOption};
+ghost use Rattle.std.specs.Prelude.{IsTrue};
 ghost use Rattle.std.specs.Int.{w64, from_be_bytes};
-ghost use Rattle.std.specs.Str.{IsUtf8};
+ghost use Rattle.std.specs.Str.{IsUtf8, IsAscii};
 ghost use Rattle.pv_read.specs.Answers.{Answers};
 ghost use Rattle.pv_binary.specs.Reading.{sign, pad, is_minimal, int_value, int_at, varint_at};
 ghost use Rattle.pv_binary.specs.Reading.{split_at, counted_at, text_at, double_at};
@@ -11,8 +13,8 @@ use crate::tags::DOUBLE_BYTES;
 use crate::writing::repeats_sign;
 use simdutf8::basic::from_utf8;
 
-/// The bits of the double behind its tag, and the bytes behind it: the 8, and the eight bytes of its
-/// bits.
+/// The bits of the double behind its tag, and the bytes behind it: the 8, and the eight bytes of
+/// its bits.
 #[tactic(auto, unfolding(crate::specs::Reading::double_at))]
 pub fn read_double(bytes: &[u8]) -> Result<(u64, &[u8]), BinKind>
     ensures { Answers (λ x. (x.0, x.1.now)) result (double_at bytes.now) }
@@ -40,22 +42,43 @@ pub fn read_text(bytes: &[u8]) -> Result<(&str, &[u8]), BinKind>
     Ok((text, rest))
 }
 
-/// These bytes as text. Few of them, as most texts have, go by the plain test.
+/// These bytes as text. Few of them, as most texts have, are looked at one by one first: below 128
+/// each is a character.
 #[inline(always)]
 fn as_text(bytes: &[u8]) -> Option<&str>
     ensures { MatchOption result (IsUtf8 bytes.now → ⊥)
         (λ s. (s.now ≡ bytes.now) × IsUtf8 bytes.now) }
 {
-    if bytes.len() < 64 {
-        return match std::str::from_utf8(bytes) {
-            Ok(text) => Some(text),
-            Err(_) => None,
-        };
+    if bytes.len() < 64 && is_ascii(bytes) {
+        return Some(ascii_text(bytes));
     }
     match from_utf8(bytes) {
         Ok(text) => Some(text),
         Err(_) => None,
     }
+}
+
+/// Whether each byte is below 128.
+fn is_ascii(bytes: &[u8]) -> bool
+    ensures { IsTrue result → IsAscii bytes.now }
+{
+    for i in 0..bytes.len() {
+        let byte = bytes[i];
+        if byte >= 128 {
+            return false;
+        }
+    }
+    true
+}
+
+/// Bytes below 128 as text.
+#[inline(always)]
+fn ascii_text(bytes: &[u8]) -> &str
+    requires { IsAscii bytes.now }
+    ensures same { result.now ≡ bytes.now }
+    ensures text { IsUtf8 bytes.now }
+{
+    unsafe { std::str::from_utf8_unchecked(bytes) }
 }
 
 /// The integer behind its count, in as few bytes as will do, and the bytes behind it.

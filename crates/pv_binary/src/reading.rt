@@ -1,5 +1,6 @@
 //! Reading values.
-ghost use Rattle.std.specs.Prelude.{◌≡◌, ◌≤◌, ℕ, List, [], ◌∷◌, ◌++◌, length, map, IfOk, IfSome, IfNone, Option};
+ghost use Rattle.std.specs.Prelude.{◌≡◌, ◌≤◌, ℕ, List, [], ◌∷◌, ◌++◌, length, map, IfOk, IfSome};
+ghost use Rattle.std.specs.Prelude.{IfNone, Option};
 ghost use Rattle.pv_value.specs.Plain.{Plain};
 ghost use Rattle.pv_value.specs.Sets.{IsMade};
 ghost use Rattle.pv_value.specs.View.{key_and_value};
@@ -11,6 +12,7 @@ ghost use Rattle.pv_binary.specs.Reading.{no_tag, atom_at, made_at, items_at, pa
 ghost use Rattle.pv_binary.specs.Reading.{compound_at, value_at};
 ghost use Rattle.pv_binary.specs.Reads.{BeginsWith, LeadsWithin, Stops};
 ghost use Rattle.pv_binary.specs.declared.faults.BinKind.{BinKind};
+ghost use Rattle.pv_binary.specs.declared.tag.Tag.TheVariants as kind;
 
 use crate::atoms::{read_counted, read_double, read_int, read_text};
 use crate::faults::{BinFault, BinKind};
@@ -38,7 +40,8 @@ pub fn read(alloc: Global, bytes: &[u8]) -> Result<(Value, usize), BinFault>
     ensures only_front { (path : List ℕ) → Front bytes.now path
         → IsFault result (truncated bytes.now path) }
 {
-    let (value, rest) = read_value(alloc, bytes, bytes.len(), READ_DEPTH)?;
+    let mut rest = bytes;
+    let value = read_value(alloc, &mut rest, bytes.len(), READ_DEPTH)?;
     Ok((value, bytes.len() - rest.len()))
 }
 
@@ -54,71 +57,75 @@ pub fn read_within(
     ensures none { IfOk result (λ o. IfNone o ((v : Plain) (more : List ℕ)
         → LeadsWithin budget bytes.now v more → ⊥)) }
 {
-    match read_value(alloc, bytes, bytes.len(), budget) {
-        Ok(found) => Ok(Some(found)),
+    let mut rest = bytes;
+    match read_value(alloc, &mut rest, bytes.len(), budget) {
+        Ok(value) => Ok(Some((value, rest))),
         Err(BinFault::NoMemory) => Err(NoMemory),
         Err(BinFault::Bad(_, _)) => Ok(None),
     }
 }
 
-/// The value that the bytes begin with, which nests at most `budget` deep, and the bytes after it.
-/// The bytes are the last of `total`, which tells the place of a fault.
+/// The value that the input begins with, which nests at most `budget` deep. The bytes after it are
+/// left; where there is no value, it isn't said what is. The input is the last of `total` bytes,
+/// which tells the place of a fault.
 #[cycle(read)]
 #[tactic(auto, unfolding(crate::specs::Reading::value_at, crate::specs::Reading::behind))]
 fn read_value(
     alloc: Global,
-    bytes: &[u8],
+    input: &mut &[u8],
     total: usize,
     budget: u32,
-) -> Result<(Value, &[u8]), BinFault>
-    ensures { Gives (λ x. (x.0, x.1.now)) result (value_at total budget bytes.now) }
+) -> Result<Value, BinFault>
+    ensures { Gives (λ v. (v, input.new.now)) result (value_at total budget input.old.now) }
 {
+    let bytes: &[u8] = *input;
     let place = total.saturating_sub(bytes.len());
     let Some((byte, rest)) = bytes.split_first() else {
         return Err(BinFault::Bad(BinKind::Truncated, total));
     };
+    *input = rest;
     let tag = Tag::of(*byte);
     if !tag.is_compound() {
-        return read_atom(alloc, tag, rest, place);
+        return read_atom(alloc, tag, input, place);
     }
     if budget == 0 {
         return Err(BinFault::Bad(BinKind::TooDeep, place));
     }
-    read_compound(alloc, tag, rest, total, place, budget - 1)
+    read_compound(alloc, tag, input, total, place, budget - 1)
 }
 
 /// What stands behind the tag of an atom.
 #[tactic(auto, unfolding(crate::specs::Reading::atom_at))]
-fn read_atom(
-    alloc: Global,
-    tag: Tag,
-    bytes: &[u8],
-    place: usize,
-) -> Result<(Value, &[u8]), BinFault>
-    ensures { Gives (λ x. (x.0, x.1.now)) result (atom_at place tag bytes.now) }
+fn read_atom(alloc: Global, tag: Tag, input: &mut &[u8], place: usize) -> Result<Value, BinFault>
+    ensures { Gives (λ v. (v, input.new.now)) result (atom_at place tag input.old.now) }
 {
     match tag {
-        Tag::False => Ok((Value::boolean(false), bytes)),
-        Tag::True => Ok((Value::boolean(true), bytes)),
+        Tag::False => Ok(Value::boolean(false)),
+        Tag::True => Ok(Value::boolean(true)),
         Tag::Double => {
-            let (bits, rest) = at(place, read_double(bytes))?;
-            Ok((Value::double(bits), rest))
+            let (bits, rest) = at(place, read_double(*input))?;
+            *input = rest;
+            Ok(Value::double(bits))
         }
         Tag::Integer => {
-            let (n, rest) = at(place, read_int(bytes))?;
-            Ok((Value::integer(n), rest))
+            let (n, rest) = at(place, read_int(*input))?;
+            *input = rest;
+            Ok(Value::integer(n))
         }
         Tag::String => {
-            let (text, rest) = at(place, read_text(bytes))?;
-            Ok((Value::string(Text::from_str(alloc, text)?), rest))
+            let (text, rest) = at(place, read_text(*input))?;
+            *input = rest;
+            Ok(Value::string(Text::from_str(alloc, text)?))
         }
         Tag::ByteString => {
-            let (blob, rest) = at(place, read_counted(bytes))?;
-            Ok((Value::byte_string(Blob::from_slice(alloc, blob)?), rest))
+            let (blob, rest) = at(place, read_counted(*input))?;
+            *input = rest;
+            Ok(Value::byte_string(Blob::from_slice(alloc, blob)?))
         }
         Tag::Symbol => {
-            let (text, rest) = at(place, read_text(bytes))?;
-            Ok((Value::symbol(Text::from_str(alloc, text)?), rest))
+            let (text, rest) = at(place, read_text(*input))?;
+            *input = rest;
+            Ok(Value::symbol(Text::from_str(alloc, text)?))
         }
         _ => Err(BinFault::Bad(BinKind::BadTag, place)),
     }
@@ -130,51 +137,119 @@ fn read_atom(
 fn read_compound(
     alloc: Global,
     tag: Tag,
-    bytes: &[u8],
+    input: &mut &[u8],
     total: usize,
     place: usize,
     budget: u32,
-) -> Result<(Value, &[u8]), BinFault>
-    ensures { Gives (λ x. (x.0, x.1.now)) result
-        (compound_at total place (value_at total budget) tag bytes.now) }
+) -> Result<Value, BinFault>
+    ensures { Gives (λ v. (v, input.new.now)) result
+        (compound_at total place (value_at total budget) tag input.old.now) }
 {
     match tag {
-        Tag::Embedded => {
-            let (inside, rest) = read_value(alloc, bytes, total, budget)?;
-            Ok((Value::embedded(alloc, inside)?, rest))
-        }
-        Tag::Record => {
-            let (label, rest) = read_value(alloc, bytes, total, budget)?;
-            let (fields, rest) = read_items(alloc, rest, total, budget)?;
-            Ok((Value::record(alloc, label, fields)?, rest))
-        }
-        Tag::Sequence => {
-            let (items, rest) = read_items(alloc, bytes, total, budget)?;
-            Ok((Value::sequence(Items::from_vec(alloc, items)?), rest))
-        }
-        Tag::Set => {
-            let (items, rest) = read_items(alloc, bytes, total, budget)?;
-            Ok((made(place, Value::set(alloc, items))?, rest))
-        }
-        Tag::Dictionary => {
-            let (entries, rest) = read_pairs(alloc, bytes, total, budget)?;
-            Ok((made(place, Value::dict(alloc, entries))?, rest))
-        }
+        Tag::Embedded => read_embedded(alloc, input, total, place, budget),
+        Tag::Record => read_record(alloc, input, total, place, budget),
+        Tag::Sequence => read_sequence(alloc, input, total, place, budget),
+        Tag::Set => read_set(alloc, input, total, place, budget),
+        Tag::Dictionary => read_dictionary(alloc, input, total, place, budget),
         _ => Err(BinFault::Bad(BinKind::BadTag, place)),
     }
 }
 
-/// Values up to the end.
+// Each kind of compound has a function of its own, which keeps no more than that kind needs.
+
+#[cycle(read)]
+#[tactic(auto, unfolding(crate::specs::Reading::compound_at))]
+fn read_embedded(
+    alloc: Global,
+    input: &mut &[u8],
+    total: usize,
+    place: usize,
+    budget: u32,
+) -> Result<Value, BinFault>
+    ensures { Gives (λ v. (v, input.new.now)) result
+        (compound_at total place (value_at total budget) kind.Embedded input.old.now) }
+{
+    let inside = read_value(alloc, input, total, budget)?;
+    Ok(Value::embedded(alloc, inside)?)
+}
+
+#[cycle(read)]
+#[tactic(auto, unfolding(crate::specs::Reading::compound_at))]
+fn read_record(
+    alloc: Global,
+    input: &mut &[u8],
+    total: usize,
+    place: usize,
+    budget: u32,
+) -> Result<Value, BinFault>
+    ensures { Gives (λ v. (v, input.new.now)) result
+        (compound_at total place (value_at total budget) kind.Record input.old.now) }
+{
+    let label = read_value(alloc, input, total, budget)?;
+    let fields = read_items(alloc, input, total, budget)?;
+    Ok(Value::record(alloc, label, fields)?)
+}
+
+#[cycle(read)]
+#[tactic(auto, unfolding(crate::specs::Reading::compound_at))]
+fn read_sequence(
+    alloc: Global,
+    input: &mut &[u8],
+    total: usize,
+    place: usize,
+    budget: u32,
+) -> Result<Value, BinFault>
+    ensures { Gives (λ v. (v, input.new.now)) result
+        (compound_at total place (value_at total budget) kind.Sequence input.old.now) }
+{
+    let items = read_items(alloc, input, total, budget)?;
+    Ok(Value::sequence(Items::from_vec(alloc, items)?))
+}
+
+#[cycle(read)]
+#[tactic(auto, unfolding(crate::specs::Reading::compound_at))]
+fn read_set(
+    alloc: Global,
+    input: &mut &[u8],
+    total: usize,
+    place: usize,
+    budget: u32,
+) -> Result<Value, BinFault>
+    ensures { Gives (λ v. (v, input.new.now)) result
+        (compound_at total place (value_at total budget) kind.Set input.old.now) }
+{
+    let items = read_items(alloc, input, total, budget)?;
+    Ok(made(place, Value::set(alloc, items))?)
+}
+
+#[cycle(read)]
+#[tactic(auto, unfolding(crate::specs::Reading::compound_at))]
+fn read_dictionary(
+    alloc: Global,
+    input: &mut &[u8],
+    total: usize,
+    place: usize,
+    budget: u32,
+) -> Result<Value, BinFault>
+    ensures { Gives (λ v. (v, input.new.now)) result
+        (compound_at total place (value_at total budget) kind.Dictionary input.old.now) }
+{
+    let entries = read_pairs(alloc, input, total, budget)?;
+    Ok(made(place, Value::dict(alloc, entries))?)
+}
+
+/// Values up to the end, which is passed.
 #[cycle(read)]
 fn read_items(
     alloc: Global,
-    bytes: &[u8],
+    input: &mut &[u8],
     total: usize,
     budget: u32,
-) -> Result<(Vec<Value>, &[u8]), BinFault>
-    ensures { Gives (λ x. (x.0.items, x.1.now)) result
-        (items_at total (value_at total budget) bytes.now) }
+) -> Result<Vec<Value>, BinFault>
+    ensures { Gives (λ xs. (xs.items, input.new.now)) result
+        (items_at total (value_at total budget) input.old.now) }
 {
+    let bytes: &[u8] = *input;
     let mut items = Vec::new(alloc);
     let mut rest = bytes;
     for _ in 0..bytes.len() {
@@ -182,26 +257,27 @@ fn read_items(
             return Err(BinFault::Bad(BinKind::Truncated, total));
         };
         if *byte == END {
-            return Ok((items, after));
+            *input = after;
+            return Ok(items);
         }
-        let (value, after) = read_value(alloc, rest, total, budget)?;
-        append(&mut items, value, after)?;
-        rest = after;
+        let value = read_value(alloc, &mut rest, total, budget)?;
+        append(&mut items, value, rest)?;
     }
     Err(BinFault::Bad(BinKind::Truncated, total))
 }
 
-/// Keys and values by turns up to the end.
+/// Keys and values by turns up to the end, which is passed.
 #[cycle(read)]
 fn read_pairs(
     alloc: Global,
-    bytes: &[u8],
+    input: &mut &[u8],
     total: usize,
     budget: u32,
-) -> Result<(Vec<Entry>, &[u8]), BinFault>
-    ensures { Gives (λ x. (map key_and_value x.0.items, x.1.now)) result
-        (pairs_at total (value_at total budget) bytes.now) }
+) -> Result<Vec<Entry>, BinFault>
+    ensures { Gives (λ ps. (map key_and_value ps.items, input.new.now)) result
+        (pairs_at total (value_at total budget) input.old.now) }
 {
+    let bytes: &[u8] = *input;
     let mut entries = Vec::new(alloc);
     let mut rest = bytes;
     for _ in 0..bytes.len() {
@@ -209,12 +285,12 @@ fn read_pairs(
             return Err(BinFault::Bad(BinKind::Truncated, total));
         };
         if *byte == END {
-            return Ok((entries, after));
+            *input = after;
+            return Ok(entries);
         }
-        let (key, after) = read_value(alloc, rest, total, budget)?;
-        let (value, after) = read_value(alloc, after, total, budget)?;
-        append(&mut entries, Entry { key, value }, after)?;
-        rest = after;
+        let key = read_value(alloc, &mut rest, total, budget)?;
+        let value = read_value(alloc, &mut rest, total, budget)?;
+        append(&mut entries, Entry { key, value }, rest)?;
     }
     Err(BinFault::Bad(BinKind::Truncated, total))
 }

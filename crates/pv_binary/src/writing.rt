@@ -44,28 +44,60 @@ pub fn write_into(out: &mut Vec<u8>, v: &Value) -> Result<(), NoMemory>
         Node::Str(text) => push_counted(out, tags::STRING, text.as_bytes()),
         Node::Bytes(bytes) => push_counted(out, tags::BYTE_STRING, bytes.as_slice()),
         Node::Sym(text) => push_counted(out, tags::SYMBOL, text.as_bytes()),
-        Node::Rec(rec) => {
-            push_byte(out, tags::RECORD)?;
-            write_into(out, &rec.label)?;
-            push_all(out, rec.fields.as_slice())
-        }
-        Node::Seq(items) => {
-            push_byte(out, tags::SEQUENCE)?;
-            push_all(out, items.as_slice())
-        }
-        Node::Set(set) => {
-            push_byte(out, tags::SET)?;
-            push_all(out, set.as_slice())
-        }
-        Node::Dict(entries) => {
-            push_byte(out, tags::DICTIONARY)?;
-            push_entries(out, entries.as_slice())
-        }
-        Node::Emb(inside) => {
-            push_byte(out, tags::EMBEDDED)?;
-            write_into(out, inside)
-        }
+        Node::Rec(rec) => push_record(out, &rec.label, rec.fields.as_slice()),
+        Node::Seq(items) => push_list(out, tags::SEQUENCE, items.as_slice()),
+        Node::Set(set) => push_list(out, tags::SET, set.as_slice()),
+        Node::Dict(entries) => push_dictionary(out, entries.as_slice()),
+        Node::Emb(inside) => push_embedded(out, inside),
     }
+}
+
+// What is inside a compound is written by functions of their own, so that for an atom the kind is
+// all that is looked at before its bytes are.
+
+#[cycle(write)]
+#[inline(never)]
+fn push_record(out: &mut Vec<u8>, label: &Value, fields: &[Value]) -> Result<(), NoMemory>
+    ensures all { OnOk result (out.new.items ≡ out.old.items
+        ++ 0xb4 ∷ (written label.now ++ (written_all (plains fields.now) ++ 0x84 ∷ []))) }
+    ensures front { StartsWith out.new.items out.old.items }
+{
+    push_byte(out, tags::RECORD)?;
+    write_into(out, label)?;
+    push_all(out, fields)
+}
+
+/// The tag, values, and the end.
+#[cycle(write)]
+#[inline(never)]
+fn push_list(out: &mut Vec<u8>, tag: u8, items: &[Value]) -> Result<(), NoMemory>
+    ensures all { OnOk result (out.new.items ≡ out.old.items
+        ++ tag ∷ (written_all (plains items.now) ++ 0x84 ∷ [])) }
+    ensures front { StartsWith out.new.items out.old.items }
+{
+    push_byte(out, tag)?;
+    push_all(out, items)
+}
+
+#[cycle(write)]
+#[inline(never)]
+fn push_dictionary(out: &mut Vec<u8>, entries: &[Entry]) -> Result<(), NoMemory>
+    ensures all { OnOk result (out.new.items ≡ out.old.items
+        ++ 0xb7 ∷ (written_pairs (pairs (map key_and_value entries.now)) ++ 0x84 ∷ [])) }
+    ensures front { StartsWith out.new.items out.old.items }
+{
+    push_byte(out, tags::DICTIONARY)?;
+    push_entries(out, entries)
+}
+
+#[cycle(write)]
+#[inline(never)]
+fn push_embedded(out: &mut Vec<u8>, inside: &Value) -> Result<(), NoMemory>
+    ensures all { OnOk result (out.new.items ≡ out.old.items ++ 0x86 ∷ written inside.now) }
+    ensures front { StartsWith out.new.items out.old.items }
+{
+    push_byte(out, tags::EMBEDDED)?;
+    write_into(out, inside)
 }
 
 /// Values, and the end.

@@ -40,28 +40,54 @@ pub fn canon_into(alloc: Global, out: &mut Vec<u8>, v: &Value) -> Result<(), NoM
     match &v.node {
         Node::Bool(_) | Node::Double(_) | Node::Int(_) => write_into(out, v),
         Node::Str(_) | Node::Bytes(_) | Node::Sym(_) => write_into(out, v),
-        Node::Rec(rec) => {
-            push_byte(out, tags::RECORD)?;
-            canon_into(alloc, out, &rec.label)?;
-            push_list(alloc, out, rec.fields.as_slice())
-        }
-        Node::Seq(items) => {
-            push_byte(out, tags::SEQUENCE)?;
-            push_list(alloc, out, items.as_slice())
-        }
-        Node::Set(set) => {
-            push_byte(out, tags::SET)?;
-            push_set(alloc, out, set.as_slice())
-        }
-        Node::Dict(entries) => {
-            push_byte(out, tags::DICTIONARY)?;
-            push_dictionary(alloc, out, entries.as_slice())
-        }
-        Node::Emb(inside) => {
-            push_byte(out, tags::EMBEDDED)?;
-            canon_into(alloc, out, inside)
-        }
+        Node::Rec(rec) => push_record(alloc, out, &rec.label, rec.fields.as_slice()),
+        Node::Seq(items) => push_sequence(alloc, out, items.as_slice()),
+        Node::Set(set) => push_set(alloc, out, set.as_slice()),
+        Node::Dict(entries) => push_dictionary(alloc, out, entries.as_slice()),
+        Node::Emb(inside) => push_embedded(alloc, out, inside),
     }
+}
+
+// What is inside a compound is written by functions of their own, so that for an atom the kind is
+// all that is looked at before its bytes are.
+
+#[cycle(canon)]
+#[inline(never)]
+fn push_record(
+    alloc: Global,
+    out: &mut Vec<u8>,
+    label: &Value,
+    fields: &[Value],
+) -> Result<(), NoMemory>
+    ensures record { OnOk result (out.new.items ≡ out.old.items
+        ++ 0xb4 ∷ (canonical label.now ++ (concat (forms (plains fields.now)) ++ 0x84 ∷ []))) }
+    ensures front { StartsWith out.new.items out.old.items }
+{
+    push_byte(out, tags::RECORD)?;
+    canon_into(alloc, out, label)?;
+    push_list(alloc, out, fields)
+}
+
+#[cycle(canon)]
+#[inline(never)]
+fn push_sequence(alloc: Global, out: &mut Vec<u8>, items: &[Value]) -> Result<(), NoMemory>
+    ensures sequence { OnOk result (out.new.items ≡ out.old.items
+        ++ 0xb5 ∷ (concat (forms (plains items.now)) ++ 0x84 ∷ [])) }
+    ensures front { StartsWith out.new.items out.old.items }
+{
+    push_byte(out, tags::SEQUENCE)?;
+    push_list(alloc, out, items)
+}
+
+#[cycle(canon)]
+#[inline(never)]
+fn push_embedded(alloc: Global, out: &mut Vec<u8>, inside: &Value) -> Result<(), NoMemory>
+    ensures embedded { OnOk result
+        (out.new.items ≡ out.old.items ++ 0x86 ∷ canonical inside.now) }
+    ensures front { StartsWith out.new.items out.old.items }
+{
+    push_byte(out, tags::EMBEDDED)?;
+    canon_into(alloc, out, inside)
 }
 
 /// Values in the order of the list, and the end.
@@ -77,13 +103,15 @@ fn push_list(alloc: Global, out: &mut Vec<u8>, items: &[Value]) -> Result<(), No
     push_byte(out, tags::END)
 }
 
-/// Values in the order of the bytes of their forms, and the end.
+/// The tag, values in the order of the bytes of their forms, and the end.
 #[cycle(canon)]
+#[inline(never)]
 fn push_set(alloc: Global, out: &mut Vec<u8>, items: &[Value]) -> Result<(), NoMemory>
-    ensures set { OnOk result (out.new.items ≡
-        out.old.items ++ (concat (sorted_by byte_order (forms (plains items.now))) ++ 0x84 ∷ [])) }
+    ensures set { OnOk result (out.new.items ≡ out.old.items
+        ++ 0xb6 ∷ (concat (sorted_by byte_order (forms (plains items.now))) ++ 0x84 ∷ [])) }
     ensures front { StartsWith out.new.items out.old.items }
 {
+    push_byte(out, tags::SET)?;
     let start = out.len();
     if !push_forms(alloc, out, items)? {
         sort_from(alloc, out, start, items)?;
@@ -91,14 +119,16 @@ fn push_set(alloc: Global, out: &mut Vec<u8>, items: &[Value]) -> Result<(), NoM
     push_byte(out, tags::END)
 }
 
-/// Entries in the order of the bytes of their keys' forms, and the end.
+/// The tag, entries in the order of the bytes of their keys' forms, and the end.
 #[cycle(canon)]
+#[inline(never)]
 fn push_dictionary(alloc: Global, out: &mut Vec<u8>, entries: &[Entry]) -> Result<(), NoMemory>
-    ensures dictionary { OnOk result (out.new.items ≡ out.old.items ++ (concat (map joined
+    ensures dictionary { OnOk result (out.new.items ≡ out.old.items ++ 0xb7 ∷ (concat (map joined
         (sorted_by form_order (entry_forms (pairs (map key_and_value entries.now)))))
         ++ 0x84 ∷ [])) }
     ensures front { StartsWith out.new.items out.old.items }
 {
+    push_byte(out, tags::DICTIONARY)?;
     let start = out.len();
     if !push_entry_forms(alloc, out, entries)? {
         sort_entries_from(alloc, out, start, entries)?;

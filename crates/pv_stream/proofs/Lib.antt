@@ -2,6 +2,7 @@ pub mod Alike
 pub mod Atoms
 pub mod Behind
 pub mod Exact
+pub mod Filling
 pub mod One
 pub mod Stopping
 pub mod TagBytes

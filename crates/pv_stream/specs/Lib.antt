@@ -1,3 +1,4 @@
+pub mod Buffers
 pub mod Courses
 pub mod Feeds
 pub mod Laws
@@ -5,4 +6,5 @@ pub mod Lemmas
 pub mod Limits
 pub mod Nexts
 pub mod Scans
+pub mod Takes
 pub mod Walks

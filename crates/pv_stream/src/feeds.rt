@@ -1,13 +1,16 @@
-//! What was pushed of a stream and isn't given yet.
-ghost use Rattle.std.specs.Prelude.{◌≡◌, ◌+◌, ◌≤◌, ◌<◌, ◌^◌, length, drop};
+//! What has come of a stream and isn't given yet.
+ghost use Rattle.std.specs.Prelude.{◌≡◌, ◌+◌, ◌≤◌, ◌<◌, ◌^◌, length};
 ghost use Rattle.std.specs.Prelude.{IfOk, OnOk, OnErr, IsTrue};
+ghost use Rattle.out_ports.specs.Ports.{Rose, FitsBuffer, given_after, ended_after};
 ghost use Rattle.pv_binary.specs.OneOfThree.{AreBytes, IsFront};
-ghost use Rattle.std.specs.Vec.{vec_len};
 ghost use Rattle.pv_stream.specs.Feeds.{no_bytes, with_bytes, given};
 ghost use Rattle.pv_stream.specs.Nexts.{IsNext, IsOnlyNext};
+ghost use Rattle.pv_stream.specs.Takes.{IsTakenBehind};
 
+use crate::buffers::Buffer;
 use crate::nexts::{Found, MOST_BYTES, Next, first_in, more};
 use crate::walks::{Level, walk};
+use out_ports::ports::{Source, Took};
 use pv_value::NoMemory;
 use std::alloc::Global;
 use std::marker::Model;
@@ -19,43 +22,24 @@ use std::marker::Model;
 /// which compounds are open, up to a place.
 #[derive(Drop)]
 pub struct Feed {
-    bytes: Vec<u8>,
-    start: usize,
+    buffer: Buffer,
     gone: u64,
     place: usize,
     levels: Vec<Level>,
 }
 
 impl Model for Feed {
-    ghost use Rattle.std.specs.Prelude.{drop, length, ◌+◌, ◌≤◌, ◌<◌, ◌^◌};
+    ghost use Rattle.std.specs.Prelude.{length, ◌+◌, ◌<◌, ◌^◌};
     ghost use Rattle.pv_stream.specs.Feeds.{FeedState};
 
     ghost Value = { FeedState };
 
-    ghost view = { λ f. record { left = drop f.start f.bytes.items; before = f.gone + f.start } };
+    ghost view = { λ f. record { left = f.buffer.held; before = f.gone } };
 
     ghost use Rattle.pv_stream.specs.Walks.{IsAt};
 
     ghost invariant = { λ f.
-        (f.start ≤ length f.bytes.items) × (f.gone + length f.bytes.items < 2 ^ 63)
-        × IsAt (drop f.start f.bytes.items) f.place f.levels.items };
-}
-
-/// The first so many bytes are let go.
-fn drop_front(bytes: &mut Vec<u8>, count: usize)
-    requires { count ≤ length bytes.old.items }
-    ensures { bytes.new.items ≡ drop count bytes.old.items }
-{
-    bytes.drain(..count);
-}
-
-/// The bytes behind the first so many.
-fn bytes_behind(bytes: &[u8], count: usize) -> &[u8]
-    requires { count ≤ length bytes.now }
-    ensures left { result.now ≡ drop count bytes.now }
-    ensures bytes { AreBytes result.now }
-{
-    &bytes[count..]
+        (f.gone + length f.buffer.held < 2 ^ 63) × IsAt f.buffer.held f.place f.levels.items };
 }
 
 impl Feed {
@@ -64,8 +48,7 @@ impl Feed {
         ensures { result ≡ no_bytes }
     {
         Feed {
-            bytes: Vec::new(alloc),
-            start: 0,
+            buffer: Buffer::new(alloc),
             gone: 0,
             place: 0,
             levels: Vec::new(alloc),
@@ -76,7 +59,7 @@ impl Feed {
     pub fn left(&self) -> u64
         ensures { result ≡ length self.now.left }
     {
-        (self.bytes.len() - self.start) as u64
+        self.buffer.len() as u64
     }
 
     /// A piece comes, behind what is left. For want of memory nothing does, and so where the
@@ -85,23 +68,35 @@ impl Feed {
         ensures longer { OnOk result (self.new ≡ with_bytes piece.now self.old) }
         ensures undone { OnErr result (self.new ≡ self.old) }
     {
-        self.forget();
-        if self.gone + self.bytes.len() as u64 + piece.len() as u64 >= 1 << 63 {
+        if self.gone + self.left() + piece.len() as u64 >= 1 << 63 {
             return Err(NoMemory);
         }
-        self.bytes.extend_from_slice(piece)?;
-        Ok(())
+        self.buffer.append(piece)
     }
 
-    /// What was given is kept no longer.
-    fn forget(&mut self)
-        ensures { self.new ≡ self.old }
+    /// The source is asked once, for so many bytes at most, which it writes behind what is left.
+    /// For want of memory it isn't asked, and so where the stream might have 2^63 bytes then.
+    pub fn take_from<S: Source>(&mut self, source: &mut S, most: usize) -> Result<Took, NoMemory>
+        requires { 0 < most }
+        ensures size { IfOk result (λ t. FitsBuffer t most) }
+        ensures taken { IfOk result (λ t. IsTakenBehind t (S.left source.old) (S.left source.new)
+            self.old.left self.new.left) }
+        ensures before { self.new.before ≡ self.old.before }
+        ensures undone { OnErr result ((self.new ≡ self.old) × (source.new ≡ source.old)) }
+        ensures counted { IfOk result (λ t.
+            S.given source.new ≡ given_after t (S.given source.old)) }
+        ensures at_end { IfOk result (λ t.
+            S.ended source.new ≡ ended_after t (S.ended source.old)) }
+        ensures lasting { S.faults source.old ≤ S.faults source.new }
+        ensures cause { IfOk result (λ t. t ≡ Took.Failed
+            → Rose (S.faults source.old) (S.faults source.new)) }
     {
-        if self.start > 0 {
-            drop_front(&mut self.bytes, self.start);
-            self.gone += self.start as u64;
-            self.start = 0;
+        self.buffer.make_room()?;
+        let room = self.buffer.free().min(most);
+        if self.gone + self.left() + room as u64 >= 1 << 63 {
+            return Err(NoMemory);
         }
+        Ok(self.buffer.take_from(source, room))
     }
 
     /// What is next. A value is given, and no longer left.
@@ -165,7 +160,8 @@ impl Feed {
         ensures { self.new ≡ given count self.old }
     {
         if count > 0 {
-            self.start += count;
+            self.buffer.let_go(count);
+            self.gone += count as u64;
             self.place = 0;
             self.levels.clear();
         }
@@ -178,15 +174,10 @@ impl Feed {
         ensures waits { IfOk result (λ b. IsTrue b
             → (length self.old.left < 262144) × IsFront self.old.left) }
     {
-        if self.bytes.len() - self.start >= MOST_BYTES {
+        if self.buffer.len() >= MOST_BYTES {
             return Ok(false);
         }
-        match walk(
-            alloc,
-            &self.bytes[self.start..],
-            self.place,
-            &mut self.levels,
-        ) {
+        match walk(alloc, self.buffer.as_slice(), self.place, &mut self.levels) {
             Ok(Some(place)) => {
                 self.place = place;
                 Ok(true)
@@ -210,7 +201,7 @@ impl Feed {
         ensures bytes { AreBytes self.now.left }
         ensures few { self.now.before + length self.now.left < 2 ^ 63 }
     {
-        bytes_behind(&self.bytes, self.start)
+        self.buffer.as_slice()
     }
 
     /// Whether nothing of what is left was looked at yet, so that `first` reads it from the front.
@@ -224,6 +215,6 @@ impl Feed {
     pub fn before(&self) -> u64
         ensures { result ≡ self.now.before }
     {
-        self.gone + self.start as u64
+        self.gone
     }
 }

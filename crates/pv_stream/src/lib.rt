@@ -1,6 +1,7 @@
 //! Values from a stream of bytes that comes in pieces.
 #![tactic(auto)]
 
+mod buffers;
 mod feeds;
 mod laws;
 mod nexts;

@@ -1,6 +1,7 @@
 pub mod Events
 pub mod Fronts
 pub mod Keeping
+pub mod Missing
 pub mod Putting
 pub mod Refusals
 pub mod Sizes

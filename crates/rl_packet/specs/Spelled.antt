@@ -1,9 +1,13 @@
--- What bytes begin with: a value, or values up to the end of a compound, and what stands behind them.
-use Rattle.std.specs.Prelude.{◌≡◌, ℕ, ◌≤◌, List, ◌∷◌, ◌++◌}
-use Rattle.std.specs.List.{concat}
+-- What bytes begin with: a value, or values up to the end of a compound, and what stands behind them; and that no
+-- part of a turn begins them.
+use Rattle.std.specs.Prelude.{◌≡◌, ℕ, ◌≤◌, ◌<◌, ◌^◌, List, ◌∷◌, ◌++◌, map}
+use Rattle.std.specs.List.{concat, AllByRecursion}
 use Rattle.pv_value.specs.Plain.{Plain, plains}
 use Rattle.pv_value.specs.Depth.{depth, deepest}
+use Rattle.pv_words.specs.Words.{number}
 use Rattle.pv_binary.specs.Spells.{Spells, Pieces}
+use Rattle.rl_packet.specs.Packets.{Event, TurnEvent, event_value, aimed_value}
+use Rattle.rl_packet.specs.Wired.{IsEvent, IsTurnEvent}
 
 -- a front of the bytes spells v, which nests at most d deep, and the rest stands behind it
 pub record Begins (d : ℕ) (bytes : List ℕ) (v : Plain) (rest : List ℕ) : Type 0 where
@@ -22,3 +26,21 @@ pub record BeginsAll (d : ℕ) (bytes : List ℕ) (xs : List Plain) (rest : List
 -- the bytes are those of a record's fields, whose label is the symbol of this letter
 abbrev pub opened : ℕ → List ℕ → List ℕ
 opened letter bytes = 0xb4 ∷ 0xb3 ∷ 1 ∷ letter ∷ bytes
+
+-- no number below 2 ^ 63 begins the bytes
+abbrev pub NoNumber : List ℕ → Type 0
+NoNumber bytes = (n : ℕ) (rest : List ℕ) → n < 2 ^ 63 → Begins 0 bytes (number n) rest → ⊥
+
+-- no event that a turn may have begins them
+abbrev pub NoEvent : List ℕ → Type 0
+NoEvent bytes = (e : Event) (rest : List ℕ) → IsEvent e → Begins 62 bytes (event_value e) rest → ⊥
+
+-- no such event at an object
+abbrev pub NoAimed : List ℕ → Type 0
+NoAimed bytes = (e : TurnEvent) (rest : List ℕ) → IsTurnEvent e → Begins 63 bytes (aimed_value e) rest → ⊥
+
+-- no such events at objects, with the end behind them
+abbrev pub NoEvents : List ℕ → Type 0
+NoEvents bytes =
+    (es : List TurnEvent) (rest : List ℕ) → AllByRecursion IsTurnEvent es
+    → BeginsAll 63 bytes (map aimed_value es) rest → ⊥

@@ -1,11 +1,13 @@
 //! The turn that bytes begin with, of which no value is made but those that its events hold.
-ghost use Rattle.std.specs.Prelude.{◌≡◌, ◌<◌, ◌^◌, ◌∷◌, pos, map, IfOk, IfSome};
+ghost use Rattle.std.specs.Prelude.{◌≡◌, ℕ, ◌<◌, ◌^◌, List, ◌∷◌, pos, map};
+ghost use Rattle.std.specs.Prelude.{IfOk, IfSome, IfNone};
 ghost use Rattle.std.specs.List.{AllByRecursion};
 ghost use Rattle.pv_words.specs.Words.{number};
 ghost use Rattle.pv_binary.specs.Reads.{BeginsWith};
-ghost use Rattle.rl_packet.specs.Packets.{event_value, aimed_value, turn_value};
+ghost use Rattle.rl_packet.specs.Packets.{TurnEvent, event_value, aimed_value, turn_value};
 ghost use Rattle.rl_packet.specs.Wired.{IsEvent, IsTurnEvent};
 ghost use Rattle.rl_packet.specs.Spelled.{Begins, BeginsAll, opened};
+ghost use Rattle.rl_packet.specs.Spelled.{NoNumber, NoEvent, NoAimed, NoEvents};
 
 use crate::packets::{Event, Turn, TurnEvent};
 use crate::reading::{is_peer, is_wired};
@@ -18,10 +20,13 @@ use std::alloc::Global;
 /// are three levels more.
 const VALUE_DEPTH: u32 = READ_DEPTH - 3;
 
-/// The turn that the bytes begin with, and how many bytes spell it; none where they begin with
+/// The turn that the bytes begin with, and how many bytes spell it; none only where they begin with
 /// something else, or with a turn that isn't whole: what that is, `read` and `packet_of` tell.
 pub fn turn_in(alloc: Global, bytes: &[u8]) -> Result<Option<(Turn, usize)>, NoMemory>
-    ensures { IfOk result (λ o. IfSome o (λ x. BeginsWith bytes.now x.1 (turn_value x.0))) }
+    ensures turn { IfOk result (λ o. IfSome o (λ x.
+        BeginsWith bytes.now x.1 (turn_value x.0))) }
+    ensures none { IfOk result (λ o. IfNone o ((es : List TurnEvent) (n : ℕ)
+        → AllByRecursion IsTurnEvent es → BeginsWith bytes.now n (turn_value es) → ⊥)) }
 {
     let Some(rest) = behind(bytes, tags::SEQUENCE) else {
         return Ok(None);
@@ -35,7 +40,8 @@ pub fn turn_in(alloc: Global, bytes: &[u8]) -> Result<Option<(Turn, usize)>, NoM
 
 /// The bytes behind this one, where they begin with it.
 fn behind(bytes: &[u8], first: u8) -> Option<&[u8]>
-    ensures { IfSome result (λ rest. bytes.now ≡ first ∷ rest.now) }
+    ensures found { IfSome result (λ rest. bytes.now ≡ first ∷ rest.now) }
+    ensures none { IfNone result ((rest : List ℕ) → bytes.now ≡ first ∷ rest → ⊥) }
 {
     let Some((byte, rest)) = bytes.split_first() else {
         return None;
@@ -48,7 +54,8 @@ fn behind(bytes: &[u8], first: u8) -> Option<&[u8]>
 
 /// The number that an integer is, where it is from 0 to `i64::MAX`.
 fn number_of(n: i128) -> Option<u64>
-    ensures { IfSome result (λ m. (m < 2 ^ 63) × (n ≡ pos m)) }
+    ensures found { IfSome result (λ m. (m < 2 ^ 63) × (n ≡ pos m)) }
+    ensures none { IfNone result ((m : ℕ) → m < 2 ^ 63 → n ≡ pos m → ⊥) }
 {
     if n < 0 || n >= 1 << 63 {
         return None;
@@ -58,7 +65,9 @@ fn number_of(n: i128) -> Option<u64>
 
 /// The number that the bytes begin with, and the bytes behind it.
 fn number_in(bytes: &[u8]) -> Option<(u64, &[u8])>
-    ensures { IfSome result (λ x. (x.0 < 2 ^ 63) × Begins 0 bytes.now (number x.0) x.1.now) }
+    ensures found { IfSome result (λ x.
+        (x.0 < 2 ^ 63) × Begins 0 bytes.now (number x.0) x.1.now) }
+    ensures none { IfNone result (NoNumber bytes.now) }
 {
     let Some(digits) = behind(bytes, tags::INTEGER) else {
         return None;
@@ -78,6 +87,7 @@ fn events_in(alloc: Global, bytes: &[u8]) -> Result<Option<(Vec<TurnEvent>, &[u8
     ensures good { IfOk result (λ o. IfSome o (λ x. AllByRecursion IsTurnEvent x.0.items)) }
     ensures events { IfOk result (λ o. IfSome o (λ x.
         BeginsAll 63 bytes.now (map aimed_value x.0.items) x.1.now)) }
+    ensures none { IfOk result (λ o. IfNone o (NoEvents bytes.now)) }
 {
     let mut events = Vec::with_capacity(alloc, 1)?;
     let mut rest = bytes;
@@ -99,6 +109,7 @@ fn aimed_in(alloc: Global, bytes: &[u8]) -> Result<Option<(TurnEvent, &[u8])>, N
     ensures good { IfOk result (λ o. IfSome o (λ x. IsTurnEvent x.0)) }
     ensures event { IfOk result (λ o. IfSome o (λ x.
         Begins 63 bytes.now (aimed_value x.0) x.1.now)) }
+    ensures none { IfOk result (λ o. IfNone o (NoAimed bytes.now)) }
 {
     let Some(aim) = behind(bytes, tags::SEQUENCE) else {
         return Ok(None);
@@ -117,7 +128,9 @@ fn aimed_in(alloc: Global, bytes: &[u8]) -> Result<Option<(TurnEvent, &[u8])>, N
 
 /// The letter of the record that the bytes begin with, and the bytes of its fields.
 fn letter_in(bytes: &[u8]) -> Option<(u8, &[u8])>
-    ensures { IfSome result (λ x. bytes.now ≡ opened x.0 x.1.now) }
+    ensures found { IfSome result (λ x. bytes.now ≡ opened x.0 x.1.now) }
+    ensures none { IfNone result ((letter : ℕ) (fields : List ℕ)
+        → bytes.now ≡ opened letter fields → ⊥) }
 {
     let Some(label) = behind(bytes, tags::RECORD) else {
         return None;
@@ -139,6 +152,7 @@ fn event_in(alloc: Global, bytes: &[u8]) -> Result<Option<(Event, &[u8])>, NoMem
     ensures good { IfOk result (λ o. IfSome o (λ x. IsEvent x.0)) }
     ensures event { IfOk result (λ o. IfSome o (λ x.
         Begins 62 bytes.now (event_value x.0) x.1.now)) }
+    ensures none { IfOk result (λ o. IfNone o (NoEvent bytes.now)) }
 {
     let Some((letter, fields)) = letter_in(bytes) else {
         return Ok(None);
@@ -157,6 +171,7 @@ fn assertion_in(alloc: Global, bytes: &[u8]) -> Result<Option<(Event, &[u8])>, N
     ensures good { IfOk result (λ o. IfSome o (λ x. IsEvent x.0)) }
     ensures event { IfOk result (λ o. IfSome o (λ x.
         Begins 62 (opened 65 bytes.now) (event_value x.0) x.1.now)) }
+    ensures none { IfOk result (λ o. IfNone o (NoEvent (opened 65 bytes.now))) }
 {
     let Some((value, count)) = read_within(alloc, bytes, VALUE_DEPTH)? else {
         return Ok(None);
@@ -178,6 +193,7 @@ fn retraction_in(bytes: &[u8]) -> Option<(Event, &[u8])>
     ensures good { IfSome result (λ x. IsEvent x.0) }
     ensures event { IfSome result (λ x.
         Begins 62 (opened 82 bytes.now) (event_value x.0) x.1.now) }
+    ensures none { IfNone result (NoEvent (opened 82 bytes.now)) }
 {
     let Some((handle, end)) = number_in(bytes) else {
         return None;
@@ -193,6 +209,7 @@ fn message_in(alloc: Global, bytes: &[u8]) -> Result<Option<(Event, &[u8])>, NoM
     ensures good { IfOk result (λ o. IfSome o (λ x. IsEvent x.0)) }
     ensures event { IfOk result (λ o. IfSome o (λ x.
         Begins 62 (opened 77 bytes.now) (event_value x.0) x.1.now)) }
+    ensures none { IfOk result (λ o. IfNone o (NoEvent (opened 77 bytes.now))) }
 {
     let Some((body, end)) = read_within(alloc, bytes, VALUE_DEPTH)? else {
         return Ok(None);
@@ -211,6 +228,7 @@ fn sync_in(alloc: Global, bytes: &[u8]) -> Result<Option<(Event, &[u8])>, NoMemo
     ensures good { IfOk result (λ o. IfSome o (λ x. IsEvent x.0)) }
     ensures event { IfOk result (λ o. IfSome o (λ x.
         Begins 62 (opened 83 bytes.now) (event_value x.0) x.1.now)) }
+    ensures none { IfOk result (λ o. IfNone o (NoEvent (opened 83 bytes.now))) }
 {
     let Some((peer, end)) = read_within(alloc, bytes, VALUE_DEPTH)? else {
         return Ok(None);

@@ -1,10 +1,13 @@
 //! What a peer has sent, as far as it isn't read.
-ghost use Rattle.std.specs.Prelude.{◌≡◌, ◌≤◌, length, IfOk, IfSome, OnOk, OnErr};
+ghost use Rattle.std.specs.Prelude.{◌≡◌, ◌≤◌, ◌<◌, length, IfOk, IfSome, OnOk, OnErr};
+ghost use Rattle.out_ports.specs.Ports.{Rose, FitsBuffer, given_after, ended_after};
+ghost use Rattle.pv_stream.specs.Takes.{IsTakenBehind};
 ghost use Rattle.rl_stream.specs.Nexts.{IsNext, AllTell};
 ghost use Rattle.rl_stream.specs.Streams.{no_stream, with_bytes, read_off};
 
 use crate::laws::one_next;
 use crate::nexts::{Next, as_packet, turn_next};
+use out_ports::ports::{Source, Took};
 use pv_stream::Feed;
 use pv_value::NoMemory;
 use std::alloc::Global;
@@ -12,8 +15,8 @@ use std::marker::Model;
 
 /// The bytes that one peer has sent, of which the first so many are read.
 ///
-/// Places count from the first byte that was sent, but what is read is let go: with each piece
-/// that comes, all but what is left. A packet that comes bit by bit is looked at once.
+/// Places count from the first byte that was sent, but what is read is let go. A packet that comes
+/// bit by bit is looked at once.
 #[derive(Drop)]
 pub struct Stream {
     feed: Feed,
@@ -80,6 +83,26 @@ impl Stream {
         ensures undone { OnErr result (self.new ≡ self.old) }
     {
         self.feed.push(more)
+    }
+
+    /// A source is asked once, for so many bytes at most, which it writes behind those that are
+    /// there. For want of memory it isn't asked.
+    pub fn take_from<S: Source>(&mut self, source: &mut S, most: usize) -> Result<Took, NoMemory>
+        requires { 0 < most }
+        ensures size { IfOk result (λ t. FitsBuffer t most) }
+        ensures taken { IfOk result (λ t. IsTakenBehind t (S.left source.old) (S.left source.new)
+            self.old.rest self.new.rest) }
+        ensures place { self.new.place ≡ self.old.place }
+        ensures undone { OnErr result ((self.new ≡ self.old) × (source.new ≡ source.old)) }
+        ensures counted { IfOk result (λ t.
+            S.given source.new ≡ given_after t (S.given source.old)) }
+        ensures at_end { IfOk result (λ t.
+            S.ended source.new ≡ ended_after t (S.ended source.old)) }
+        ensures lasting { S.faults source.old ≤ S.faults source.new }
+        ensures cause { IfOk result (λ t. t ≡ Took.Failed
+            → Rose (S.faults source.old) (S.faults source.new)) }
+    {
+        self.feed.take_from(source, most)
     }
 
     /// So many of the bytes are read.

@@ -26,7 +26,7 @@ use Rattle.hub_machine.specs.declared.steps.Reply.TheVariants.{Sent, Ran, Taken}
 use Rattle.hub_laws.specs.Laws.{AreAllowed}
 use Rattle.sc_config.specs.Courses.{Setting, stops, bad, with_step, if_taken, set_up, binds}
 use Rattle.sc_config.specs.Configs.{SetsUp}
-use Rattle.sc_config.specs.Keeping.{IsAt, HasSet}
+use Rattle.sc_config.specs.Keeping.{IsAt, HasSet, was_taken}
 
 -- ---- guards judge as before
 
@@ -89,18 +89,26 @@ at_more c e s now so at may is = record {
 
 -- ---- the course of what sets up
 
+clash : false ≡ true → ⊥
+clash is = cc
+
+taken_so : (r : Reply) → was_taken r ≡ true → r ≡ Taken
+taken_so Taken is = refl
+taken_so r is = absurd (clash is)
+
 module _ (n : ℕ) (e : Step) (c : Setting) (s : State) (at : IsAt c s) (reply : Reply)
     (said : reply ≡ (step s e).reply) where
   by_the_reply : set_up n e c ≡ if_taken n reply (with_step e c)
   by_the_reply = ap (λ r. if_taken n r (with_step e c)) (sym (said ∙ ap (λ t. (step t e).reply) at.state))
 
-  pub taken : (now : State) → SetsUp e → IsAllowed s e → now ≡ (step s e).state → reply ≡ Taken
+  pub taken : (now : State) → SetsUp e → IsAllowed s e → now ≡ (step s e).state → was_taken reply ≡ true
       → HasSet (set_up n e c) now
   taken now so may is_state answer =
-      subst (λ d. HasSet d now) (sym (by_the_reply ∙ ap (λ r. if_taken n r (with_step e c)) answer))
+      subst (λ d. HasSet d now)
+      (sym (by_the_reply ∙ ap (λ r. if_taken n r (with_step e c)) (taken_so reply answer)))
       (at_more c e s now so at may is_state)
 
-  not_taken_by : (r : Reply) → (r ≡ Taken → ⊥) → if_taken n r (with_step e c) ≡ stops (bad n)
+  not_taken_by : (r : Reply) → was_taken r ≡ false → if_taken n r (with_step e c) ≡ stops (bad n)
   not_taken_by Worn not = refl
   not_taken_by Barred not = refl
   not_taken_by Halted not = refl
@@ -111,9 +119,9 @@ module _ (n : ℕ) (e : Step) (c : Setting) (s : State) (at : IsAt c s) (reply :
   not_taken_by Idle not = refl
   not_taken_by (Sent p) not = refl
   not_taken_by Ran not = refl
-  not_taken_by Taken not = absurd (not refl)
+  not_taken_by Taken not = absurd (clash (sym not))
 
-  pub not_taken : (reply ≡ Taken → ⊥) → set_up n e c ≡ stops (bad n)
+  pub not_taken : was_taken reply ≡ false → set_up n e c ≡ stops (bad n)
   not_taken not = by_the_reply ∙ not_taken_by reply not
 
 -- ---- the course of a binding

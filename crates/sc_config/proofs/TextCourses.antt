@@ -29,6 +29,14 @@ begun ds s is = record { allowed = tt; set_up = tt; state = is; schema = ap (λ 
 abbrev pub IsDone : List ℕ → ℕ → Values → State → Type 0
 IsDone text place values s = input.IsDone alone Text text place values (λ c. IsAt c s)
 
+-- what a fault tells is why the text is refused, but for want of memory
+pub by_told : (text : List ℕ) (f g : ConfigFault) (Q : Type 0) → ((f ≡ fault.NoMemory → ⊥) → (f ≡ g) × Q)
+    → (Q → IsRefusedAs text g) → IsRefusedAs text f
+by_told text (fault.Bad k) g Q told stop =
+    let t = told (λ e. cc) in
+    subst (IsRefusedAs text) (sym t.0) (stop t.1)
+by_told text fault.NoMemory g Q told stop = tt
+
 module _ (text : List ℕ) where
   refused : (o : Option Cause) → input.StopsWith alone Text text o → IsRefusedFor text o
   refused None stop = tt
@@ -57,10 +65,8 @@ module _ (text : List ℕ) where
       pub first_at_fault : (f : ConfigFault)
           → ((f ≡ fault.NoMemory → ⊥) → (f ≡ fault.Bad 0) × IsVerdict (text_in (event_of v)) None)
           → IsRefusedAs text f
-      first_at_fault (fault.Bad k) told =
-          let t = told (λ e. cc) in
-          subst (IsRefusedAs text) (sym t.0) (input.first_refused alone Text text values v read on t.1 tt)
-      first_at_fault fault.NoMemory told = tt
+      first_at_fault f told =
+          by_told text f (fault.Bad 0) _ told (λ none. input.first_refused alone Text text values v read on none tt)
 
       pub first_stops : (ds : List Definition) (s : State) → IsVerdict (text_in (event_of v)) (Some ds)
           → IsAt (beginning ds) s → (f : ConfigFault) → StopsAs s (after_value doing 0 (event_of v)) f

@@ -1,7 +1,9 @@
 -- What is promised of each part of a configuration, from where it is. What is promised of a text speaks of none of it.
-use Rattle.std.specs.Prelude.{◌≡◌}
+use Rattle.std.specs.Prelude.{◌≡◌, Bool, true, false}
 use Rattle.std.specs.List.{AllByRecursion}
 use Rattle.hub_machine.specs.State.{State, opening}
+use Rattle.hub_machine.specs.declared.steps.Reply.{Reply}
+use Rattle.hub_machine.specs.declared.steps.Reply.TheVariants as reply
 use Rattle.hub_laws.specs.Laws.{AreAllowed}
 use Rattle.sc_schema.specs.Courses.{GoesTo, StopsFor}
 use Rattle.sc_config.specs.declared.faults.ConfigFault.{ConfigFault}
@@ -27,3 +29,8 @@ SetsAs s part t = (c : Setting) → IsAt c s → HasSet (part c) t
 
 abbrev pub StopsAs : State → (Setting → Course) → ConfigFault → Type 0
 StopsAs s part f = (c : Setting) → IsAt c s → IsStopped (part c) f
+
+-- what sets the server up was taken, where this was answered
+abbrev pub was_taken : Reply → Bool
+was_taken reply.Taken = true
+was_taken answer = false

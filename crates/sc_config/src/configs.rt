@@ -1,11 +1,18 @@
 //! Configurations: what a text sets.
-ghost use Rattle.std.specs.Prelude.{◌≡◌, ◌≢◌, Some, None, IfOk, IfErr};
+ghost use Rattle.std.specs.Prelude.{◌≡◌, ◌≢◌, ◌<◌, ℕ, List, [], Some, None, false, IfOk, IfErr};
+ghost use Rattle.std.specs.Prelude.{IfSome};
+ghost use Rattle.pv_value.specs.Plain.{Plain};
+ghost use Rattle.ps_schema.specs.declared.Definition.{Definition};
+ghost use Rattle.hub_machine.specs.State.{opening};
+ghost use Rattle.sc_events.specs.declared.inputs.Form.{Form};
+ghost use Rattle.sc_events.specs.Readings.{AreReadAs};
+ghost use Rattle.sc_events.specs.SoFar.{AreSoFar, GoOn, left};
 ghost use Rattle.sc_events.specs.Events.{event_of};
 ghost use Rattle.sc_schema.specs.Firsts.{text_in, IsVerdict};
 ghost use Rattle.sc_config.specs.declared.faults.ConfigFault.TheVariants as fault;
 ghost use Rattle.sc_config.specs.Configs.{IsConfigured, IsRefusedAs};
 
-use crate::events::with_value;
+use crate::events::{let_go, with_value};
 use crate::faults::ConfigFault;
 use ds_space::Space;
 use hub_core::Hub;
@@ -13,7 +20,7 @@ use lc_guard::{Guards, Predicate};
 use lc_watch::{Behaviour, Watcher};
 use ps_read::SchemaFault;
 use ps_schema::Schema;
-use pv_value::Value;
+use pv_value::{NoMemory, Value};
 use sc_events::{Form, NextFault, Values, one_reading};
 use sc_schema::{first_schema, no_schema};
 use std::alloc::Global;
@@ -29,6 +36,51 @@ fn schema_of(alloc: Global, first: &Value) -> Result<Schema, ConfigFault>
         Err(SchemaFault::NoMemory) => Err(ConfigFault::NoMemory),
         Err(_) => Err(ConfigFault::Bad(0)),
     }
+}
+
+/// The next value of a text, which is value `place`; none at its end.
+fn next_value(alloc: Global, values: &mut Values, place: u64) -> Result<Option<Value>, ConfigFault>
+    ensures next { IfOk result (λ o. (form : Form) (bytes : List ℕ) (vs : List Plain)
+        → AreSoFar form bytes vs values.old → GoOn form bytes vs o values.new) }
+    ensures stop { IfErr result (λ f. f ≢ fault.NoMemory → (f ≡ fault.Bad place)
+        × ((form : Form) (bytes : List ℕ) (vs : List Plain)
+        → AreSoFar form bytes vs values.old → AreReadAs form bytes vs false)) }
+    ensures shorter { IfOk result (λ o. IfSome o (λ v. left values.new < left values.old)) }
+{
+    match values.next(alloc) {
+        Ok(value) => Ok(value),
+        Err(NextFault::Bad) => Err(ConfigFault::Bad(place)),
+        Err(NextFault::NoMemory) => Err(ConfigFault::NoMemory),
+    }
+}
+
+/// The hub of a text without values.
+fn begun_without<S: Space + Drop, F: Predicate + Drop, G: Behaviour + Drop>(
+    alloc: Global,
+    predicate: F,
+    behaviour: G,
+) -> Result<Hub<S, Guards<F>, Watcher<G>>, NoMemory>
+    ensures { IfOk result (λ hub. hub ≡ opening []) }
+{
+    let guards = Guards::new(no_schema(alloc)?, predicate);
+    Hub::begin(alloc, guards, Watcher::new(behaviour))
+}
+
+/// The hub before the first value of a text is done, which may give the schema by which guards
+/// judge.
+fn begun_by<S: Space + Drop, F: Predicate + Drop, G: Behaviour + Drop>(
+    alloc: Global,
+    first: &Value,
+    predicate: F,
+    behaviour: G,
+) -> Result<Hub<S, Guards<F>, Watcher<G>>, ConfigFault>
+    ensures hub { IfOk result (λ hub. (ds : List Definition)
+        × IsVerdict (text_in (event_of first.now)) (Some ds) × (hub ≡ opening ds)) }
+    ensures stop { IfErr result (λ f. f ≢ fault.NoMemory
+        → (f ≡ fault.Bad 0) × IsVerdict (text_in (event_of first.now)) None) }
+{
+    let guards = Guards::new(schema_of(alloc, first)?, predicate);
+    Ok(Hub::begin(alloc, guards, Watcher::new(behaviour))?)
 }
 
 /// A hub over any body of a dataspace, once the text's events are done; or the first cause for
@@ -47,25 +99,22 @@ pub fn configured<S: Space + Drop, F: Predicate + Drop, G: Behaviour + Drop>(
     // the proof learns here that the text is read on in some way behind a value that stops it
     one_reading();
     let mut values = Values::of(text, Form::Text);
-    let first = match values.next(alloc) {
+    let first = match next_value(alloc, &mut values, 0) {
         Ok(Some(value)) => value,
-        Ok(None) => {
-            let guards = Guards::new(no_schema(alloc)?, predicate);
-            return Ok(Hub::begin(alloc, guards, Watcher::new(behaviour))?);
-        }
-        Err(NextFault::Bad) => return Err(ConfigFault::Bad(0)),
-        Err(NextFault::NoMemory) => return Err(ConfigFault::NoMemory),
+        Ok(None) => return Ok(begun_without(alloc, predicate, behaviour)?),
+        Err(fault) => return Err(fault),
     };
-    let guards = Guards::new(schema_of(alloc, &first)?, predicate);
-    let watcher = Watcher::new(behaviour);
-    let mut hub = with_value(alloc, Hub::begin(alloc, guards, watcher)?, 0, &first)?;
+    let begun = begun_by(alloc, &first, predicate, behaviour)?;
+    let mut hub = with_value(alloc, begun, 0, &first)?;
     let mut place = 1;
     loop {
-        match values.next(alloc) {
+        match next_value(alloc, &mut values, place) {
             Ok(Some(value)) => hub = with_value(alloc, hub, place, &value)?,
             Ok(None) => return Ok(hub),
-            Err(NextFault::Bad) => return Err(ConfigFault::Bad(place)),
-            Err(NextFault::NoMemory) => return Err(ConfigFault::NoMemory),
+            Err(fault) => {
+                let_go(hub);
+                return Err(fault);
+            }
         }
         place += 1;
     }

@@ -30,6 +30,20 @@ by i = doing i.0
 abbrev pub IsDone : Form → List ℕ → ℕ → Values → RunState → Type 0
 IsDone form bytes place values s = input.IsDone by form bytes place values (λ r. IsAt r s)
 
+-- what a fault tells is why the input stops, but for want of memory
+pub by_told : (form : Form) (bytes : List ℕ) (f g : ScriptFault) (Q : Type 0)
+    → ((f ≡ fault.NoMemory → ⊥) → (f ≡ g) × Q) → (Q → StopsAt form bytes g) → StopsAt form bytes f
+by_told form bytes (fault.Bad k) g Q told stop =
+    let t = told (λ e. cc) in
+    subst (StopsAt form bytes) (sym t.0) (stop t.1)
+by_told form bytes (fault.Limit w) g Q told stop =
+    let t = told (λ e. cc) in
+    subst (StopsAt form bytes) (sym t.0) (stop t.1)
+by_told form bytes (fault.Schema k) g Q told stop =
+    let t = told (λ e. cc) in
+    subst (StopsAt form bytes) (sym t.0) (stop t.1)
+by_told form bytes fault.NoMemory g Q told stop = tt
+
 module _ (form : Form) (bytes : List ℕ) where
   -- no value is there
   pub none_there : (s : RunState) → length bytes ≤ most_input → AreReadAs form bytes [] true → IsAt (beginning []) s
@@ -63,16 +77,7 @@ module _ (form : Form) (bytes : List ℕ) where
       pub first_at_fault : (f : ScriptFault)
           → ((f ≡ fault.NoMemory → ⊥) → (f ≡ fault.Schema 0) × IsVerdict (text_in (event_of v)) None)
           → StopsAt form bytes f
-      first_at_fault (fault.Bad k) told =
-          let t = told (λ e. cc) in
-          subst (StopsAt form bytes) (sym t.0) (first_refused t.1)
-      first_at_fault (fault.Limit w) told =
-          let t = told (λ e. cc) in
-          subst (StopsAt form bytes) (sym t.0) (first_refused t.1)
-      first_at_fault (fault.Schema k) told =
-          let t = told (λ e. cc) in
-          subst (StopsAt form bytes) (sym t.0) (first_refused t.1)
-      first_at_fault fault.NoMemory told = tt
+      first_at_fault f told = by_told form bytes f (fault.Schema 0) _ told first_refused
 
       pub first_stops : (ds : List Definition) (s : RunState) → IsVerdict (text_in (event_of v)) (Some ds)
           → IsAt (beginning ds) s → (f : ScriptFault) → StopsAs s (λ N. after_value (doing N) 0 (event_of v)) f

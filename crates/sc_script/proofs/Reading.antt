@@ -30,3 +30,10 @@ reads_no_more (goes r) k st s t h is put = λ more.
     subst (λ b. HasRun (cond b (more r) (goes (with_stream k st r))) t) (sym (ap (is_there k) (sym h.state) ∙ is))
     (put r h)
 reads_no_more (stops c) k st s t h is put = absurd h
+
+-- behind what is sent, the stream is kept or put back
+pub reads_behind : (c : Course) (k : ℕ) (st : StreamState) (s t : RunState) (o : Option StreamState) → HasRun c s
+    → ((r : Running) → IsAt r s → ReadsOn t o st (λ more. read_where k st more r))
+    → ReadsOn t o st (λ more. goes_on (read_where k st more) c)
+reads_behind (goes r) k st s t o h next = next r h
+reads_behind (stops c) k st s t o h next = absurd h

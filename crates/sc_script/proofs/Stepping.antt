@@ -1,6 +1,8 @@
 -- A step of a run, by its reply: the run goes on from what is kept behind it, or sends too much, or binds what is barred.
 use Rattle.std.proofs.Common.{◌≡◌, ℕ, ◌+◌, ◌≤◌, ◌<◌, true, false, [], ◌++◌, refl, sym, ap, ◌∙◌, subst}
-use Rattle.std.proofs.Common.{append-nil, arith, nat_lt, length, if◌then◌else◌, Bool, Option}
+use Rattle.std.proofs.Common.{append-nil, arith, nat_lt, length, if◌then◌else◌, Bool, Option, Result, IfOk, IfErr}
+use Rattle.std.proofs.Common.{inl, inr}
+use Rattle.std.proofs.lemmas.Result.{IfOk-weaker, IfErr-weaker}
 use Rattle.std.proofs.lemmas.Bool.Decides.{nat_tests}
 use Rattle.pv_binary.specs.Written.{written}
 use Rattle.rl_packet.specs.Packets.{packet_value}
@@ -27,7 +29,8 @@ use Rattle.sc_script.specs.Runs.{set_up, binds}
 use Rattle.sc_script.specs.Keeping.{RunState}
 use Rattle.hub_outs.specs.Outs.{sent_of, kept, turning}
 use Rattle.sc_script.specs.Runs.{unless_too_much, sent_size, bound_where, config}
-use Rattle.sc_script.specs.Keeping.{size_of, noted, SetsUp, IsAt, HasRun, IsStopped}
+use Rattle.sc_script.specs.Keeping.{size_of, noted, made, SetsUp, IsAt, HasRun, IsStopped, RunsAs, StopsAs}
+use Rattle.sc_script.specs.Keeping.{IsUnbarred, IsBehind, IsReplyStop}
 use Rattle.sc_script.proofs.Replays.{at_more, bytes_of, sent_size-more}
 use Rattle.hub_outs.specs.Lemmas.Sending.{kept_sent, none_sent}
 
@@ -187,6 +190,21 @@ goes_set_up n e r s now reply at sets may is_state is worn barred is_outs is_siz
     (set_up_by_the_reply n e r s reply at is ∙ none.0 (with_step e r)) (ap packet_in (sym is) ∙ none.1) is_outs
     is_size is_streams
 
+-- what the code makes of a reply is what is promised of the step
+module _ (n : ℕ) (e : Step) (s before : RunState) (reply : Reply) (sets : SetsUp e) (may : IsAllowed s.state e)
+    (is : before ≡ made e s) (answer : reply ≡ (step s.state e).reply) (x : Result RunState ScriptFault) where
+  pub set_up_runs : IfOk x (λ t. (t ≡ before) × IsUnbarred reply) → IfOk x (RunsAs s (λ N. set_up n e))
+  set_up_runs = IfOk-weaker x _ _ (λ t h N d r at.
+      let now : t ≡ made e s = h.0 ∙ is in
+      goes_set_up n e r s t reply at sets may (ap (λ (z : RunState). z.state) now) answer h.1.0 h.1.1
+      (ap (λ (z : RunState). z.outs) now) (ap (λ (z : RunState). z.size) now)
+      (ap (λ (z : RunState). z.streams) now))
+
+  pub set_up_stops : IfErr x (λ f. (r : Running) → IsStopped (unless_barred n reply r) f)
+      → IfErr x (StopsAs s (λ N. set_up n e))
+  set_up_stops = IfErr-weaker x _ _ (λ f h N d r at.
+      subst (λ c. IsStopped c f) (sym (set_up_by_the_reply n e r s reply at answer)) (h (with_step e r)))
+
 -- ---- a binding
 
 -- whether the names of all its guards are known there
@@ -222,3 +240,35 @@ stops_for (fault.Schema k) n course told stop =
     let t = told (λ e. cc) in
     subst (IsStopped course) (sym t.0) (stop t.1)
 stops_for fault.NoMemory n course told stop = tt
+
+-- ---- what the code makes of a reply
+
+module _ (e : Step) (s before : RunState) (reply : Reply) (a : Option ℕ) (may : IsAllowed s.state e)
+    (is : before ≡ made e s) (answer : reply ≡ (step s.state e).reply) (who : a ≡ turning e) where
+  goes_behind : (t : RunState) → IsBehind a reply before t → (r : Running) → IsAt r s → HasRun (stepped e r) t
+  goes_behind t (inl h) r at =
+      let now : t ≡ made e s = h.1 ∙ is in
+      goes_quietly e r s t at may (ap (λ (z : RunState). z.state) now) reply answer
+      (quiet reply h.0.0 h.0.1 h.0.2) (ap (λ (z : RunState). z.outs) now) (ap (λ (z : RunState). z.size) now)
+      (ap (λ (z : RunState). z.streams) now)
+  goes_behind t (inr h) r at =
+      goes_noted e r s before t h.0 a at may h.2 who (ap (λ (z : RunState). z.state) is)
+      (ap (λ (z : RunState). z.outs) is) (ap (λ (z : RunState). z.size) is) (ap (λ (z : RunState). z.streams) is)
+      (sym answer ∙ h.1) h.3
+
+  stops_behind : (f : ScriptFault) → IsReplyStop reply before f → (r : Running) → IsAt r s
+      → IsStopped (stepped e r) f
+  stops_behind f (inl h) r at =
+      subst (IsStopped (stepped e r)) (sym h.1) (by_the_reply e r s Worn at (sym h.0 ∙ answer))
+  stops_behind f (inr (inl h)) r at =
+      subst (IsStopped (stepped e r)) (sym h.1) (by_the_reply e r s Full at (sym h.0 ∙ answer))
+  stops_behind f (inr (inr h)) r at =
+      stops_for f (before.size + size_of h.0) (stepped e r) h.2 (λ many. stops_sending e r s h.0 at (sym answer ∙ h.1)
+      (subst (λ (z : RunState). most_sent < z.size + size_of h.0) is many))
+
+  module _ (x : Result RunState ScriptFault) where
+    pub step_runs : IfOk x (IsBehind a reply before) → IfOk x (RunsAs s (λ N. stepped e))
+    step_runs = IfOk-weaker x _ _ (λ t h N d r at. goes_behind t h r at)
+
+    pub step_stops : IfErr x (IsReplyStop reply before) → IfErr x (StopsAs s (λ N. stepped e))
+    step_stops = IfErr-weaker x _ _ (λ f h N d r at. stops_behind f h r at)

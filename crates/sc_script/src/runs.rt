@@ -1,20 +1,25 @@
 //! Runs of scripts, over any body of a dataspace.
 ghost use Rattle.std.specs.Prelude.{◌≡◌, ◌≢◌, ◌+◌, ◌-◌, ◌^◌, ◌<◌, ◌≤◌, ℕ, min};
-ghost use Rattle.std.specs.Prelude.{IfOk, IfErr, IfSome};
+ghost use Rattle.std.specs.Prelude.{IfOk, IfErr, IfSome, List};
 ghost use Rattle.rl_stream.specs.Nexts.{Decider, Decides};
-ghost use Rattle.hub_machine.specs.Machine.{IsAllowed};
+ghost use Rattle.hub_machine.specs.Machine.{IsAllowed, step as step_of};
 ghost use Rattle.hub_machine.specs.declared.steps.Step.TheVariants as steps;
 ghost use Rattle.hub_outs.specs.Outs.{turning};
 ghost use Rattle.sr_caveat.specs.Caps.{IsSound};
+ghost use Rattle.rl_packet.specs.declared.packets.Packet.TheVariants as packets;
 ghost use Rattle.sc_events.specs.Events.{event_of, IsSoundEvent};
+ghost use Rattle.sc_events.specs.declared.events.ScriptEvent.TheVariants as events;
 ghost use Rattle.sc_script.specs.Limits.{most_sent};
 ghost use Rattle.sc_script.specs.declared.faults.ScriptFault.TheVariants as fault;
 ghost use Rattle.sc_script.specs.Runs.{Running, Course, goes, beginning, stepped, turned, drained};
 ghost use Rattle.sc_script.specs.Runs.{with_stream, with_no_packet, packets_read, bytes_come};
 ghost use Rattle.sc_script.specs.Runs.{set_up, binds, was_opened, may_turn, with_packet};
+ghost use Rattle.sc_script.specs.Runs.{read_where, unless_barred};
 ghost use Rattle.sc_schema.specs.Courses.{after_value};
 ghost use Rattle.sc_script.specs.Runs.{after_event, doing};
 ghost use Rattle.sc_script.specs.Keeping.{size_of, noted, SetsUp, IsAt, RunsAs, StopsAs, ReadsOn};
+ghost use Rattle.sc_script.specs.Keeping.{made, fault_of, IsUnbarred, IsBehind, IsReplyStop};
+ghost use Rattle.sc_script.specs.Keeping.{IsStopped};
 
 use crate::faults::ScriptFault;
 use ac_world::BEFORE_CONNECTIONS;
@@ -25,7 +30,7 @@ use hub_outs::{Outs, turning};
 use lc_guard::all_known;
 use lc_watch::Behaves;
 use pv_canon::canonical_is_exact;
-use pv_value::{NoMemory, Value};
+use pv_value::{Blob, NoMemory, Value};
 use rl_packet::{Packet, Turn, packet_size};
 use rl_stream::{Next, Stream};
 use sc_events::{ScriptEvent, event_of};
@@ -79,7 +84,23 @@ fn size_of(packet: &Packet) -> u64
     packet_size(packet)
 }
 
+/// The fault for which a connection ends, where what is next in its stream is bad.
+fn fault_of(next: Next) -> Option<Fault>
+    ensures { result ≡ fault_of next }
+{
+    match next {
+        Next::BadBytes(number, place) => Some(Fault::BadBytes(number, place)),
+        Next::BadPacket => Some(Fault::BadPacket),
+        _ => None,
+    }
+}
+
 impl<S: Space + Drop, J: Judge + Drop, B: Behaves + Drop> Run<S, J, B> {
+    /// What a run holds is let go here: a world has many parts, and the proof of each function in
+    /// which one ends goes through all of them.
+    #[inline(never)]
+    pub(crate) fn let_go(self) {}
+
     /// Nothing is done yet. Guards judge by what is handed in, and watchers act by it.
     pub(crate) fn begin(alloc: Global, judge: J, behaves: B) -> Result<Run<S, J, B>, NoMemory>
         ensures { IfOk result (IsAt (beginning (J.schema judge))) }
@@ -96,7 +117,8 @@ impl<S: Space + Drop, J: Judge + Drop, B: Behaves + Drop> Run<S, J, B> {
     /// its bytes count.
     #[inline(always)]
     fn note(self, actor: Option<u32>, packet: Packet) -> Result<Run<S, J, B>, ScriptFault>
-        ensures run { IfOk result (λ run. run ≡ noted actor packet self) }
+        ensures run { IfOk result (λ run. (run ≡ noted actor packet self)
+            × (run.size ≤ most_sent)) }
         ensures stop { IfErr result (λ f. f ≢ fault.NoMemory
             → (f ≡ fault.Limit 4) × (most_sent < self.size + size_of packet)) }
     {
@@ -119,12 +141,10 @@ impl<S: Space + Drop, J: Judge + Drop, B: Behaves + Drop> Run<S, J, B> {
         })
     }
 
-    /// Event `place` binds a reference or makes a watcher: it is bad where that is barred.
-    fn set_up(self, alloc: Global, place: u64, event: Step) -> Result<Run<S, J, B>, ScriptFault>
-        requires allowed { IsAllowed self.state event }
-        requires sets_up { SetsUp event }
-        ensures run { IfOk result (RunsAs self (λ N. set_up place event)) }
-        ensures stop { IfErr result (StopsAs self (λ N. set_up place event)) }
+    /// A step is made. What it sends isn't noted.
+    fn made(self, alloc: Global, event: Step) -> Result<(Run<S, J, B>, Reply), NoMemory>
+        ensures run { IfOk result (λ done. done.0 ≡ made event self) }
+        ensures reply { IfOk result (λ done. done.1 ≡ (step_of self.state event).reply) }
     {
         let Run {
             hub,
@@ -133,16 +153,45 @@ impl<S: Space + Drop, J: Judge + Drop, B: Behaves + Drop> Run<S, J, B> {
             streams,
         } = self;
         let (hub, reply) = hub.step(alloc, event)?;
-        match reply {
-            Reply::Worn => Err(ScriptFault::Limit(5)),
-            Reply::Barred => Err(ScriptFault::Bad(place)),
-            _ => Ok(Run {
+        Ok((
+            Run {
                 hub,
                 outs,
                 size,
                 streams,
-            }),
+            },
+            reply,
+        ))
+    }
+
+    /// The step of event `place` was answered so: it is bad where it was barred.
+    fn set_up_by(self, place: u64, reply: &Reply) -> Result<Run<S, J, B>, ScriptFault>
+        ensures run { IfOk result (λ run. (run ≡ self) × IsUnbarred reply.now) }
+        ensures stop { IfErr result (λ f. (r : Running)
+            → IsStopped (unless_barred place reply.now r) f) }
+    {
+        match reply {
+            Reply::Worn => {
+                self.let_go();
+                Err(ScriptFault::Limit(5))
+            }
+            Reply::Barred => {
+                self.let_go();
+                Err(ScriptFault::Bad(place))
+            }
+            _ => Ok(self),
         }
+    }
+
+    /// Event `place` binds a reference or makes a watcher: it is bad where that is barred.
+    fn set_up(self, alloc: Global, place: u64, event: Step) -> Result<Run<S, J, B>, ScriptFault>
+        requires allowed { IsAllowed self.state event }
+        requires sets_up { SetsUp event }
+        ensures run { IfOk result (RunsAs self (λ N. set_up place event)) }
+        ensures stop { IfErr result (StopsAs self (λ N. set_up place event)) }
+    {
+        let (run, reply) = self.made(alloc, event)?;
+        run.set_up_by(place, &reply)
     }
 
     /// Event `place` binds a reference. The names of its guards are looked at first.
@@ -152,9 +201,30 @@ impl<S: Space + Drop, J: Judge + Drop, B: Behaves + Drop> Run<S, J, B> {
         ensures stop { IfErr result (StopsAs self (λ N. binds place binding)) }
     {
         if !all_known(self.hub.judge(), binding.cap.caveats.as_slice()) {
+            self.let_go();
             return Err(ScriptFault::Schema(place));
         }
         self.set_up(alloc, place, Step::Bind(binding))
+    }
+
+    /// A step was answered so: what it sent is noted.
+    #[inline(always)]
+    fn replied(self, actor: Option<u32>, reply: Reply) -> Result<Run<S, J, B>, ScriptFault>
+        ensures run { IfOk result (IsBehind actor reply self) }
+        ensures stop { IfErr result (IsReplyStop reply self) }
+    {
+        match reply {
+            Reply::Worn => {
+                self.let_go();
+                Err(ScriptFault::Limit(5))
+            }
+            Reply::Full => {
+                self.let_go();
+                Err(ScriptFault::Limit(2))
+            }
+            Reply::Sent(packet) => self.note(actor, packet),
+            _ => Ok(self),
+        }
     }
 
     /// A step, whose condition is seen to.
@@ -165,30 +235,8 @@ impl<S: Space + Drop, J: Judge + Drop, B: Behaves + Drop> Run<S, J, B> {
         ensures stop { IfErr result (StopsAs self (λ N. stepped event)) }
     {
         let actor = turning(&event);
-        let Run {
-            hub,
-            outs,
-            size,
-            streams,
-        } = self;
-        let (hub, reply) = hub.step(alloc, event)?;
-        let run = Run {
-            hub,
-            outs,
-            size,
-            streams,
-        };
-        match reply {
-            Reply::Worn => Err(ScriptFault::Limit(5)),
-            Reply::Full => Err(ScriptFault::Limit(2)),
-            Reply::Sent(packet) => {
-                let run = run.note(actor, packet)?;
-                // the proof learns here that a run sends no more than it may
-                let _ = &run.size;
-                Ok(run)
-            }
-            _ => Ok(run),
-        }
+        let (run, reply) = self.made(alloc, event)?;
+        run.replied(actor, reply)
     }
 
     /// A turn of an actor.
@@ -257,15 +305,68 @@ impl<S: Space + Drop, J: Judge + Drop, B: Behaves + Drop> Run<S, J, B> {
         ensures run { IfOk result (RunsAs self (λ N. with_no_packet connection next stream)) }
         ensures stop { IfErr result (StopsAs self (λ N. with_no_packet connection next stream)) }
     {
+        let bad = fault_of(next);
         let run = self.with_stream(connection, stream)?;
-        match next {
-            Next::BadBytes(number, place) => {
-                let fault = Fault::BadBytes(number, place);
-                run.step(alloc, Step::Bad(connection, fault))
-            }
-            Next::BadPacket => run.step(alloc, Step::Bad(connection, Fault::BadPacket)),
-            _ => Ok(run),
+        match bad {
+            Some(fault) => run.step(alloc, Step::Bad(connection, fault)),
+            None => Ok(run),
         }
+    }
+
+    /// A connection's stream is kept where the connection is still there, and else put back.
+    #[inline(always)]
+    fn read_where(
+        self,
+        connection: u32,
+        stream: Stream,
+    ) -> Result<(Run<S, J, B>, Option<Stream>), NoMemory>
+        ensures run { IfOk result (λ done. (N : Decider) → Decides N → (r : Running) → IsAt r self
+            → ReadsOn done.0 done.1 stream (λ more. read_where connection stream more r)) }
+        ensures left { IfOk result (λ done. IfSome done.1 (λ left. left ≡ stream)) }
+    {
+        if self.hub.live(connection) {
+            return Ok((self, Some(stream)));
+        }
+        Ok((self.with_stream(connection, stream)?, None))
+    }
+
+    /// A turn of a connection, whose stream is put back where it isn't there behind it.
+    #[inline(always)]
+    fn turn_sent(
+        self,
+        alloc: Global,
+        connection: u32,
+        turn: Turn,
+        stream: Stream,
+    ) -> Result<(Run<S, J, B>, Option<Stream>), ScriptFault>
+        ensures run { IfOk result (λ done. (N : Decider) → Decides N → (r : Running) → IsAt r self
+            → ReadsOn done.0 done.1 stream
+            (λ more. with_packet connection (packets.Turn turn) stream more r)) }
+        ensures left { IfOk result (λ done. IfSome done.1 (λ left. left ≡ stream)) }
+        ensures stop { IfErr result (λ f. (more : Running → Course)
+            → StopsAs self (λ N. with_packet connection (packets.Turn turn) stream more) f) }
+    {
+        let run = self.send(alloc, connection, turn)?;
+        Ok(run.read_where(connection, stream)?)
+    }
+
+    /// A connection sent an error: it ends, and its stream is put back.
+    fn error_sent(
+        self,
+        alloc: Global,
+        connection: u32,
+        stream: Stream,
+    ) -> Result<(Run<S, J, B>, Option<Stream>), ScriptFault>
+        ensures run { IfOk result (λ done. (N : Decider) → Decides N → (r : Running) → IsAt r self
+            → ReadsOn done.0 done.1 stream
+            (λ more. stepped (steps.Close connection) (with_stream connection stream r))) }
+        ensures left { IfOk result (λ done. IfSome done.1 (λ left. left ≡ stream)) }
+        ensures stop { IfErr result (λ f. (more : Running → Course)
+            → StopsAs self (λ N r. stepped (steps.Close connection)
+            (with_stream connection stream r)) f) }
+    {
+        let run = self.with_stream(connection, stream)?;
+        Ok((run.step(alloc, Step::Close(connection))?, None))
     }
 
     /// A packet of a connection. The stream behind it is put back where no more is read.
@@ -285,17 +386,8 @@ impl<S: Space + Drop, J: Judge + Drop, B: Behaves + Drop> Run<S, J, B> {
             → StopsAs self (λ N. with_packet connection packet stream more) f) }
     {
         match packet {
-            Packet::Turn(turn) => {
-                let run = self.send(alloc, connection, turn)?;
-                if run.hub.live(connection) {
-                    return Ok((run, Some(stream)));
-                }
-                Ok((run.with_stream(connection, stream)?, None))
-            }
-            Packet::Error(_, _) => {
-                let run = self.with_stream(connection, stream)?;
-                Ok((run.step(alloc, Step::Close(connection))?, None))
-            }
+            Packet::Turn(turn) => self.turn_sent(alloc, connection, turn, stream),
+            Packet::Error(_, _) => self.error_sent(alloc, connection, stream),
             Packet::Nop | Packet::Extension(_) => Ok((self, Some(stream))),
         }
     }
@@ -376,6 +468,74 @@ impl<S: Space + Drop, J: Judge + Drop, B: Behaves + Drop> Run<S, J, B> {
         actor <= BEFORE_CONNECTIONS || self.was_opened(actor - BEFORE_CONNECTIONS)
     }
 
+    /// Event `place` brings bytes of a connection: it is bad where none was opened by this number.
+    #[inline(always)]
+    fn opened_bytes(
+        self,
+        alloc: Global,
+        place: u64,
+        connection: u32,
+        sent: Blob,
+    ) -> Result<Run<S, J, B>, ScriptFault>
+        ensures run { IfOk result
+            (RunsAs self (λ N. after_event N place (events.Bytes connection sent))) }
+        ensures stop { IfErr result
+            (StopsAs self (λ N. after_event N place (events.Bytes connection sent))) }
+    {
+        if !self.was_opened(connection) {
+            self.let_go();
+            return Err(ScriptFault::Bad(place));
+        }
+        self.bytes(alloc, connection, sent.as_slice())
+    }
+
+    /// Event `place` ends a connection: it is bad where none was opened by this number.
+    #[inline(always)]
+    fn opened_close(
+        self,
+        alloc: Global,
+        place: u64,
+        connection: u32,
+    ) -> Result<Run<S, J, B>, ScriptFault>
+        ensures run { IfOk result
+            (RunsAs self (λ N. after_event N place (events.Close connection))) }
+        ensures stop { IfErr result
+            (StopsAs self (λ N. after_event N place (events.Close connection))) }
+    {
+        if !self.was_opened(connection) {
+            self.let_go();
+            return Err(ScriptFault::Bad(place));
+        }
+        self.step(alloc, Step::Close(connection))
+    }
+
+    /// Event `place` asks an actor for a turn: it is bad where that may not be asked.
+    #[inline(always)]
+    fn asked_turn(self, alloc: Global, place: u64, actor: u32) -> Result<Run<S, J, B>, ScriptFault>
+        ensures run { IfOk result (RunsAs self (λ N. after_event N place (events.Turn actor))) }
+        ensures stop { IfErr result (StopsAs self (λ N. after_event N place (events.Turn actor))) }
+    {
+        if !self.may_turn(actor) {
+            self.let_go();
+            return Err(ScriptFault::Bad(place));
+        }
+        self.turn(alloc, actor)
+    }
+
+    /// Event `place` gives a schema, whatever its text is: only the first one may.
+    fn schema_at(self, place: u64) -> Result<Run<S, J, B>, ScriptFault>
+        ensures run { IfOk result (λ run. (text : List ℕ)
+            → RunsAs self (λ N. after_event N place (events.Schema text)) run) }
+        ensures stop { IfErr result (λ f. (text : List ℕ)
+            → StopsAs self (λ N. after_event N place (events.Schema text)) f) }
+    {
+        if place == 0 {
+            return Ok(self);
+        }
+        self.let_go();
+        Err(ScriptFault::Bad(place))
+    }
+
     /// Event `place` of a script.
     #[inline(always)]
     fn event(
@@ -392,17 +552,17 @@ impl<S: Space + Drop, J: Judge + Drop, B: Behaves + Drop> Run<S, J, B> {
             ScriptEvent::Bind(binding) => self.bind(alloc, place, binding),
             ScriptEvent::Watch(watched) => self.set_up(alloc, place, Step::Watch(watched)),
             ScriptEvent::Open(space) => self.step(alloc, Step::Arrive(space)),
-            ScriptEvent::Bytes(connection, bytes) if self.was_opened(connection) => {
-                self.bytes(alloc, connection, bytes.as_slice())
+            ScriptEvent::Bytes(connection, bytes) => {
+                self.opened_bytes(alloc, place, connection, bytes)
             }
-            ScriptEvent::Close(connection) if self.was_opened(connection) => {
-                self.step(alloc, Step::Close(connection))
-            }
-            ScriptEvent::Turn(actor) if self.may_turn(actor) => self.turn(alloc, actor),
+            ScriptEvent::Close(connection) => self.opened_close(alloc, place, connection),
+            ScriptEvent::Turn(actor) => self.asked_turn(alloc, place, actor),
             ScriptEvent::Drain(turns) => self.drain(alloc, turns),
-            ScriptEvent::LongDrain => Err(ScriptFault::Limit(3)),
-            ScriptEvent::Schema(_) if place == 0 => Ok(self),
-            _ => Err(ScriptFault::Bad(place)),
+            ScriptEvent::LongDrain => {
+                self.let_go();
+                Err(ScriptFault::Limit(3))
+            }
+            ScriptEvent::Schema(_) => self.schema_at(place),
         }
     }
 
@@ -420,7 +580,10 @@ impl<S: Space + Drop, J: Judge + Drop, B: Behaves + Drop> Run<S, J, B> {
     {
         match event_of(alloc, value)? {
             Some(event) => self.event(alloc, place, event),
-            None => Err(ScriptFault::Bad(place)),
+            None => {
+                self.let_go();
+                Err(ScriptFault::Bad(place))
+            }
         }
     }
 }

@@ -53,6 +53,43 @@ fn list_value(alloc: Global, values: Vec<Value>) -> Result<Value, NoMemory>
     Ok(Value::sequence(Items::from_vec(alloc, values)?))
 }
 
+/// `<word [x ..]>`.
+#[inline(never)]
+fn with_list(alloc: Global, word: &str, values: Vec<Value>) -> Result<Value, NoMemory>
+    ensures { IfOk result (λ v. v ≡ with_one word.now (sequence (plains values.items))) }
+{
+    with_one(alloc, word, list_value(alloc, values)?)
+}
+
+/// `<rec label [x ..]>`.
+#[inline(never)]
+fn record_value(alloc: Global, label: &Value, values: Vec<Value>) -> Result<Value, NoMemory>
+    ensures { IfOk result (λ v. v
+        ≡ with_two (codes "rec") label.now (sequence (plains values.items))) }
+{
+    let list = list_value(alloc, values)?;
+    with_two(alloc, "rec", label.copy()?, list)
+}
+
+/// `<attenuate t [caveat ..]>`.
+#[inline(never)]
+fn attenuate_value(alloc: Global, inside: Value, behind: Vec<Value>) -> Result<Value, NoMemory>
+    ensures { IfOk result (λ v. v
+        ≡ with_two (codes "attenuate") inside (sequence (plains behind.items))) }
+{
+    let list = list_value(alloc, behind)?;
+    with_two(alloc, "attenuate", inside, list)
+}
+
+/// `<dict {k: x ..}>`.
+#[inline(never)]
+fn dictionary_value(alloc: Global, keys: &Entries, values: Vec<Value>) -> Result<Value, NoMemory>
+    ensures { IfOk result (λ v. v ≡ with_one (codes "dict")
+        (dictionary (paired_with (keys_of keys.now) (plains values.items)))) }
+{
+    with_one(alloc, "dict", dictionary_with(alloc, keys, &values)?)
+}
+
 /// The dictionary of the keys with these values, as far as both go.
 #[inline(never)]
 pub fn dictionary_with(alloc: Global, keys: &Entries, values: &[Value]) -> Result<Value, NoMemory>
@@ -113,24 +150,15 @@ fn pattern_value(alloc: Global, pattern: &CPat) -> Result<Value, NoMemory>
         PatternForm::Discard => discard_value(alloc),
         PatternForm::OfKind(kind) => kind_value(alloc, *kind),
         PatternForm::Bind(inside) => with_one(alloc, "bind", pattern_value(alloc, inside)?),
-        PatternForm::And(patterns) => {
-            let list = list_value(alloc, pattern_values(alloc, patterns)?)?;
-            with_one(alloc, "and", list)
-        }
+        PatternForm::And(patterns) => with_list(alloc, "and", pattern_values(alloc, patterns)?),
         PatternForm::Not(inside) => with_one(alloc, "not", pattern_value(alloc, inside)?),
         PatternForm::Lit(literal) => with_one(alloc, "lit", literal.copy()?),
         PatternForm::Rec(label, patterns) => {
-            let list = list_value(alloc, pattern_values(alloc, patterns)?)?;
-            with_two(alloc, "rec", label.copy()?, list)
+            record_value(alloc, label, pattern_values(alloc, patterns)?)
         }
-        PatternForm::Arr(patterns) => {
-            let list = list_value(alloc, pattern_values(alloc, patterns)?)?;
-            with_one(alloc, "arr", list)
-        }
+        PatternForm::Arr(patterns) => with_list(alloc, "arr", pattern_values(alloc, patterns)?),
         PatternForm::Dict(keys, patterns) => {
-            let values = pattern_values(alloc, patterns)?;
-            let dictionary = dictionary_with(alloc, keys, &values)?;
-            with_one(alloc, "dict", dictionary)
+            dictionary_value(alloc, keys, pattern_values(alloc, patterns)?)
         }
     }
 }
@@ -154,23 +182,16 @@ fn template_value(alloc: Global, template: &Tmpl) -> Result<Value, NoMemory>
     match &template.form {
         TemplateForm::Attenuate(inside, caveats) => {
             let inside = template_value(alloc, inside)?;
-            let list = list_value(alloc, caveat_values(alloc, caveats)?)?;
-            with_two(alloc, "attenuate", inside, list)
+            attenuate_value(alloc, inside, caveat_values(alloc, caveats)?)
         }
         TemplateForm::Ref(n) => with_one(alloc, "ref", number(*n)),
         TemplateForm::Lit(literal) => with_one(alloc, "lit", literal.copy()?),
         TemplateForm::Rec(label, templates) => {
-            let list = list_value(alloc, template_values(alloc, templates)?)?;
-            with_two(alloc, "rec", label.copy()?, list)
+            record_value(alloc, label, template_values(alloc, templates)?)
         }
-        TemplateForm::Arr(templates) => {
-            let list = list_value(alloc, template_values(alloc, templates)?)?;
-            with_one(alloc, "arr", list)
-        }
+        TemplateForm::Arr(templates) => with_list(alloc, "arr", template_values(alloc, templates)?),
         TemplateForm::Dict(keys, templates) => {
-            let values = template_values(alloc, templates)?;
-            let dictionary = dictionary_with(alloc, keys, &values)?;
-            with_one(alloc, "dict", dictionary)
+            dictionary_value(alloc, keys, template_values(alloc, templates)?)
         }
     }
 }
@@ -194,10 +215,7 @@ fn caveat_value(alloc: Global, caveat: &Caveat) -> Result<Value, NoMemory>
 {
     match &*caveat.rule {
         Rule::Rewrite(rewrite) => rewrite_value(alloc, rewrite),
-        Rule::Or(rewrites) => {
-            let list = list_value(alloc, rewrite_values(alloc, rewrites)?)?;
-            with_one(alloc, "or", list)
-        }
+        Rule::Or(rewrites) => with_list(alloc, "or", rewrite_values(alloc, rewrites)?),
         Rule::Reject(pattern) => with_one(alloc, "reject", pattern_value(alloc, pattern)?),
         Rule::Guard(name) => with_one(alloc, "guard", Value::symbol(name.copy()?)),
     }

@@ -31,7 +31,8 @@ pub struct GateDesk<'g, T: Replayed> {
     ghost first: { (view pass).name ≡ 0 },
 }
 
-/// That the hub was told that no connection is to come any more: [`GateDesk::stop`] alone makes one.
+/// That the hub was told that no connection is to come any more: [`GateDesk::stop`] alone makes
+/// one.
 #[derive(Drop)]
 pub struct Stopped {
     _told: (),

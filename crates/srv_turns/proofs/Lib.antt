@@ -5,4 +5,5 @@ pub mod Ending
 pub mod Dues
 pub mod Reading
 pub mod Taking
+pub mod Coming
 pub mod Writing

@@ -1,6 +1,8 @@
 -- How far a reader is, as its parts promise it to one another. What is promised of a session speaks of none of it.
-use Rattle.std.specs.Prelude.{◌≡◌, ◌⊎◌, ℕ, List, ◌∷◌, ◌++◌, length, map, Bool, true, false, Option, None, Some, ◌==◌}
-use Rattle.std.specs.Prelude.{if◌then◌else◌}
+use Rattle.std.specs.Prelude.{◌≡◌, ◌⊎◌, ℕ, ◌+◌, List, ◌∷◌, ◌++◌, length, map, Bool, true, false, Option, None, Some}
+use Rattle.std.specs.Prelude.{◌==◌, if◌then◌else◌}
+use Rattle.out_ports.specs.declared.ports.Took.{Took}
+use Rattle.out_ports.specs.declared.ports.Took.TheVariants as took
 use Rattle.pv_binary.specs.OneOfThree.{AreBytes}
 use Rattle.rl_packet.specs.declared.packets.TurnEvent.{TurnEvent}
 use Rattle.rl_packet.specs.declared.packets.Packet.{Packet}
@@ -52,6 +54,12 @@ is_of_link x = false
 -- how it ends where its link ends and this is left
 abbrev pub link_end : StreamState → ReaderEnd
 link_end st = if length st.rest == 0 then end.Clean else end.Cut
+
+-- how many bytes were taken in all, after one take more
+abbrev pub taken_after : Took → ℕ → ℕ
+taken_after (took.Some n) before = before + n
+taken_after took.End before = before
+taken_after took.Failed before = before
 
 -- what a packet tells it
 abbrev pub said : Packet → Heard

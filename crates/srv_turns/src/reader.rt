@@ -1,6 +1,6 @@
 //! The reader of a connection, which commits what its peer sends.
 ghost use Rattle.std.specs.Prelude.{◌≡◌, ◌≤◌, ℕ, List, ◌++◌, Some, true, false};
-ghost use Rattle.std.specs.Prelude.{[], length, IfOk, IfSome, IfNone};
+ghost use Rattle.std.specs.Prelude.{[], length, IfSome, IfNone};
 ghost use Rattle.out_ports.specs.Ports.{Rose};
 ghost use Rattle.rl_stream.specs.declared.nexts.Next.TheVariants as next;
 ghost use Rattle.rl_stream.specs.Nexts.{IsNext};
@@ -13,7 +13,7 @@ ghost use Rattle.srv_turns.specs.Keeping.{end_of, after_turn, end_at, said, is_o
 ghost use Rattle.srv_turns.specs.Keeping.{Closes, IsRefusal, Sends, IsWaiting, ReadsOn};
 
 use crate::committing::Turns;
-use crate::receiving::{PIECE, Received};
+use crate::receiving::Received;
 use crate::rounds::round;
 use crate::rows::Row;
 use hub_machine::{Fault, Reply, Step};
@@ -229,12 +229,10 @@ fn take<Rt: Wait, R: Incoming, T: Turns>(
     rt: &Rt,
     connection: u32,
     link: &mut R,
-    buffer: &mut [u8],
     received: &mut Received,
     row: &mut Row,
     turns: &mut T,
 ) -> Option<ReaderEnd>
-    requires room { length buffer.old ≡ 65536 }
     requires waits { IsWaiting received.old.stream }
     ensures reads { (b : List ℕ) (before : List Pair)
         → IsReading connection b received.old.stream before (T.pairs turns.old)
@@ -255,17 +253,16 @@ fn take<Rt: Wait, R: Incoming, T: Turns>(
     if room == 0 {
         return Some(close(rt, connection, ReaderEnd::Spent, row, turns));
     }
-    let piece = &mut buffer[..room];
-    match link.take(piece) {
-        Took::Some(n) => match received.add(&piece[..n]) {
-            Ok(()) => None,
-            Err(NoMemory) => Some(ReaderEnd::NoMemory),
+    match received.take_from(link) {
+        Ok(took) => match took {
+            Took::Some(_) => None,
+            Took::End => {
+                let end = received.end();
+                Some(close(rt, connection, end, row, turns))
+            }
+            Took::Failed => Some(close(rt, connection, ReaderEnd::ReadFault, row, turns)),
         },
-        Took::End => {
-            let end = received.end();
-            Some(close(rt, connection, end, row, turns))
-        }
-        Took::Failed => Some(close(rt, connection, ReaderEnd::ReadFault, row, turns)),
+        Err(NoMemory) => Some(ReaderEnd::NoMemory),
     }
 }
 
@@ -279,15 +276,6 @@ fn settle<R: Incoming>(link: &mut R, received: &Received)
     if received.has_read() {
         link.settle();
     }
-}
-
-/// What a reader begins with: a buffer for a piece, and a row.
-fn begin(alloc: Global) -> Result<(Vec<u8>, Row), NoMemory>
-    ensures { IfOk result (λ both. length both.0.items ≡ 65536) }
-{
-    let buffer = vec![in alloc; 0; PIECE]?;
-    let row = Row::new(alloc)?;
-    Ok((buffer, row))
 }
 
 /// Commits what the peer of a connection sends, until its link ends or no more is taken.
@@ -310,7 +298,7 @@ pub fn serve_reader<Rt: Wait, R: Incoming, T: Turns>(
     ensures lasting { R.faults link.old ≤ R.faults link.new }
 {
     bytes_have_courses();
-    let Ok((mut buffer, mut row)) = begin(alloc) else {
+    let Ok(mut row) = Row::new(alloc) else {
         return ReaderEnd::NoMemory;
     };
     let mut received = Received::new(alloc);
@@ -319,15 +307,7 @@ pub fn serve_reader<Rt: Wait, R: Incoming, T: Turns>(
             return end;
         }
         settle(link, &received);
-        if let Some(end) = take(
-            rt,
-            connection,
-            link,
-            &mut buffer,
-            &mut received,
-            &mut row,
-            turns,
-        ) {
+        if let Some(end) = take(rt, connection, link, &mut received, &mut row, turns) {
             return end;
         }
     }

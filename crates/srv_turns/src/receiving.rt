@@ -1,12 +1,13 @@
 //! What a reader has taken from its link.
-ghost use Rattle.std.specs.Prelude.{◌≡◌, ◌+◌, ◌-◌, ◌≤◌, ◌^◌, length, min, nat_lt, IfOk, OnOk};
-ghost use Rattle.std.specs.Prelude.{OnErr};
-ghost use Rattle.pv_binary.specs.OneOfThree.{AreBytes};
+ghost use Rattle.std.specs.Prelude.{◌≡◌, ◌-◌, ◌≤◌, ◌<◌, ◌^◌, length, min, nat_lt, IfOk, OnErr};
+ghost use Rattle.out_ports.specs.Ports.{Rose, given_after, ended_after};
+ghost use Rattle.pv_stream.specs.Takes.{IsTakenBehind};
 ghost use Rattle.rl_stream.specs.Nexts.{IsNext};
-ghost use Rattle.srv_turns.specs.Keeping.{link_end};
-ghost use Rattle.rl_stream.specs.Streams.{no_stream, with_bytes, read_off};
+ghost use Rattle.srv_turns.specs.Keeping.{link_end, taken_after};
+ghost use Rattle.rl_stream.specs.Streams.{no_stream, read_off};
 
 use crate::reader::ReaderEnd;
+use out_ports::ports::{Source, Took};
 use pv_value::NoMemory;
 use rl_stream::{Next, Stream};
 use std::alloc::Global;
@@ -79,16 +80,26 @@ impl Received {
         self.stream.read_off(size);
     }
 
-    /// More bytes were taken. For want of memory they are gone.
-    pub(crate) fn add(&mut self, more: &[u8]) -> Result<(), NoMemory>
-        requires { length more.now + self.old.taken ≤ 2 ^ 40 }
-        ensures bytes { AreBytes more.now }
-        ensures added { OnOk result ((self.new.stream ≡ with_bytes more.now self.old.stream)
-            × (self.new.taken ≡ self.old.taken + length more.now)) }
-        ensures undone { OnErr result (self.new ≡ self.old) }
+    /// The link is asked once for bytes, as many as are taken at once at most. What it brings is
+    /// counted. For want of memory it isn't asked.
+    pub(crate) fn take_from<R: Source>(&mut self, link: &mut R) -> Result<Took, NoMemory>
+        requires { self.old.taken < 2 ^ 40 }
+        ensures came { IfOk result (λ t. IsTakenBehind t (R.left link.old) (R.left link.new)
+            self.old.stream.rest self.new.stream.rest) }
+        ensures place { self.new.stream.place ≡ self.old.stream.place }
+        ensures taken { IfOk result (λ t. self.new.taken ≡ taken_after t self.old.taken) }
+        ensures unasked { OnErr result (link.new ≡ link.old) }
+        ensures counted { IfOk result (λ t. R.given link.new ≡ given_after t (R.given link.old)) }
+        ensures at_end { IfOk result (λ t. R.ended link.new ≡ ended_after t (R.ended link.old)) }
+        ensures lasting { R.faults link.old ≤ R.faults link.new }
+        ensures cause { IfOk result (λ t. t ≡ Took.Failed
+            → Rose (R.faults link.old) (R.faults link.new)) }
     {
-        self.stream.add(more)?;
-        self.taken += more.len() as u64;
-        Ok(())
+        let most = self.room();
+        let took = self.stream.take_from(link, most)?;
+        if let Took::Some(n) = took {
+            self.taken += n as u64;
+        }
+        Ok(took)
     }
 }

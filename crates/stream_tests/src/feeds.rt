@@ -98,7 +98,7 @@ fn faults_are_told_by_their_place_in_the_stream(rt: HostRuntime) -> Result<(), F
 }
 
 /// `[1 #:#t <"ab">]`
-fn value_of_all(alloc: Global) -> Result<Value, Fail> {
+pub(crate) fn value_of_all(alloc: Global) -> Result<Value, Fail> {
     let mut items = Vec::new(alloc);
     items.push(Value::integer(1))?;
     items.push(Value::embedded(alloc, Value::boolean(true))?)?;
@@ -126,7 +126,7 @@ fn comes_by_bytes(alloc: Global) -> Result<bool, Fail> {
     Ok(feed.left() == 0)
 }
 
-fn is_value(next: Next, value: &Value) -> bool {
+pub(crate) fn is_value(next: Next, value: &Value) -> bool {
     match next {
         Next::Value(told) => told == *value,
         _ => false,

@@ -7,3 +7,5 @@ mod feeds;
 mod packets;
 #[cfg(test)]
 mod scans;
+#[cfg(test)]
+mod sources;

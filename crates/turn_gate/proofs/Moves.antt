@@ -345,7 +345,8 @@ module _ {T S R : Type 0} (next : T → S → T × R) (t : T) where
         keeps,
         tt,
         moved s k id v v at (λ n. n) refl (set s.words 8 n) s.homes k.log k.lock k.gone k.others
-            (ap (λ ws. set ws 8 n) k.words ∙ ap (λ (m : ℕ). words_of (length k.log) m k.others) is) k.homes k.short k.legal
+            (ap (λ ws. set ws 8 n) k.words ∙ ap (λ (m : ℕ). words_of (length k.log) m k.others) is) k.homes k.short
+            k.legal
             (stays s k id) (turned_same s k id v v at refl refl) (k.each id v at) (same_longest s k id v v at refl),
         ((λ hit. absurd (miss hit)), λ _. refl),
       ))
@@ -374,7 +375,8 @@ module _ {T S R : Type 0} (next : T → S → T × R) (t : T) where
         keeps,
         tt,
         moved s k id v w at (λ n. n) refl (set s.words 8 y) s.homes k.log k.lock k.gone k.others
-            (ap (λ ws. set ws 8 y) k.words ∙ ap (λ (m : ℕ). words_of (length k.log) m k.others) is) k.homes k.short k.legal
+            (ap (λ ws. set ws 8 y) k.words ∙ ap (λ (m : ℕ). words_of (length k.log) m k.others) is) k.homes k.short
+            k.legal
             (stays s k id) (turned_same s k id v w at refl refl)
             record {
               begins = f.begins;
@@ -427,7 +429,8 @@ module _ {T S R : Type 0} (next : T → S → T × R) (t : T) where
         keeps,
         tt,
         moved s k id v v at (λ n. n) refl (set s.words 0 n) s.homes k.log k.lock k.gone k.others
-            (ap (λ ws. set ws 0 n) k.words ∙ ap (λ (m : ℕ). words_of m (lock_word k.lock) k.others) is) k.homes k.short k.legal
+            (ap (λ ws. set ws 0 n) k.words ∙ ap (λ (m : ℕ). words_of m (lock_word k.lock) k.others) is) k.homes
+            k.short k.legal
             (stays s k id) (turned_same s k id v v at refl refl) f (same_longest s k id v v at refl),
         (
           refl,
@@ -445,15 +448,18 @@ module _ {T S R : Type 0} (next : T → S → T × R) (t : T) where
   -- a word changes of which the rule says nothing
   pub touches : (slots id : ℕ) (me : Us T S R) (i : ℕ) (f : ℕ → ℕ)
       → Allows (Kept next t) slots id me (suc (suc (suc (suc (suc (suc (suc (suc (suc i))))))))) f (λ _ m'. m' ≡ me)
-  touches slots id me i f s k wide at small = let v = me.0 in let y : ℕ = f (get_or s.words (suc (suc (suc (suc (suc (suc (suc (suc (suc i))))))))) 0) in (
-    v,
-    keeps,
-    tt,
-    moved s k id v v at (λ n. n) refl (set s.words (suc (suc (suc (suc (suc (suc (suc (suc (suc i))))))))) y) s.homes k.log k.lock k.gone (set k.others i y)
-        (ap (λ ws. set ws (suc (suc (suc (suc (suc (suc (suc (suc (suc i))))))))) y) k.words) k.homes k.short k.legal (stays s k id)
-        (turned_same s k id v v at refl refl) (k.each id v at) (same_longest s k id v v at refl),
-    refl,
-  )
+  touches slots id me i f s k wide at small = let v = me.0 in let y : ℕ =
+      f (get_or s.words (suc (suc (suc (suc (suc (suc (suc (suc (suc i))))))))) 0) in (
+        v,
+        keeps,
+        tt,
+        moved s k id v v at (λ n. n) refl (set s.words (suc (suc (suc (suc (suc (suc (suc (suc (suc i))))))))) y) s.homes
+            k.log k.lock k.gone (set k.others i y)
+            (ap (λ ws. set ws (suc (suc (suc (suc (suc (suc (suc (suc (suc i))))))))) y) k.words) k.homes k.short k.legal
+            (stays s k id)
+            (turned_same s k id v v at refl refl) (k.each id v at) (same_longest s k id v v at refl),
+        refl,
+      )
 
   -- the same, of any word behind the lock
   pub touches_at : (slots id : ℕ) (me : Us T S R) (w : ℕ) (f : ℕ → ℕ) → 9 ≤ w

@@ -48,7 +48,8 @@ module _ {T S R : Type 0} (next : T → S → T × R) (t : T) where
     pub named : m.0.named ≡ true
     pub opened : m.0.opening ≡ Some t
 
-  -- what became of the step: it was noted, and so many steps stand with it, as many steps stand as a gate takes, or it found no memory
+  -- what became of the step: it was noted, and so many steps stand with it, as many steps stand as a gate takes, or it
+  -- found no memory
   abbrev pub HasNoted : Us T S R → S → Noted T R → Us T S R → Type 0
   HasNoted m s (noted.Done x r n) m' = Committed next t m.0 s r m'.0 × HasOut m' x × (n ≡ length m'.0.seen)
   HasNoted m s (noted.Full x) m' = Failed m.0 fault.Spent m'.0 × HasOut m' x

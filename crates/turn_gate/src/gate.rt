@@ -57,8 +57,8 @@ const NAP: u64 = 1;
 // 1 once the value was given up.
 const ENDED: usize = 24;
 
-// From this word on each place has a line, which begins with how many steps stood when the place was
-// called last.
+// From this word on each place has a line, which begins with how many steps stood when the place
+// was called last.
 const CALLS: usize = 32;
 
 // From this word on, in the same lines, those who rest at each place are counted.
@@ -69,8 +69,8 @@ const WORDS: usize = 544;
 
 /// A value that callers change in steps, each through a pass of its own.
 ///
-/// It is shared by reference between threads. Of its words two are under a rule, how many steps stand
-/// and the lock; by the others callers wake one another, and no clause speaks of them.
+/// It is shared by reference between threads. Of its words two are under a rule, how many steps
+/// stand and the lock; by the others callers wake one another, and no clause speaks of them.
 #[derive(Drop)]
 pub struct Gate<T: Replayed> {
     pub(crate) table: Table<Held<T, T::Step>, View<T, T::Step, T::Reply>, Snapshot<T>, Law, Global>,
@@ -146,8 +146,8 @@ impl<T: Replayed> Gate<T> {
         self.table.shared.load::<Look>(pass, COUNT)
     }
 
-    // Sleeps while the lock is taken, for a nap at most. It counts itself first, so that who gives back
-    // wakes it.
+    // Sleeps while the lock is taken, for a nap at most. It counts itself first, so that who gives
+    // back wakes it.
     fn wait<R: Wait>(&self, rt: &R, pass: &mut Place<T>)
         requires gate { pass.old.table_id ≡ self.now.table.shared.table_id }
         ensures gate { (pass.new.table_id ≡ pass.old.table_id) × (pass.new.id ≡ pass.old.id) }
@@ -237,8 +237,8 @@ impl<T: Replayed> Gate<T> {
         self.table.shared.peek(ENDED) != 0
     }
 
-    // Sleeps until this place was called for a step behind those that were heard of, or the value was
-    // given up.
+    // Sleeps until this place was called for a step behind those that were heard of, or the value
+    // was given up.
     pub(crate) fn rest_at<R: Wait>(&self, rt: &R, place: usize, heard: u64)
         requires { place < 64 }
     {

@@ -34,8 +34,8 @@ impl<T: Replayed> Gate<T> {
     ghost use Rattle.turn_gate.specs.History.{places};
     ghost use Rattle.turn_gate.specs.Rows.{HasDone};
 
-    // Goes on behind a step that left this value with this reply, where so many steps stand: announces
-    // a further one, or gives the slot back.
+    // Goes on behind a step that left this value with this reply, where so many steps stand:
+    // announces a further one, or gives the slot back.
     fn go_behind<C: Course<T>>(
         &self,
         pass: &mut Place<T>,

@@ -10,13 +10,12 @@ use Rattle.pv_value.specs.Sets.{ascending_by}
 use Rattle.pv_value.specs.WellFormed.{Ascend}
 use Rattle.pv_words.specs.Lemmas.Same.{same_is, same_self}
 use Rattle.pv_words.specs.Parts.{same}
-use Rattle.ds_space.specs.Changes.{among, without}
+use Rattle.ds_space.specs.Changes.{among, without, changes}
 use Rattle.ds_space.specs.declared.space.Change.TheVariants.{Left, Came}
 use Rattle.ds_space.specs.Lemmas.Lists.{unique, ascending_any, in_order}
 use Rattle.ac_watch.specs.Lemmas.Alone.{among_without, without_ascends, ascend_nothing}
 use Rattle.ac_watch.specs.Lemmas.Rows.{IsLonger}
 use Rattle.ac_world.specs.Behaviours.{asks}
-use Rattle.ac_world.specs.Systems.{changes}
 
 abbrev pub asked : List Plain → List Plain
 asked vs = ascending_by order (filter asks vs)

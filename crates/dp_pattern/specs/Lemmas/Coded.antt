@@ -4,21 +4,33 @@ use Rattle.std.specs.Coded.{Coded}
 use Rattle.std.proofs.Common.{ap}
 use base.Stored.{Gv, gnil, gnum, gcons}
 use Rattle.pv_value.specs.Lemmas.Coded.{plain_code}
-use Rattle.dp_pattern.specs.Patterns.{Group, InRecord, InSequence, InDictionary, Pattern, discard, bind, literal, group}
-use Rattle.dp_pattern.specs.Patterns.{Fields, no_fields, then_field}
+use Rattle.dp_pattern.specs.Patterns.{Extent, Open, Exactly, Group, InRecord, InSequence, InDictionary}
+use Rattle.dp_pattern.specs.Patterns.{Pattern, discard, bind, literal, group, Fields, no_fields, then_field}
+
+abbrev extent_code : Extent → Gv
+extent_code Open = gnil
+extent_code (Exactly n) = gnum n
+
+extent_inj : (d e : Extent) → extent_code d ≡ extent_code e → d ≡ e
+extent_inj Open Open is = refl
+extent_inj (Exactly n) (Exactly m) is = cc
+extent_inj d e is = absurd cc
 
 abbrev group_code : Group → Gv
-group_code InSequence = gnil
-group_code InDictionary = gnum 0
-group_code (InRecord label) = gcons gnil (plain_code.code label)
+group_code (InSequence e) = gcons (gnum 0) (extent_code e)
+group_code InDictionary = gnil
+group_code (InRecord label e) = gcons (gcons gnil (extent_code e)) (plain_code.code label)
 
 group_inj : (g h : Group) → group_code g ≡ group_code h → g ≡ h
-group_inj InSequence InSequence e = refl
-group_inj InDictionary InDictionary e = refl
-group_inj (InRecord l) (InRecord m) e =
+group_inj (InSequence d) (InSequence e) is =
+    let f : extent_code d ≡ extent_code e = cc in
+    ap InSequence (extent_inj d e f)
+group_inj InDictionary InDictionary is = refl
+group_inj (InRecord l d) (InRecord m e) is =
     let f : plain_code.code l ≡ plain_code.code m = cc in
-    ap InRecord (plain_code.inj l m f)
-group_inj g h e = absurd cc
+    let g : extent_code d ≡ extent_code e = cc in
+    λ i. InRecord (plain_code.inj l m f i) (extent_inj d e g i)
+group_inj g h is = absurd cc
 
 abbrev mutual
   pub code : Pattern → Gv

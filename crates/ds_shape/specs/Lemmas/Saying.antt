@@ -34,14 +34,14 @@ said ts cs ps v =
 -- ---- a group's kind, and the steps to its parts
 
 kind_is : (g : Group) (v : Plain) → is_kind (kind_of g) v ≡ is_of g v
-kind_is (InRecord label) (record_of l fs) = refl
-kind_is InSequence (sequence xs) = refl
+kind_is (InRecord label e) (record_of l fs) = refl
+kind_is (InSequence e) (sequence xs) = refl
 kind_is InDictionary (dictionary ps) = refl
 kind_is g v = refl
 
 step_is : (g : Group) (v k : Plain) → part_by (step_of g k) v ≡ part_of g v k
-step_is (InRecord label) (record_of l fs) k = refl
-step_is InSequence (sequence xs) k = refl
+step_is (InRecord label e) (record_of l fs) k = refl
+step_is (InSequence e) (sequence xs) k = refl
 step_is InDictionary (dictionary ps) k = refl
 step_is g v k = refl
 

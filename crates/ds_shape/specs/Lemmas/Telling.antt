@@ -5,10 +5,12 @@ use Rattle.std.specs.Cmp.{IsTotalOrder, on_total}
 use Rattle.std.specs.declared.cmp.Ordering.TheVariants.{Equal}
 use Rattle.pv_value.specs.Lemmas.OrderLaws.{order_total, order_same}
 use Rattle.pv_words.specs.Words.{is_word}
+use Rattle.dp_pattern.specs.declared.Extent.{Extent}
+use Rattle.dp_pattern.specs.declared.Extent.TheVariants.{Open, Exactly}
 use Rattle.ds_shape.specs.Paths.{Step, Field, Item, Under}
 use Rattle.ds_shape.specs.Outlines.{Kind, Any, Record, Sequence, Dictionary, Test, Outline}
-use Rattle.ds_shape.specs.Keys.{list_value, step_value, path_value, kind_value, test_value, outline_value}
-use Rattle.ds_shape.specs.Keys.{outline_order}
+use Rattle.ds_shape.specs.Keys.{list_value, step_value, path_value, extent_value, kind_value, test_value}
+use Rattle.ds_shape.specs.Keys.{outline_value, outline_order}
 use Rattle.ds_shape.specs.Lemmas.Orders.{plains_same}
 
 one_to_one : {A : Type 0} (f : A → Plain) → ((x y : A) → f x ≡ f y → x ≡ y) → (xs ys : List A) → map f xs ≡ map f ys
@@ -48,22 +50,33 @@ step_tells (Under x) (Under y) e = cc
 path_tells : (p q : List Step) → path_value p ≡ path_value q → p ≡ q
 path_tells = lists_tell step_value step_tells
 
+extent_tells : (c d : Extent) → extent_value c ≡ extent_value d → c ≡ d
+extent_tells Open Open e = refl
+extent_tells Open (Exactly m) e = absurd cc
+extent_tells (Exactly n) Open e = absurd cc
+extent_tells (Exactly n) (Exactly m) e = cc
+
 kind_tells : (k l : Kind) → kind_value k ≡ kind_value l → k ≡ l
 kind_tells Any Any e = refl
-kind_tells Any (Record y) e = absurd (other_word (codes "any") _ _ refl refl e)
-kind_tells Any Sequence e = absurd (other_word (codes "any") _ _ refl refl e)
+kind_tells Any (Record y d) e = absurd (other_word (codes "any") _ _ refl refl e)
+kind_tells Any (Sequence d) e = absurd (other_word (codes "any") _ _ refl refl e)
 kind_tells Any Dictionary e = absurd (other_word (codes "any") _ _ refl refl e)
-kind_tells (Record x) Any e = absurd (other_word (codes "rec") _ _ refl refl e)
-kind_tells (Record x) (Record y) e = cc
-kind_tells (Record x) Sequence e = absurd (other_word (codes "rec") _ _ refl refl e)
-kind_tells (Record x) Dictionary e = absurd (other_word (codes "rec") _ _ refl refl e)
-kind_tells Sequence Any e = absurd (other_word (codes "arr") _ _ refl refl e)
-kind_tells Sequence (Record y) e = absurd (other_word (codes "arr") _ _ refl refl e)
-kind_tells Sequence Sequence e = refl
-kind_tells Sequence Dictionary e = absurd (other_word (codes "arr") _ _ refl refl e)
+kind_tells (Record x d) Any e = absurd (other_word (codes "rec") _ _ refl refl e)
+kind_tells (Record x c) (Record y d) e =
+    let label : x ≡ y = cc in
+    let extent : extent_value c ≡ extent_value d = cc in
+    λ i. Record (label i) (extent_tells c d extent i)
+kind_tells (Record x d) (Sequence c) e = absurd (other_word (codes "rec") _ _ refl refl e)
+kind_tells (Record x d) Dictionary e = absurd (other_word (codes "rec") _ _ refl refl e)
+kind_tells (Sequence d) Any e = absurd (other_word (codes "arr") _ _ refl refl e)
+kind_tells (Sequence c) (Record y d) e = absurd (other_word (codes "arr") _ _ refl refl e)
+kind_tells (Sequence c) (Sequence d) e =
+    let extent : extent_value c ≡ extent_value d = cc in
+    ap Sequence (extent_tells c d extent)
+kind_tells (Sequence d) Dictionary e = absurd (other_word (codes "arr") _ _ refl refl e)
 kind_tells Dictionary Any e = absurd (other_word (codes "dict") _ _ refl refl e)
-kind_tells Dictionary (Record y) e = absurd (other_word (codes "dict") _ _ refl refl e)
-kind_tells Dictionary Sequence e = absurd (other_word (codes "dict") _ _ refl refl e)
+kind_tells Dictionary (Record y d) e = absurd (other_word (codes "dict") _ _ refl refl e)
+kind_tells Dictionary (Sequence d) e = absurd (other_word (codes "dict") _ _ refl refl e)
 kind_tells Dictionary Dictionary e = refl
 
 test_tells : (t u : Test) → test_value t ≡ test_value u → t ≡ u

@@ -36,9 +36,9 @@ item_under_holds n xs (integer (pos i)) h = item_holds n xs i h
 item_under_holds n xs key h = tt
 
 part_holds : (n : Lived) (g : Group) (v key : Plain) → HoldsObjects n v → If (part_of g v key) (HoldsObjects n)
-part_holds n (InRecord label) (record_of l fs) key h =
+part_holds n (InRecord label e) (record_of l fs) key h =
     item_under_holds n fs key (all_of_rest (IsObjectValue n) (held_in l) (all_held_in fs) h)
-part_holds n InSequence (sequence xs) key h = item_under_holds n xs key h
+part_holds n (InSequence e) (sequence xs) key h = item_under_holds n xs key h
 part_holds n InDictionary (dictionary ps) key h = value_holds n ps key h
 part_holds n g v key h = tt
 

@@ -23,7 +23,7 @@ use Rattle.ac_world.specs.Outboxes.{Plan, drop_row, drop_own, acted, all_acted}
 use Rattle.ac_world.specs.declared.aims.Aim.{Aim}
 use Rattle.ac_world.specs.Aims.{aim_at, aim_for}
 use Rattle.ac_world.specs.Behaviours.{Behaviour, fanned_weight}
-use Rattle.ac_world.specs.Systems.{changes}
+use Rattle.ds_space.specs.Changes.{changes}
 use Rattle.ac_world.specs.Turns.{Turning, handle_for, drop_met, row_gone, left, came_at, changed_by, all_changed}
 use Rattle.ac_world.specs.Turns.{with_rows, regot, spreading, by_assertion, by_message, applied, taken_in}
 use Rattle.ac_world.specs.Turns.{say_at, say_all, passed_on, answer_to, turned_by, all_turned}

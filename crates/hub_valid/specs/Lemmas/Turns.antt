@@ -14,7 +14,7 @@ use Rattle.ds_space.specs.declared.space.Change.{Change}
 use Rattle.ds_space.specs.declared.space.Change.TheVariants.{Left, Came}
 use Rattle.ds_space.specs.declared.space.Fanned.{Fanned}
 use Rattle.ds_space.specs.Wants.{wants}
-use Rattle.ds_space.specs.Changes.{without, among}
+use Rattle.ds_space.specs.Changes.{without, among, changes}
 use Rattle.gk_sturdy.specs.declared.bound.Binding.{Binding}
 use Rattle.ac_table.specs.declared.batches.Event.{Event}
 use Rattle.ac_table.specs.declared.batches.Event.TheVariants.{Assert, Retract, Message, Sync}
@@ -32,7 +32,6 @@ use Rattle.ac_world.specs.declared.aims.Aim.{Aim}
 use Rattle.ac_world.specs.Aims.{aim_at, aim_for, aim_of}
 use Rattle.ac_world.specs.Behaviours.{Behaviour, dataspace, asks, answer_for, gatekeeper, watcher, other, behaviour_of}
 use Rattle.ac_world.specs.Behaviours.{fanned_weight}
-use Rattle.ac_world.specs.Systems.{changes}
 use Rattle.ac_world.specs.Housing.{housed, vacated}
 use Rattle.ac_world.specs.Turns.{Turning, handle_for, drop_met, vacating, row_gone, left, housing, row_come, came_at}
 use Rattle.ac_world.specs.Turns.{came}

@@ -11,7 +11,8 @@ pub returns-then-weight-gt-REFERENCE_WEIGHT : goal.returns-then-weight-gt-REFERE
 returns-then-weight-gt-REFERENCE_WEIGHT c =
     let behind = map (caveat_of false) c.args.behind.now in
     let few = counted c.args.cap.now c.as_slice.result.now c.args.behind.now c.saturating_add-count.result
-    (c.as_slice.ensures ∙ ap (λ (x : Cap). x.caveats) c.cap.view_is) c.saturating_add-count.ensures c.if-count-gt-REFERENCE_CAVEATS.false in
+    (c.as_slice.ensures ∙ ap (λ (x : Cap). x.caveats) c.cap.view_is) c.saturating_add-count.ensures
+    c.if-count-gt-REFERENCE_CAVEATS.false in
     heavy (attenuated behind c.args.cap.now) c.saturating_add-weight.result few c.if-weight-gt-REFERENCE_WEIGHT.true
     (summed c.args.cap.now behind c.deref.result.now c.cap_weight.result c.weight_of_caveats.result
     c.saturating_add-weight.result (c.deref.ensures.value ∙ c.in_ok-behind.ensures) c.cap_weight.ensures
@@ -26,9 +27,11 @@ pub returns : goal.returns
 returns c =
     let behind = map (caveat_of false) c.args.behind.now in
     let few = counted c.args.cap.now c.as_slice.result.now c.args.behind.now c.saturating_add-count.result
-    (c.as_slice.ensures ∙ ap (λ (x : Cap). x.caveats) c.cap.view_is) c.saturating_add-count.ensures c.if-count-gt-REFERENCE_CAVEATS.false in
+    (c.as_slice.ensures ∙ ap (λ (x : Cap). x.caveats) c.cap.view_is) c.saturating_add-count.ensures
+    c.if-count-gt-REFERENCE_CAVEATS.false in
     let given : c.in_ok-attenuated.field-0 ≡ attenuated behind c.args.cap.now =
-    c.in_ok-attenuated.ensures ∙ ap (λ cs. attenuated cs c.args.cap.now) (c.deref-2.ensures.value ∙ c.in_ok-behind.ensures) in
+    c.in_ok-attenuated.ensures
+    ∙ ap (λ cs. attenuated cs c.args.cap.now) (c.deref-2.ensures.value ∙ c.in_ok-behind.ensures) in
     ap Accepted given
     ∙ within (attenuated behind c.args.cap.now) c.saturating_add-weight.result few c.if-weight-gt-REFERENCE_WEIGHT.false
     (summed c.args.cap.now behind c.deref.result.now c.cap_weight.result c.weight_of_caveats.result

@@ -58,19 +58,19 @@ pub overflow_sub-result : goal.overflow_sub-result
 overflow_sub-result c =
     let bytes = c.args.bytes.now in
     let all = are_bytes bytes (λ i. omega (arith, c.type_inv.bytes i)) in
-    (found_law (length bytes) 64 bytes c.in_ok-value.value c.in_ok-value.rest.now all c.in_ok-value.ensures).0
+    (found_law (length bytes) 64 bytes c.in_ok-value.value c.read_value.new.input.now all c.in_ok-value.ensures).0
 
 pub returns-clause-found : goal.returns-clause-found
 returns-clause-found c =
     let bytes = c.args.bytes.now in
     let all = are_bytes bytes (λ i. omega (arith, c.type_inv.bytes i)) in
-    let f = found_law (length bytes) 64 bytes c.in_ok-value.value c.in_ok-value.rest.now all c.in_ok-value.ensures in
+    let f = found_law (length bytes) 64 bytes c.in_ok-value.value c.read_value.new.input.now all c.in_ok-value.ensures in
     (omega arith, f.1, f.2)
 
 pub returns-clause-only : goal.returns-clause-only
 returns-clause-only c = λ n v b.
     let bytes = c.args.bytes.now in
-    let same = same_read (length bytes) 64 bytes n v c.in_ok-value.value c.in_ok-value.rest.now b.0 b.1 b.2
+    let same = same_read (length bytes) 64 bytes n v c.in_ok-value.value c.read_value.new.input.now b.0 b.1 b.2
     c.in_ok-value.ensures in
     λ i. (same.0 i, same.1 i)
 

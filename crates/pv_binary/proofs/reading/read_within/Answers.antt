@@ -10,7 +10,7 @@ pub returns-in-Ok-clause-found : goal.returns-in-Ok-clause-found
 returns-in-Ok-clause-found c =
     let bytes = c.args.bytes.now in
     let all = are_bytes bytes (λ i. omega (arith, c.type_inv.bytes i)) in
-    leads_law (length bytes) c.args.budget bytes c.in-Ok.found.0 c.in-Ok.found.1.now all c.in-Ok.ensures
+    leads_law (length bytes) c.args.budget bytes c.in-Ok.value c.read_value.new.input.now all c.in-Ok.ensures
 
 pub returns-in-Err-Bad-clause-none : goal.returns-in-Err-Bad-clause-none
 returns-in-Err-Bad-clause-none c =

@@ -11,6 +11,15 @@ use Rattle.pv_canon.proofs.forms.+canon.Given as goal
 abbrev pub decreases-canon_into : goal.decreases-canon_into
 decreases-canon_into l = 2 * measure l.v.now
 
+abbrev pub decreases-push_record : goal.decreases-push_record
+decreases-push_record l = 2 * measure l.label.now + 2 * measure_all (plains l.fields.now) + 1
+
+abbrev pub decreases-push_sequence : goal.decreases-push_sequence
+decreases-push_sequence l = 2 * measure_all (plains l.items.now) + 1
+
+abbrev pub decreases-push_embedded : goal.decreases-push_embedded
+decreases-push_embedded l = 2 * measure l.inside.now + 1
+
 abbrev pub decreases-push_list : goal.decreases-push_list
 decreases-push_list l = 2 * measure_all (plains l.items.now)
 

@@ -16,7 +16,8 @@ decreases-pairs_marked l = measure_pairs (pairs (map key_and_value l.entries.now
 
 -- what is left leads to what all leads to
 abbrev pub invariant-all_marked-loop-item : goal.invariant-all_marked-loop-item
-invariant-all_marked-loop-item l = all_marked l.mark (plains (drop l.item-index l.items)) ≡ all_marked l.before (plains l.items)
+invariant-all_marked-loop-item l =
+    all_marked l.mark (plains (drop l.item-index l.items)) ≡ all_marked l.before (plains l.items)
 
 abbrev pub invariant-pairs_marked-loop-entry : goal.invariant-pairs_marked-loop-entry
 invariant-pairs_marked-loop-entry l =

@@ -1,7 +1,18 @@
 use Rattle.rl_packet.proofs.Fronts.{retracted}
+use Rattle.rl_packet.proofs.Missing.{no_retraction, handle_missing, handle_unended}
 use Rattle.rl_packet.proofs.spelled.retraction_in.Goals as goal
 
 pub returns-clause-event : goal.returns-clause-event
 returns-clause-event c =
-    retracted c.args.bytes.now c.in-Some.handle c.in-Some.end.now c.in-Some-behind.rest.now c.in-Some.ensures.1
-    c.in-Some-behind.ensures
+    retracted c.args.bytes.now c.in-Some.handle c.in-Some.end.now c.in-Some-behind.rest.now c.in-Some.ensures.found.1
+    c.in-Some-behind.ensures.found
+
+pub returns-in_default-clause-none : goal.returns-in_default-clause-none
+returns-in_default-clause-none c =
+    no_retraction c.args.bytes.now (handle_missing c.args.bytes.now c.in_default.ensures.none)
+
+pub returns-in_default-behind-clause-none : goal.returns-in_default-behind-clause-none
+returns-in_default-behind-clause-none c =
+    no_retraction c.args.bytes.now
+    (handle_unended c.args.bytes.now c.in-Some.handle c.in-Some.end.now c.in-Some.ensures.found.1
+    c.in_default-behind.ensures.none)

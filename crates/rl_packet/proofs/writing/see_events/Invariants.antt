@@ -7,4 +7,5 @@ use Rattle.rl_packet.proofs.writing.see_events.Given as goal
 -- where the events that are left are sound, all are
 abbrev pub invariant-loop-event : goal.invariant-loop-event
 invariant-loop-event l =
-    AreWellFormed (plains (map aimed_value (drop l.event-index l.events))) → AreWellFormed (plains (map aimed_value l.events))
+    AreWellFormed (plains (map aimed_value (drop l.event-index l.events)))
+    → AreWellFormed (plains (map aimed_value l.events))

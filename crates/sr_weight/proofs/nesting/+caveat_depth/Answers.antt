@@ -63,12 +63,15 @@ template_depth-returns-in-Dict t c =
     let all = c.in-Dict.templates.items in
     let front = c.deref-in-Dict.result.now in
     let view = ap (λ (p : Template). depth (template_value p)) is in
-    let same = ap (λ (ks : List (Plain × Plain)). deepest_pair (paired_with (keys_of ks) (template_values (listed_templates all))))
+    let same = ap (λ (ks : List (Plain × Plain)). deepest_pair
+    (paired_with (keys_of ks) (template_values (listed_templates all))))
     c.as_slice-keys.ensures.same in
     let apart = templates_depth es all n (omega (arith, c.len.ensures, c.min-count.ensures)) in
-    let first = ap (λ (l : List Template). deepest (template_values (listed_templates (take n l)))) c.deref-in-Dict.ensures.value in
+    let first = ap (λ (l : List Template). deepest (template_values (listed_templates (take n l))))
+    c.deref-in-Dict.ensures.value in
     let k : c.depth_of_keys-keys.result ≡ min (deepest (keys_of (map key_and_value (take n es)))) 4294967295 =
     c.depth_of_keys-keys.ensures in
-    let v : c.template_depths-templates.result ≡ min (deepest (template_values (listed_templates (take n front)))) 4294967295 =
+    let v : c.template_depths-templates.result
+    ≡ min (deepest (template_values (listed_templates (take n front)))) 4294967295 =
     c.template_depths-templates.ensures in
     omega (arith, view, same, apart, first, k, v, c.max-in-Dict.ensures, c.saturating_add-in-Dict.ensures)

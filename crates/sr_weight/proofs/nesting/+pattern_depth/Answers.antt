@@ -43,12 +43,15 @@ pattern_depth-returns-in-Dict t c =
     let all = c.in-Dict.patterns.items in
     let front = c.deref-in-Dict.result.now in
     let view = ap (λ (p : Pattern). depth (pattern_value p)) is in
-    let same = ap (λ (ks : List (Plain × Plain)). deepest_pair (paired_with (keys_of ks) (pattern_values (listed_patterns all))))
+    let same = ap (λ (ks : List (Plain × Plain)). deepest_pair
+    (paired_with (keys_of ks) (pattern_values (listed_patterns all))))
     c.as_slice-keys.ensures.same in
     let apart = patterns_depth es all n (omega (arith, c.len.ensures, c.min-count.ensures)) in
-    let first = ap (λ (l : List Pattern). deepest (pattern_values (listed_patterns (take n l)))) c.deref-in-Dict.ensures.value in
+    let first = ap (λ (l : List Pattern). deepest (pattern_values (listed_patterns (take n l))))
+    c.deref-in-Dict.ensures.value in
     let k : c.depth_of_keys-keys.result ≡ min (deepest (keys_of (map key_and_value (take n es)))) 4294967295 =
     c.depth_of_keys-keys.ensures in
-    let v : c.pattern_depths-patterns.result ≡ min (deepest (pattern_values (listed_patterns (take n front)))) 4294967295 =
+    let v : c.pattern_depths-patterns.result
+    ≡ min (deepest (pattern_values (listed_patterns (take n front)))) 4294967295 =
     c.pattern_depths-patterns.ensures in
     omega (arith, view, same, apart, first, k, v, c.max-in-Dict.ensures, c.saturating_add-in-Dict.ensures)

@@ -63,13 +63,17 @@ template_weight-returns-in-Dict t c =
     let all = c.in-Dict.templates.items in
     let front = c.deref-in-Dict.result.now in
     let view = ap (λ (p : Template). size_with 48 (template_value p)) is in
-    let same = ap (λ (ks : List (Plain × Plain)). pair_sizes_with 48 (paired_with (keys_of ks) (template_values (listed_templates all))))
+    let same = ap (λ (ks : List (Plain × Plain)). pair_sizes_with 48
+    (paired_with (keys_of ks) (template_values (listed_templates all))))
     c.as_slice-keys.ensures.same in
     let apart = templates_weight es all n (omega (arith, c.len.ensures, c.min-count.ensures)) in
-    let first = ap (λ (l : List Template). sizes_with 48 (template_values (listed_templates (take n l)))) c.deref-in-Dict.ensures.value in
-    let k : c.weight_of_keys-keys.result ≡ min (sizes_with 48 (keys_of (map key_and_value (take n es)))) 18446744073709551615 =
+    let first = ap (λ (l : List Template). sizes_with 48 (template_values (listed_templates (take n l))))
+    c.deref-in-Dict.ensures.value in
+    let k : c.weight_of_keys-keys.result
+    ≡ min (sizes_with 48 (keys_of (map key_and_value (take n es)))) 18446744073709551615 =
     c.weight_of_keys-keys.ensures in
-    let v : c.template_weights-templates.result ≡ min (sizes_with 48 (template_values (listed_templates (take n front)))) 18446744073709551615 =
+    let v : c.template_weights-templates.result
+    ≡ min (sizes_with 48 (template_values (listed_templates (take n front)))) 18446744073709551615 =
     c.template_weights-templates.ensures in
     let l : c.labelled_weight-in-Dict.result
     ≡ min (50 + size_with 48 (symbol (codes "dict")) + c.list_weight-in-Dict.result) 18446744073709551615 =

@@ -43,13 +43,17 @@ pattern_weight-returns-in-Dict t c =
     let all = c.in-Dict.patterns.items in
     let front = c.deref-in-Dict.result.now in
     let view = ap (λ (p : Pattern). size_with 48 (pattern_value p)) is in
-    let same = ap (λ (ks : List (Plain × Plain)). pair_sizes_with 48 (paired_with (keys_of ks) (pattern_values (listed_patterns all))))
+    let same = ap (λ (ks : List (Plain × Plain)). pair_sizes_with 48
+    (paired_with (keys_of ks) (pattern_values (listed_patterns all))))
     c.as_slice-keys.ensures.same in
     let apart = patterns_weight es all n (omega (arith, c.len.ensures, c.min-count.ensures)) in
-    let first = ap (λ (l : List Pattern). sizes_with 48 (pattern_values (listed_patterns (take n l)))) c.deref-in-Dict.ensures.value in
-    let k : c.weight_of_keys-keys.result ≡ min (sizes_with 48 (keys_of (map key_and_value (take n es)))) 18446744073709551615 =
+    let first = ap (λ (l : List Pattern). sizes_with 48 (pattern_values (listed_patterns (take n l))))
+    c.deref-in-Dict.ensures.value in
+    let k : c.weight_of_keys-keys.result
+    ≡ min (sizes_with 48 (keys_of (map key_and_value (take n es)))) 18446744073709551615 =
     c.weight_of_keys-keys.ensures in
-    let v : c.pattern_weights-patterns.result ≡ min (sizes_with 48 (pattern_values (listed_patterns (take n front)))) 18446744073709551615 =
+    let v : c.pattern_weights-patterns.result
+    ≡ min (sizes_with 48 (pattern_values (listed_patterns (take n front)))) 18446744073709551615 =
     c.pattern_weights-patterns.ensures in
     let l : c.labelled_weight-in-Dict.result
     ≡ min (50 + size_with 48 (symbol (codes "dict")) + c.list_weight-in-Dict.result) 18446744073709551615 =

@@ -1,5 +1,4 @@
-use Rattle.std.proofs.Common.{◌≡◌, ℕ, [], ◌++◌, length, refl, sym, ◌∙◌, subst, arith, IfNone, length-take}
-use Rattle.std.proofs.Common.{length-append, length-drop}
+use Rattle.std.proofs.Common.{◌≡◌, [], ◌++◌, length, refl, sym, ◌∙◌, subst, arith, IfNone}
 use Rattle.rl_stream.specs.Streams.{StreamState}
 use Rattle.srv_turns.specs.Reading.{AreTaken}
 use Rattle.srv_turns.specs.Keeping.{IsReading, ReadsOn}
@@ -29,7 +28,6 @@ loop-init g c =
             (begins c.args.connection before),
       );
       lasting = omega arith;
-      room = c.in-Ok.ensures;
     }
 
 pub returns-in-Some-packets-clause-read : goal.returns-in-Some-packets-clause-read
@@ -100,5 +98,4 @@ loop-preserved g c =
             c.in_default-take.is t.3,
       );
       lasting = omega (arith, c.loop.invariant.lasting, c.settle.ensures.count, c.take.ensures.lasting);
-      room = omega (arith, length-take {A = ℕ}, length-append {A = ℕ}, length-drop {A = ℕ}, c.deref_mut.ensures.len);
     }

@@ -14,5 +14,4 @@ invariant-loop g l = record {
       × (length b ≡ l.received.taken)
       × IsReading l.connection b l.received.stream (g.T.Turns.pairs l.initial.turns) (g.T.Turns.pairs l.turns);
   lasting : g.R.Source.faults l.initial.link ≤ g.R.Source.faults l.link;
-  room : length l.buffer.items ≡ 65536;
 }

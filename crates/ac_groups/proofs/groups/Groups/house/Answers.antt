@@ -13,7 +13,8 @@ returns-clause-facets c =
     let i = c.self.inside in
     let k = c.self.invariant in
     on_ok_weaker c.house.result
-    (λ h. facet_come i.groups c.house.new.groups k.groups_ascend c.house.ensures.ordered c.in_ok-marked.marked c.args.facet h
+    (λ h. facet_come i.groups c.house.new.groups k.groups_ascend c.house.ensures.ordered c.in_ok-marked.marked
+    c.args.facet h
     ∙ ap (λ o. insert_entry order (all_facets i.groups.entries) o c.args.facet) c.in_ok-marked.ensures
     ∙ ap (λ (v : Grouped). insert_entry order v.facets c.args.group.now c.args.facet) c.self.view_is)
     c.house.ensures.facets

@@ -14,7 +14,7 @@ use Rattle.ac_world.proofs.gatekeeper.Gatekeeper.add.Goals as goal
 pub returns-clause-applied : goal.returns-clause-applied
 returns-clause-applied c =
     let v = c.args.value in
-    let old : Rows = c.args.self.got in
+    let old : Rows = c.args.self.now.got in
     let new : Rows = insert_entry nat_cmp old c.args.handle v in
     let first : c.in_ok-first.first ≡ not (among v (values_of old)) =
     c.in_ok-first.ensures.first ∙ ap (λ (g : Gatekeeping). not (among v (values_of g.got))) c.self.view_is in

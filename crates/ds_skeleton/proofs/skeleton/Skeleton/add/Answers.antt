@@ -34,6 +34,7 @@ returns-then-is_over c =
     let none : lookup (is_at (nat_cmp c.args.number)) c.self.inside.rows.entries ≡ None =
     ap (lookup (is_at (nat_cmp c.args.number))) c.self.view_is ∙ c.requires in (
       c.self.view_is,
+      tt,
       (
         ltb-true most_wanted_weight c.weight_with-after.result (sym c.is_over.ensures ∙ c.if-is_over.true),
         weighs_in c.args.number c.args.value c.args.self c.self.inside.rows.entries c.self.inside.index
@@ -58,6 +59,7 @@ returns c =
     ap (lookup (is_at (nat_cmp c.args.number))) c.self.view_is ∙ c.requires in (
       c.in_ok-insert.ensures.entries
           ∙ ap (λ es. insert_entry nat_cmp es c.args.number c.args.value) c.self.view_is,
+      tt,
       changes_in c.args.number c.args.value c.args.self c.self.inside.rows.entries c.self.inside.index
           c.self.inside.weight c.in_ok-keys.keys.items c.in_ok-changes.changes.items c.self.view_is none c.self.invariant
           c.in_ok-keys.ensures.ascending c.in_ok-keys.ensures.keys c.in_ok-changes.ensures,

@@ -30,6 +30,7 @@ returns-in_default c =
     ap (remove_entry (is_at (nat_cmp c.args.number))) (sym c.self.view_is) ∙ sym c.remove.ensures.entries ∙ same
     ∙ c.self.view_is in (
       c.remove.ensures.entries ∙ ap (remove_entry (is_at (nat_cmp c.args.number))) c.self.view_is,
+      tt,
       subst (λ es. AreChanges (values_of c.args.self) (values_of es) c.new.result.items) (sym still)
           (unchanged (values_of c.args.self) c.new.result.items c.new.ensures.items),
       tt,
@@ -54,6 +55,7 @@ returns c =
     let some : lookup (is_at (nat_cmp c.args.number)) c.self.inside.rows.entries
     ≡ Some c.in-Some.value = search rules in (
       c.remove.ensures.entries ∙ ap (remove_entry (is_at (nat_cmp c.args.number))) c.self.view_is,
+      tt,
       changes_out c.args.number c.in-Some.value c.args.self c.self.inside.rows.entries c.self.inside.index
           c.self.inside.weight c.in_ok-keys.keys.items c.in_ok-changes.changes.items c.self.view_is some c.self.invariant
           c.in_ok-keys.ensures.ascending c.in_ok-keys.ensures.keys c.in_ok-changes.ensures,

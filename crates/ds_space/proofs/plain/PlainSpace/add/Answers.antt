@@ -27,6 +27,7 @@ returns-then-is_over c =
     let come : c.put_row.new.rows.entries ≡ insert_entry nat_cmp c.args.self c.args.number c.args.value =
     c.in_ok-put_row.ensures ∙ ap (λ es. insert_entry nat_cmp es c.args.number c.args.value) c.self.view_is in (
       back ∙ c.self.view_is,
+      tt,
       (
         ltb-true most_wanted_weight c.weigh_keys-weight.result (sym c.is_over.ensures ∙ c.if-is_over.true),
         c.weigh_keys-weight.ensures
@@ -43,6 +44,7 @@ returns c =
     ≡ wants (values_of (insert_entry nat_cmp c.args.self c.args.number c.args.value)) =
     c.in_ok-after.ensures ∙ ap (λ es. wants (values_of es)) come in (
       come,
+      tt,
       changes_are (values_of c.args.self) (values_of (insert_entry nat_cmp c.args.self c.args.number c.args.value))
           c.self.inside.wanted.items c.in_ok-after.after.items c.in_ok-changes.changes.items
           (c.self.invariant ∙ ap (λ es. wants (values_of es)) c.self.view_is) after

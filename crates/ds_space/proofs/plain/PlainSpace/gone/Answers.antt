@@ -12,6 +12,7 @@ returns c =
     let left : c.remove-gone.new.self.entries ≡ remove_entry (is_at (nat_cmp c.args.number)) c.args.self =
     c.remove-gone.ensures.entries ∙ ap (remove_entry (is_at (nat_cmp c.args.number))) c.self.view_is in (
       left,
+      tt,
       changes_are (values_of c.args.self) (values_of (remove_entry (is_at (nat_cmp c.args.number)) c.args.self))
           c.self.inside.wanted.items c.in_ok-after.after.items c.in_ok-changes.changes.items
           (c.self.invariant ∙ ap (λ es. wants (values_of es)) c.self.view_is)

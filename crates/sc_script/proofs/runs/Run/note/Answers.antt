@@ -16,7 +16,9 @@ returns-clause-run g c =
     let few : n ≤ most_sent = c.if-size-gt-SENT_BYTES.false in
     let sum : n ≡ min (c.self.inside.size + c.size_of.result) 18446744073709551615 =
     c.saturating_add-size.ensures in
-    let all : n ≡ c.args.self.size + size_of p = sum_of (size_of p) size one sum few in
-    noted_by c.args.actor p c.args.self _ (ap (λ s. s.state) c.self.view_is)
-    (c.in_ok-keep.ensures.kept ∙ ap (kept c.args.actor p) same)
-    all (ap (λ s. s.streams) c.self.view_is)
+    let all : n ≡ c.args.self.size + size_of p = sum_of (size_of p) size one sum few in (
+      noted_by c.args.actor p c.args.self _ (ap (λ s. s.state) c.self.view_is)
+          (c.in_ok-keep.ensures.kept ∙ ap (kept c.args.actor p) same)
+          all (ap (λ s. s.streams) c.self.view_is),
+      few,
+    )

@@ -1,0 +1,10 @@
+use Rattle.std.proofs.Common.{[]}
+use Rattle.ac_world.specs.Keeping.{GoesOn, turning}
+use Rattle.ac_world.specs.Turns.{all_changed}
+use Rattle.ac_world.proofs.residents.Resident.change_all.Given as goal
+
+-- what was done so far
+abbrev pub invariant-loop-change : goal.invariant-loop-change
+invariant-loop-change g l =
+    GoesOn g.Y.System.rows (g.Y.System.behaviour (g.J.Judge.schema l.cx.judge.now)) g.Y.System.lasting l.cx.actor
+    (turning l.fn.self l.fn.plan []) (λ y. all_changed y l.cx.actor l.yielded) (turning l.self l.plan [])

@@ -1,7 +1,0 @@
-use Rattle.std.proofs.Common.{◌≡◌}
-use Rattle.ac_world.specs.Worlds.{first_actors}
-use Rattle.ac_world.proofs.world.World.begin.Given as goal
-
--- the actors so far are live
-abbrev pub invariant-loop-actor : goal.invariant-loop-actor
-invariant-loop-actor g l = l.table ≡ first_actors l.actor

@@ -1,0 +1,8 @@
+use Rattle.std.proofs.lemmas.Str.{IsUtf8-from_ascii}
+use Rattle.pv_binary.proofs.atoms.ascii_text.Goals as goal
+
+pub from_utf8_unchecked-requires : goal.from_utf8_unchecked-requires
+from_utf8_unchecked-requires c = IsUtf8-from_ascii c.args.bytes.now c.requires
+
+pub returns-clause-text : goal.returns-clause-text
+returns-clause-text c = IsUtf8-from_ascii c.args.bytes.now c.requires
