@@ -92,7 +92,7 @@ pub(crate) fn take(groups: &mut ByGroup, group: &Marked, rest: &Value) -> Taken
 }
 
 /// A group's facet goes, and with what is last in it the group.
-pub(crate) fn vacate(groups: &mut ByGroup, group: &Marked)
+pub(crate) fn take_facet(groups: &mut ByGroup, group: &Marked)
     requires { NoneBare groups.old }
     ensures handles { (o c : Plain) → handle_in (group_at groups.new o) c
         ≡ handle_in (group_at groups.old o) c }
@@ -101,11 +101,11 @@ pub(crate) fn vacate(groups: &mut ByGroup, group: &Marked)
     ensures none_bare { NoneBare groups.new }
     ensures ordered { IsOrdered marked_order groups.new }
 {
-    let Some(housed) = groups.get_mut(group) else {
+    let Some(it) = groups.get_mut(group) else {
         return;
     };
-    housed.facet = None;
-    if housed.is_bare() {
+    it.facet = None;
+    if it.is_bare() {
         let _ = groups.remove(group);
     }
 }
@@ -148,7 +148,7 @@ pub(crate) fn put(
 }
 
 /// A group has a facet from now on. For want of memory nothing changes.
-pub(crate) fn house(
+pub(crate) fn put_facet(
     alloc: Global,
     groups: &mut ByGroup,
     group: Marked,

@@ -6,7 +6,7 @@ ghost use Rattle.pv_value.specs.Order.{order};
 ghost use Rattle.ac_groups.specs.Groups.{group_of};
 
 pub use crate::group::Taken;
-use crate::group::{ByGroup, facet_of, house, put, take, vacate};
+use crate::group::{ByGroup, facet_of, put, put_facet, take, take_facet};
 use crate::parts::parts;
 use pv_marks::Marked;
 use pv_value::{NoMemory, Value};
@@ -96,25 +96,25 @@ impl Groups {
     }
 
     /// A group has a facet from now on. For want of memory nothing changes.
-    pub fn house(&mut self, group: &Value, facet: u32) -> Result<(), NoMemory>
+    pub fn put_facet(&mut self, group: &Value, facet: u32) -> Result<(), NoMemory>
         ensures facets { OnOk result (self.new.facets
             ≡ insert_entry order self.old.facets group.now facet) }
         ensures handles { self.new.handles ≡ self.old.handles }
         ensures stands { OnErr result (self.new ≡ self.old) }
     {
         let marked = Marked::of(group)?;
-        house(self.alloc, &mut self.groups, marked, facet)
+        put_facet(self.alloc, &mut self.groups, marked, facet)
     }
 
     /// A group's facet goes. For want of memory nothing changes.
-    pub fn vacate(&mut self, group: &Value) -> Result<(), NoMemory>
+    pub fn take_facet(&mut self, group: &Value) -> Result<(), NoMemory>
         ensures facets { OnOk result (self.new.facets
             ≡ remove_entry (is_at (order group.now)) self.old.facets) }
         ensures handles { OnOk result (self.new.handles ≡ self.old.handles) }
         ensures stands { OnErr result (self.new ≡ self.old) }
     {
         let marked = Marked::of(group)?;
-        vacate(&mut self.groups, &marked);
+        take_facet(&mut self.groups, &marked);
         Ok(())
     }
 }

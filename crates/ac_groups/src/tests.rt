@@ -34,10 +34,10 @@ fn is_told(alloc: Global) -> Result<bool, NoMemory> {
     let mut groups = Groups::new(alloc);
     let (one, two) = (key(alloc, 1, Some(2))?, key(alloc, 1, Some(3))?);
     let first = groups.put(&one, 5)?.is_none();
-    groups.house(&number(1), 7)?;
+    groups.put_facet(&number(1), 7)?;
     let second = groups.put(&two, 6)? == Some(7);
     let went = is_taken(&mut groups, &one, 5, Some(7))? && is_taken(&mut groups, &two, 6, Some(7))?;
-    groups.vacate(&number(1))?;
+    groups.take_facet(&number(1))?;
     Ok(first && second && went && groups.take(&one)?.facet.is_none())
 }
 

@@ -167,7 +167,7 @@ goes_done rows_of behaviour lasting a from e s cs r new p after ss told stays go
     let y : Behaviour = behaviour r.system in
     let none : Turning = turning_by rows_of (turning (record r { system = s }) p []) in
     record {
-      stands = record { live = goes.stands.live; rooted = goes.stands.rooted; houses = goes.stands.houses };
+      stands = record { live = goes.stands.live; rooted = goes.stands.rooted; own_facets = goes.stands.own_facets };
       turns = (
         ap (λ (u : Turning). record u { spreads = ss }) goes.turns.0
             ∙ all_unspread (behaviour s) a cs.items none ss
@@ -189,7 +189,7 @@ pub goes_over : {S : Type 0} (rows_of : S → Rows) (behaviour : S → Behaviour
 goes_over rows_of behaviour lasting a from e s w r p ss new told stays is stands =
     let t : Turning = turning_by rows_of (turning r p ss) in
     record {
-      stands = record { live = stands.live; rooted = stands.rooted; houses = stands.houses };
+      stands = record { live = stands.live; rooted = stands.rooted; own_facets = stands.own_facets };
       turns = (
         (λ i. record {
           resident = record { got = told.0 i; handles = t.resident.handles; facets = t.resident.facets };

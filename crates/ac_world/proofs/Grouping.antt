@@ -6,7 +6,7 @@ use Rattle.pv_value.specs.Plain.{Plain, sequence, then_more}
 use Rattle.pv_value.specs.Order.{order}
 use Rattle.ac_groups.specs.Groups.{group_of}
 use Rattle.ac_world.specs.Aims.{observation_of}
-use Rattle.ac_world.specs.Housing.{Facets}
+use Rattle.ac_world.specs.Allocating.{Facets}
 use Rattle.ac_world.specs.Keeping.{IsToldBy}
 
 first_item : (k : Plain) → group_of k ≡ observation_of k

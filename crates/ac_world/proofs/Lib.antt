@@ -2,8 +2,8 @@ pub mod Bare
 pub mod Changing
 pub mod Dropping
 pub mod Grouping
-pub mod Houses
-pub mod Housings
+pub mod OwnFacets
+pub mod OwnFacetsKept
 pub mod Known
 pub mod Lives
 pub mod Numbers

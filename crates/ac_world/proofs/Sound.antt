@@ -18,10 +18,10 @@ use Rattle.ac_world.specs.Keeping.{AreSound, AreSeated, resident_by, residents_b
 use Rattle.ac_world.specs.Limits.{most_watchers}
 use Rattle.ac_world.specs.Outboxes.{Outbox, posted, retractions}
 use Rattle.ac_world.specs.Watchers.{Watched, next_watcher, observation_by}
-use Rattle.ac_world.specs.Worlds.{WorldState, Resident, Deliveries, IsWorld, AreHoused, sent, watching, without_entry}
+use Rattle.ac_world.specs.Worlds.{WorldState, Resident, Deliveries, IsWorld, HaveOwnFacets, sent, watching, without_entry}
 use Rattle.ac_world.specs.Worlds.{gone, ended_of}
 use Rattle.ds_space.specs.Spaces.{Rows}
-use Rattle.ac_world.proofs.Housings.{housed_joined, housed_popped, housed_ended, housed_posted}
+use Rattle.ac_world.proofs.OwnFacetsKept.{own_facets_joined, own_facets_popped, own_facets_ended, own_facets_posted}
 use Rattle.ac_world.proofs.Numbers.{next_is_new, world_joined, watcher_is_new, world_watched}
 use Rattle.ac_world.proofs.Numbers.{world_popped, popped_live, world_gone, faultless_live}
 use Rattle.ac_world.proofs.Taken.{none_seated, seated_more, residents_out, seated_out}
@@ -32,7 +32,7 @@ module _ {S J B : Type 0} (p : Parts S J B) (s : AreSound p) where
 
   -- what is true of a table and of the actors that are kept
   abbrev pub AreKept : ℕ → List Watched → TableState → List (ℕ × ResidentBy (Other Rows)) → Type 0
-  AreKept opened ws t es = IsWorld opened ws t × AreHoused t ((0, gate) ∷ residents_by es) × AreSeated ws es
+  AreKept opened ws t es = IsWorld opened ws t × HaveOwnFacets t ((0, gate) ∷ residents_by es) × AreSeated ws es
 
   -- ---- a connection
 
@@ -44,8 +44,8 @@ module _ {S J B : Type 0} (p : Parts S J B) (s : AreSound p) where
   sound_arrived t is = (
     subst (IsWorld (p.opened + 1) p.watches.items) (sym is)
         (world_joined p.opened p.watches.items p.plan.table s.numbered),
-    housed_joined (16 + (p.opened + 1)) p.plan.table t (residents_of p) (λ low. absurd (omega (arith, low))) is
-        s.housed,
+    own_facets_joined (16 + (p.opened + 1)) p.plan.table t (residents_of p) (λ low. absurd (omega (arith, low))) is
+        s.own_facets,
     s.seated,
   )
 
@@ -73,9 +73,9 @@ module _ {S J B : Type 0} (p : Parts S J B) (s : AreSound p) where
             (subst (λ (l : List Watched). IsWorld 0 l t) (sym more)
             (subst (IsWorld 0 (p.watches.items ++ x ∷ [])) (sym numbered_come)
             (world_watched p.watches.items x p.plan.table few before))),
-        housed_joined (next_watcher p.watches.items) p.plan.table t (residents_of p)
+        own_facets_joined (next_watcher p.watches.items) p.plan.table t (residents_of p)
             (λ low. none_seated (next_watcher p.watches.items) p.watches.items gate p.others.entries (omega arith)
-            s.seated) numbered_come s.housed,
+            s.seated) numbered_come s.own_facets,
         subst (λ (l : List Watched). AreSeated l p.others.entries) (sym more)
             (seated_more p.watches.items x p.others.entries s.seated),
       )
@@ -105,7 +105,7 @@ module _ {S J B : Type 0} (p : Parts S J B) (s : AreSound p) where
       → AreKept p.opened p.watches.items t p.others.entries
   sound_popped a t is = (
     world_popped a p.opened p.watches.items t p.plan.table is s.numbered,
-    housed_popped a p.plan.table t (residents_of p) is s.housed,
+    own_facets_popped a p.plan.table t (residents_of p) is s.own_facets,
     s.seated,
   )
 
@@ -127,9 +127,9 @@ module _ {S J B : Type 0} (p : Parts S J B) (s : AreSound p) where
     pub sound_ended : AreKept p.opened p.watches.items t es
     sound_ended = (
       world_gone a a p.opened p.watches.items out less t p.plan.table less_is t_is s.numbered,
-      subst (AreHoused t) (sym left)
-          (housed_posted a out less t (without_entry a (residents_of p)) t_is
-          (housed_ended a p.plan.table less (residents_of p) less_is s.housed)),
+      subst (HaveOwnFacets t) (sym left)
+          (own_facets_posted a out less t (without_entry a (residents_of p)) t_is
+          (own_facets_ended a p.plan.table less (residents_of p) less_is s.own_facets)),
       seated_out a p.watches.items p.others.entries es es_is s.seated,
     )
 

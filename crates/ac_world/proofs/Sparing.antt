@@ -22,10 +22,10 @@ use Rattle.ac_world.specs.declared.acts.Act.TheVariants as act
 use Rattle.ac_world.specs.declared.aims.Aim.{Aim}
 use Rattle.ac_world.specs.Aims.{aim_at, aim_for}
 use Rattle.ac_world.specs.Behaviours.{Behaviour}
-use Rattle.ac_world.specs.Housing.{Vacated, facet_for, housed_at, vacated_at}
+use Rattle.ac_world.specs.Allocating.{Released, facet_for, allocated_at, released_at}
 use Rattle.ac_world.specs.Outboxes.{Plan, drop_row, drop_own, dropped, acted, all_acted}
 use Rattle.ds_space.specs.Changes.{changes}
-use Rattle.ac_world.specs.Turns.{Turning, drop_met, handle_for, vacating, row_gone, housing, came_at}
+use Rattle.ac_world.specs.Turns.{Turning, drop_met, handle_for, releasing, row_gone, allocating, came_at}
 use Rattle.ac_world.specs.Turns.{changed_by, all_changed, with_rows, regot, applied, taken_in}
 use Rattle.ac_world.specs.Turns.{say_at, say_all, passed_on, turned_by, all_turned}
 
@@ -74,18 +74,18 @@ module _ {X : Type 0} (f : TableState → X) (a : ℕ) (spared : IsSparedByRows 
 module _ {X : Type 0} (f : TableState → X) (a : ℕ) (spared : IsSpared f a) where
   -- ---- the rows and the facets of a system actor
 
-  vacating_spared : (g : Option Plain) (t : Turning) → f (vacating a g t).plan.table ≡ f t.plan.table
-  vacating_spared None t = refl
-  vacating_spared (Some g) t = by (facet_for (Some g) t.resident.facets)
+  releasing_spared : (g : Option Plain) (t : Turning) → f (releasing a g t).plan.table ≡ f t.plan.table
+  releasing_spared None t = refl
+  releasing_spared (Some g) t = by (facet_for (Some g) t.resident.facets)
     where
       by : (o : Option ℕ)
-          → f (record t.plan.table { trees = (vacated_at a g o t.resident.facets t.plan.table).trees })
+          → f (record t.plan.table { trees = (released_at a g o t.resident.facets t.plan.table).trees })
           ≡ f t.plan.table
       by None = refl
       by (Some n) = rest (has_rows a n t.plan.table)
         where
           rest : (b : Bool) → f (record t.plan.table {
-            trees = (cond {A = Vacated} b (record { facets = t.resident.facets; trees = t.plan.table.trees }) (record {
+            trees = (cond {A = Released} b (record { facets = t.resident.facets; trees = t.plan.table.trees }) (record {
               facets = remove_entry (is_at (order g)) t.resident.facets;
               trees = (without_facets a (n ∷ []) t.plan.table).trees;
             })).trees;
@@ -93,11 +93,11 @@ module _ {X : Type 0} (f : TableState → X) (a : ℕ) (spared : IsSpared f a) w
           rest true = refl
           rest false = spared.facet_less n t.plan.table
 
-  housing_spared : (g : Option Plain) (t : Turning) → f (housing a g t).plan.table ≡ f t.plan.table
-  housing_spared g t = by g (facet_for g t.resident.facets)
+  allocating_spared : (g : Option Plain) (t : Turning) → f (allocating a g t).plan.table ≡ f t.plan.table
+  allocating_spared g t = by g (facet_for g t.resident.facets)
     where
       by : (g : Option Plain) (o : Option ℕ)
-          → f (record t.plan.table { trees = (housed_at a g o t.resident.facets t.plan.table).trees })
+          → f (record t.plan.table { trees = (allocated_at a g o t.resident.facets t.plan.table).trees })
           ≡ f t.plan.table
       by g (Some n) = refl
       by (Some k) None = spared.facet_more (least_free (tree_of a t.plan.table)) t.plan.table
@@ -107,11 +107,11 @@ module _ {X : Type 0} (f : TableState → X) (a : ℕ) (spared : IsSpared f a) w
       → f (came_at a g k o t).plan.table ≡ f t.plan.table
   came_spared g k None t = refl
   came_spared g k (Some aim) t =
-      spared.rows.row_more _ aim.at.actor aim.at.entity aim.value (housing a g t).plan.table ∙ housing_spared g t
+      spared.rows.row_more _ aim.at.actor aim.at.entity aim.value (allocating a g t).plan.table ∙ allocating_spared g t
 
   changed_spared : (y : Behaviour) (c : Change) (t : Turning) → f (changed_by y a c t).plan.table ≡ f t.plan.table
   changed_spared y (Left k) t =
-      vacating_spared (y.group k) (row_gone a k t) ∙ met_spared f a spared.rows (handle_for k t.resident.handles) t.plan
+      releasing_spared (y.group k) (row_gone a k t) ∙ met_spared f a spared.rows (handle_for k t.resident.handles) t.plan
   changed_spared y (Came k) t = came_spared (y.group k) k (y.aim k) t
 
   all_changed_spared : (y : Behaviour) (cs : List Change) (t : Turning)

@@ -16,12 +16,13 @@ use Rattle.ps_schema.specs.declared.Definition.{Definition}
 use Rattle.ac_world.specs.declared.aims.Aim.{Aim}
 use Rattle.ac_world.specs.Aims.{aim_at, aim_for}
 use Rattle.ac_world.specs.Behaviours.{Behaviour, fanned_weight}
-use Rattle.ac_world.specs.Housing.{Facets, IsRooted, AreHouses, facet_for}
+use Rattle.ac_world.specs.Allocating.{Facets, IsRooted, AreOwnFacets, facet_for}
 use Rattle.ac_world.specs.Keeping.{Stands}
 use Rattle.ac_world.specs.Outboxes.{Plan, with_trees}
 use Rattle.ac_world.specs.Turns.{Turning, row_gone, handle_for, say_at, say_all, passed_on, passes_on}
 use Rattle.ac_world.specs.Turns.{spreading, by_message, answer_to}
-use Rattle.ac_world.proofs.Houses.{leaf_there, rooted_more, rooted_less, houses_more, houses_less, house_passes}
+use Rattle.ac_world.proofs.OwnFacets.{leaf_there, rooted_more, rooted_less, own_facets_more, own_facets_less}
+use Rattle.ac_world.proofs.OwnFacets.{own_facet_passes}
 use Rattle.ac_world.proofs.Sparing.{met_spared}
 
 -- who is live, the actor's tree and the facets of its groups are all that it rests on
@@ -30,8 +31,8 @@ pub stands_by : (a : ℕ) (t u : Turning) → is_live a u.plan.table ≡ is_live
 stands_by a t u live tree facets s = record {
   live = live ∙ s.live;
   rooted = subst IsRooted (sym tree) s.rooted;
-  houses = subst (λ fs. AreHouses fs (tree_of a u.plan.table)) (sym facets)
-      (subst (AreHouses t.resident.facets) (sym tree) s.houses);
+  own_facets = subst (λ fs. AreOwnFacets fs (tree_of a u.plan.table)) (sym facets)
+      (subst (AreOwnFacets t.resident.facets) (sym tree) s.own_facets);
 }
 
 -- a row goes
@@ -61,21 +62,21 @@ module _ (a : ℕ) (g : Plain) (t : Turning) (s : Stands a t) where
   tree_more n = tree_faceted a 0 n t.plan.table (tree_of_facet a 0 t.plan.table s.rooted.root)
 
   -- a group has a facet from now on
-  pub stands_founded : (n : ℕ) (facets : Facets) (plan : Plan) → 0 < n → has_facet a n t.plan.table ≡ false
+  pub stands_first_allocated : (n : ℕ) (facets : Facets) (plan : Plan) → 0 < n → has_facet a n t.plan.table ≡ false
       → facets ≡ insert_entry order t.resident.facets g n
       → plan ≡ with_trees (faceted a 0 n t.plan.table).trees t.plan → Stands a (with_facets facets plan)
-  stands_founded n facets plan some free facets_is plan_is =
+  stands_first_allocated n facets plan some free facets_is plan_is =
       subst (λ fs. Stands a (with_facets fs plan)) (sym facets_is)
       (subst (λ p. Stands a (with_facets (insert_entry order t.resident.facets g n) p)) (sym plan_is) (record {
         live = s.live;
         rooted = subst IsRooted (sym (tree_more n)) (rooted_more n (tree_of a t.plan.table) s.rooted);
-        houses = subst (AreHouses (insert_entry order t.resident.facets g n)) (sym (tree_more n))
-            (houses_more g n t.resident.facets (tree_of a t.plan.table) some free s.houses);
+        own_facets = subst (AreOwnFacets (insert_entry order t.resident.facets g n)) (sym (tree_more n))
+            (own_facets_more g n t.resident.facets (tree_of a t.plan.table) some free s.own_facets);
       }))
 
-  pub founded_there : (n : ℕ) (plan : Plan) → plan ≡ with_trees (faceted a 0 n t.plan.table).trees t.plan
+  pub first_allocated_there : (n : ℕ) (plan : Plan) → plan ≡ with_trees (faceted a 0 n t.plan.table).trees t.plan
       → has_facet a n plan.table ≡ true
-  founded_there n plan is =
+  first_allocated_there n plan is =
       ap (λ (p : Plan). has_facet a n p.table) is ∙ ap (is_facet n) (tree_more n)
       ∙ leaf_there n (tree_of a t.plan.table)
 
@@ -86,7 +87,7 @@ module _ (a : ℕ) (g : Plain) (t : Turning) (s : Stands a t) where
       else (without_facets a (f ∷ []) t.plan.table).trees) t.plan
       → Stands a (with_facets facets plan)
   stands_emptied f facets plan found none facets_is plan_is =
-      let some : 0 < f = (house_passes _ (is_at (order g)) f t.resident.facets found s.houses.there).0 in
+      let some : 0 < f = (own_facet_passes _ (is_at (order g)) f t.resident.facets found s.own_facets.there).0 in
       let less : plan ≡ with_trees (without_facets a (f ∷ []) t.plan.table).trees t.plan =
       plan_is ∙ ap (λ b. with_trees (cond b t.plan.table.trees (without_facets a (f ∷ []) t.plan.table).trees) t.plan)
       none in
@@ -94,8 +95,8 @@ module _ (a : ℕ) (g : Plain) (t : Turning) (s : Stands a t) where
       (subst (λ p. Stands a (with_facets (remove_entry (is_at (order g)) t.resident.facets) p)) (sym less) (record {
         live = s.live;
         rooted = subst IsRooted (sym (tree_less f)) (rooted_less f (tree_of a t.plan.table) some s.rooted);
-        houses = subst (AreHouses (remove_entry (is_at (order g)) t.resident.facets)) (sym (tree_less f))
-            (houses_less g f t.resident.facets (tree_of a t.plan.table) found s.houses);
+        own_facets = subst (AreOwnFacets (remove_entry (is_at (order g)) t.resident.facets)) (sym (tree_less f))
+            (own_facets_less g f t.resident.facets (tree_of a t.plan.table) found s.own_facets);
       }))
 
 -- ---- what says something leaves the table and the facets
@@ -119,7 +120,7 @@ stands_passed a ds from fs t s = by (nat_lt most_wanted_weight (fanned_weight fs
   where
     by : (b : Bool) → Stands a (cond b (spreading (by_message t.plan.table from (fanned_weight fs)) t)
         (record t { plan = say_all ds fs t.plan }))
-    by true = record { live = s.live; rooted = s.rooted; houses = s.houses }
+    by true = record { live = s.live; rooted = s.rooted; own_facets = s.own_facets }
     by false = stands_said a t (say_all ds fs t.plan) (say_all_table ds fs t.plan) s
 
 pub stands_passes_on : (y : Behaviour) (a from : ℕ) (m : Plain) (t : Turning) → Stands a t

@@ -14,12 +14,12 @@ use Rattle.ac_world.specs.declared.residents.Resident.{Resident as ResidentBy}
 use Rattle.ac_world.specs.declared.spreads.Spread.{Spread}
 use Rattle.ac_table.specs.Tables.{is_live, tree_of}
 use Rattle.ac_world.specs.Behaviours.{Behaviour}
-use Rattle.ac_world.specs.Housing.{Facets, IsRooted, AreHouses}
+use Rattle.ac_world.specs.Allocating.{Facets, IsRooted, AreOwnFacets}
 use Rattle.ac_world.specs.Others.{rows_in, task_in}
 use Rattle.ac_world.specs.Staying.{Lasting}
 use Rattle.ac_world.specs.Watchers.{Watched, next_watcher, task_at}
 use Rattle.ac_world.specs.Outboxes.{Plan, plan_over, committed}
-use Rattle.ac_world.specs.Worlds.{WorldState, Resident, IsWorld, AreHoused}
+use Rattle.ac_world.specs.Worlds.{WorldState, Resident, IsWorld, HaveOwnFacets}
 use Rattle.ac_world.specs.Turns.{Turning, all_turned}
 
 abbrev pub resident_by : {S : Type 0} → (S → Rows) → ResidentBy S → Resident
@@ -54,7 +54,7 @@ IsToldBy (Some g) fs f = f ≡ lookup (is_at (order g)) fs
 pub record Stands (a : ℕ) (t : Turning) : Type 0 where
   pub live : is_live a t.plan.table ≡ true
   pub rooted : IsRooted (tree_of a t.plan.table)
-  pub houses : AreHouses t.resident.facets (tree_of a t.plan.table)
+  pub own_facets : AreOwnFacets t.resident.facets (tree_of a t.plan.table)
 
 -- an actor that stood goes on by f: it stands, and what lasts of it is as before
 pub record GoesOn {S : Type 0} (rows_of : S → Rows) (behaviour : S → Behaviour) (lasting : S → Lasting) (a : ℕ)
@@ -107,5 +107,5 @@ world_by schema p = record {
 pub record AreSound {S J B : Type 0} (p : Parts S J B) : Type 0 where
   pub posted : p.plan ≡ plan_over p.plan.table
   pub numbered : IsWorld p.opened p.watches.items p.plan.table
-  pub housed : AreHoused p.plan.table (residents_of p)
+  pub own_facets : HaveOwnFacets p.plan.table (residents_of p)
   pub seated : AreSeated p.watches.items p.others.entries

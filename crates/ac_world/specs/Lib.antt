@@ -1,6 +1,6 @@
 pub mod Aims
 pub mod Behaviours
-pub mod Housing
+pub mod Allocating
 pub mod Judging
 pub mod Keeping
 pub mod Lemmas

@@ -19,7 +19,7 @@ use Rattle.ac_table.specs.declared.batches.Event.{Event}
 use Rattle.ac_table.specs.declared.batches.Event.TheVariants.{Assert, Retract, Message, Sync}
 use Rattle.ac_table.specs.declared.batches.Batch.{Batch}
 use Rattle.ac_table.specs.Tables.{TableState, is_live, first_batch, popped, lowest}
-use Rattle.ac_world.specs.Housing.{housed, vacated}
+use Rattle.ac_world.specs.Allocating.{allocated, released}
 use Rattle.ac_world.specs.Outboxes.{Plan, plan_over, put, with_trees, dropped, said, committed}
 use Rattle.ac_world.specs.Worlds.{WorldState, Resident, resident_of, held_by, with_entry, is_system}
 use Rattle.ac_world.specs.Worlds.{all_delivered}
@@ -71,14 +71,14 @@ drop_met a None p = p
 drop_met a (Some h) p = dropped a h p
 
 -- with the last row of a group their facet goes
-abbrev pub vacating : ℕ → Option Plain → Turning → Turning
-vacating a g t = record {
+abbrev pub releasing : ℕ → Option Plain → Turning → Turning
+releasing a g t = record {
   resident = record {
     got = t.resident.got;
     handles = t.resident.handles;
-    facets = (vacated a g t.resident.facets t.plan.table).facets;
+    facets = (released a g t.resident.facets t.plan.table).facets;
   };
-  plan = with_trees (vacated a g t.resident.facets t.plan.table).trees t.plan;
+  plan = with_trees (released a g t.resident.facets t.plan.table).trees t.plan;
   spreads = t.spreads;
 }
 
@@ -96,17 +96,17 @@ row_gone a k t = record {
 
 -- a key is wanted no more
 abbrev pub left : Behaviour → ℕ → Plain → Turning → Turning
-left y a k t = vacating a (y.group k) (row_gone a k t)
+left y a k t = releasing a (y.group k) (row_gone a k t)
 
 -- a row of a group is to stand in their facet, which is made where it isn't there
-abbrev pub housing : ℕ → Option Plain → Turning → Turning
-housing a g t = record {
+abbrev pub allocating : ℕ → Option Plain → Turning → Turning
+allocating a g t = record {
   resident = record {
     got = t.resident.got;
     handles = t.resident.handles;
-    facets = (housed a g t.resident.facets t.plan.table).facets;
+    facets = (allocated a g t.resident.facets t.plan.table).facets;
   };
-  plan = with_trees (housed a g t.resident.facets t.plan.table).trees t.plan;
+  plan = with_trees (allocated a g t.resident.facets t.plan.table).trees t.plan;
   spreads = t.spreads;
 }
 
@@ -126,7 +126,7 @@ row_come a facet k aim t = record {
 abbrev pub came_at : ℕ → Option Plain → Plain → Option Aim → Turning → Turning
 came_at a g k None t = t
 came_at a g k (Some aim) t =
-    row_come a (housed a g t.resident.facets t.plan.table).facet k aim (housing a g t)
+    row_come a (allocated a g t.resident.facets t.plan.table).facet k aim (allocating a g t)
 
 -- a key is wanted now
 abbrev pub came : Behaviour → ℕ → Plain → Turning → Turning

@@ -13,7 +13,7 @@ use Rattle.gk_sturdy.specs.Bindings.{with_binding}
 use Rattle.ac_table.specs.declared.batches.Event.{Event}
 use Rattle.ac_table.specs.declared.batches.Event.TheVariants.{Assert, Retract, Message, Sync}
 use Rattle.ac_table.specs.Tables.{TableState, opening, joined, is_live, tree_of, ended, rows_of}
-use Rattle.ac_world.specs.Housing.{Facets, IsRooted, AreHouses}
+use Rattle.ac_world.specs.Allocating.{Facets, IsRooted, AreOwnFacets}
 use Rattle.ac_world.specs.Outboxes.{plan_over, all_acted, committed, retractions, posted}
 use Rattle.ac_world.specs.declared.acts.Act.{Act}
 use Rattle.ac_world.specs.declared.acts.Act.TheVariants as act
@@ -156,7 +156,7 @@ abbrev pub IsWorld : ℕ → List Watched → TableState → Type 0
 IsWorld opened ws t = AllByRecursion (λ x. IsNumbered opened ws x.number) t.actors
 
 -- each live actor has its facets, and each system actor those of its groups
-pub record AreHoused (t : TableState) (residents : List (ℕ × Resident)) : Type 0 where
+pub record HaveOwnFacets (t : TableState) (residents : List (ℕ × Resident)) : Type 0 where
   pub rooted : (a : ℕ) → is_live a t ≡ true → IsRooted (tree_of a t)
-  pub houses : (a : ℕ) → a < 17 → is_live a t ≡ true
-      → AreHouses (unwrap_or (entry_of a residents) no_resident).facets (tree_of a t)
+  pub own_facets : (a : ℕ) → a < 17 → is_live a t ≡ true
+      → AreOwnFacets (unwrap_or (entry_of a residents) no_resident).facets (tree_of a t)

@@ -4,7 +4,7 @@ ghost use Rattle.pv_value.specs.Plain.{sequence, plains};
 ghost use Rattle.ac_table.specs.Facets.{least_free};
 ghost use Rattle.ac_table.specs.Tables.{is_live, has_facet, has_rows, tree_of, faceted};
 ghost use Rattle.ac_table.specs.Tables.{without_facets};
-ghost use Rattle.ac_world.specs.Housing.{IsRooted};
+ghost use Rattle.ac_world.specs.Allocating.{IsRooted};
 ghost use Rattle.ac_world.specs.Outboxes.{plan_over, put, with_trees, dropped, said, committed};
 ghost use Rattle.ac_world.specs.Outboxes.{acted, all_acted, owns};
 ghost use Rattle.ac_world.specs.Aims.{aim_for};

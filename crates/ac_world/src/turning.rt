@@ -3,10 +3,10 @@ ghost use Rattle.std.specs.Prelude.{◌≡◌, [], true, IfOk, List, OnOk};
 ghost use Rattle.ac_table.specs.Tables.{has_facet};
 ghost use Rattle.ps_schema.specs.declared.Definition.{Definition};
 ghost use Rattle.ds_space.specs.Spaces.{IsNew};
-ghost use Rattle.ac_world.specs.Housing.{housed};
+ghost use Rattle.ac_world.specs.Allocating.{allocated};
 ghost use Rattle.ac_world.specs.Keeping.{resident_by, turning, turning_by, turning_over};
 ghost use Rattle.ac_world.specs.Keeping.{GoesOn, IsToldBy, IsTurned, Stands};
-ghost use Rattle.ac_world.specs.Turns.{housing, vacating, left, came, changed_by, all_changed};
+ghost use Rattle.ac_world.specs.Turns.{allocating, releasing, left, came, changed_by, all_changed};
 ghost use Rattle.ac_world.specs.Turns.{applied, by_assertion, by_message, taken_in, culprit};
 ghost use Rattle.ac_world.specs.Turns.{passes_on, turned_by, all_turned};
 
@@ -38,7 +38,7 @@ impl<Y: System + Drop> Resident<Y> {
         ensures stands { OnOk result
             (Stands actor (turning_by Y.rows (turning self.new plan.new []))) }
         ensures turns { OnOk result (turning_by Y.rows (turning self.new plan.new [])
-            ≡ vacating actor (Y.grouping key.now)
+            ≡ releasing actor (Y.grouping key.now)
             (turning_by Y.rows (turning self.old plan.old []))) }
         ensures system { OnOk result (self.new.system ≡ self.old.system) }
     {
@@ -51,7 +51,7 @@ impl<Y: System + Drop> Resident<Y> {
         if !plan.release_facet(actor, facet)? {
             return Ok(());
         }
-        self.groups.vacate(group)?;
+        self.groups.take_facet(group)?;
         Ok(())
     }
 
@@ -87,10 +87,10 @@ impl<Y: System + Drop> Resident<Y> {
         ensures stands { OnOk result
             (Stands actor (turning_by Y.rows (turning self.new plan.new []))) }
         ensures turns { OnOk result (turning_by Y.rows (turning self.new plan.new [])
-            ≡ housing actor (Y.grouping key.now)
+            ≡ allocating actor (Y.grouping key.now)
             (turning_by Y.rows (turning self.old plan.old []))) }
         ensures there { IfOk result (λ facet. has_facet actor facet plan.new.table ≡ true) }
-        ensures facet { IfOk result (λ facet. facet ≡ (housed actor (Y.grouping key.now)
+        ensures facet { IfOk result (λ facet. facet ≡ (allocated actor (Y.grouping key.now)
             self.old.groups.facets plan.old.table).facet) }
         ensures system { OnOk result (self.new.system ≡ self.old.system) }
     {
@@ -101,7 +101,7 @@ impl<Y: System + Drop> Resident<Y> {
             return Ok(facet);
         }
         let facet = plan.allocate_facet(actor)?;
-        self.groups.house(group, facet)?;
+        self.groups.put_facet(group, facet)?;
         Ok(facet)
     }
 

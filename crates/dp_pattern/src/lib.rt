@@ -13,6 +13,7 @@ mod parts;
 pub use laws::captures_are_binds;
 pub use matching::{captures, matches};
 pub use parsing::parse;
+pub use parts::is_of;
 use pv_value::Value;
 use std::marker::Model;
 

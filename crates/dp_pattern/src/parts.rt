@@ -1,13 +1,13 @@
 //! The parts of values that keys name.
-ghost use Rattle.std.specs.Prelude.{◌≡◌, option_copied};
+ghost use Rattle.std.specs.Prelude.{◌≡◌, option_copied, IfOk};
 ghost use Rattle.dp_pattern.specs.Matching.{is_met_by, is_of, part_of};
 
 use crate::{Extent, Group};
-use pv_value::{Node, Value};
+use pv_value::{NoMemory, Node, Value};
 use pv_words::{item_under, value_under};
 
-/// Whether the value is of the group's kind.
-pub(crate) fn is_of(group: &Group, value: &Value) -> bool
+/// Whether the value is of the group's kind, and has as many parts as the group wants.
+pub fn is_of(group: &Group, value: &Value) -> bool
     ensures { result ≡ is_of group.now value.now }
 {
     match (group, &value.node) {
@@ -17,6 +17,19 @@ pub(crate) fn is_of(group: &Group, value: &Value) -> bool
         (Group::InSequence(extent), Node::Seq(items)) => extent.is_met_by(items.len()),
         (Group::InDictionary, Node::Dict(_)) => true,
         _ => false,
+    }
+}
+
+impl Group {
+    /// An equal group.
+    pub fn copy(&self) -> Result<Group, NoMemory>
+        ensures { IfOk result (λ g. g ≡ self.now) }
+    {
+        match self {
+            Group::InRecord(label, extent) => Ok(Group::InRecord(label.copy()?, *extent)),
+            Group::InSequence(extent) => Ok(Group::InSequence(*extent)),
+            Group::InDictionary => Ok(Group::InDictionary),
+        }
     }
 }
 

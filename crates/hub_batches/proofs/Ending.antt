@@ -10,7 +10,7 @@ use Rattle.ac_table.specs.declared.batches.Event.TheVariants.{Retract}
 use Rattle.ac_table.specs.declared.batches.Row.{Row}
 use Rattle.ac_table.specs.Tables.{find_actor, is_live, rows_of, ended, lowest}
 use Rattle.ac_table.specs.Lemmas.Lists.{all_weaker}
-use Rattle.ac_world.specs.Housing.{AreApart}
+use Rattle.ac_world.specs.Allocating.{AreApart}
 use Rattle.ac_world.specs.Lemmas.Entries.{all_append}
 use Rattle.ac_world.specs.Outboxes.{Outbox, told, told_to, retractions}
 use Rattle.ac_world.specs.Turns.{turn}

@@ -7,7 +7,7 @@ use Rattle.ac_table.specs.declared.batches.Event.{Event}
 use Rattle.ac_table.specs.declared.batches.Batch.{Batch}
 use Rattle.ac_table.specs.Tables.{TableState, Actor, find_actor, is_live, popped}
 use Rattle.ac_world.specs.Behaviours.{Behaviour, behaviour_of}
-use Rattle.ac_world.specs.Housing.{AreApart}
+use Rattle.ac_world.specs.Allocating.{AreApart}
 use Rattle.ac_world.specs.Outboxes.{told_to}
 use Rattle.ac_world.specs.Turns.{Turning, begin_turn, all_turned}
 use Rattle.ac_world.specs.Worlds.{WorldState, is_system}

@@ -48,7 +48,7 @@ built_alone = record {
   rooted = record { root = refl; flat = flat_alone };
   ascends = ascend_cons 0 [] tt ascend_none;
   known = λ f. by (is_at (nat_cmp f) 0) ∙ ap (λ b. b || false) (at_is f 0);
-  houses = record { there = tt; apart = tt };
+  own_facets = record { there = tt; apart = tt };
 }
   where
     by : (b : Bool) → is_some (cond {A = Option ℕ} b (Some 0) None) ≡ (b || false)

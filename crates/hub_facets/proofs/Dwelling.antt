@@ -20,12 +20,13 @@ use Rattle.ac_table.specs.Lemmas.Leaves.{one_key, tree_of_facet, tree_faceted, t
 use Rattle.ac_table.specs.Maps.{KeysAscend, is_key, value_at}
 use Rattle.ac_table.specs.Tables.{TableState, IsTable, find_row, is_live, tree_of, has_rows, faceted, without_facets}
 use Rattle.ac_table.specs.Tables.{asserted}
-use Rattle.ac_world.specs.Housing.{Facets, Housed, Vacated, facet_for, housed, housed_at, vacated, vacated_at}
-use Rattle.ac_world.specs.Housing.{IsRooted, IsHouse, AreHouses}
+use Rattle.ac_world.specs.Allocating.{Facets, Allocated, Released, facet_for, allocated, allocated_at, released}
+use Rattle.ac_world.specs.Allocating.{released_at}
+use Rattle.ac_world.specs.Allocating.{IsRooted, IsOwnFacet, AreOwnFacets}
 use Rattle.ac_world.specs.Lemmas.Entries.{ascend_with}
 use Rattle.ac_world.specs.Outboxes.{Plan, drop_row, drop_own}
 use Rattle.ac_world.specs.Turns.{handle_for, drop_met}
-use Rattle.ac_world.proofs.Houses.{house_passes, rooted_more, rooted_less, houses_more, houses_less}
+use Rattle.ac_world.proofs.OwnFacets.{own_facet_passes, rooted_more, rooted_less, own_facets_more, own_facets_less}
 use Rattle.hub_laws.proofs.Finding.{row_next, found_handle, find_row-without, find_row-push_old, find_row-asserted}
 use Rattle.hub_laws.proofs.Finding.{asserted_table, retracted_table}
 use Rattle.hub_laws.proofs.Keys.{lookup-insert_entry, lookup-without_entry, insert_entry_ascends, remove_entry_ascends}
@@ -40,11 +41,11 @@ pub record AreBuilt (facets : Facets) (tree : Tree) : Type 0 where
   pub rooted : IsRooted tree
   pub ascends : KeysAscend tree
   pub known : (f : ℕ) → is_facet f tree ≡ (f == 0 || is_listed f facets)
-  pub houses : AreHouses facets tree
+  pub own_facets : AreOwnFacets facets tree
 
 -- a facet that is listed isn't facet 0
 pub some_listed : (f : ℕ) (facets : Facets) (tree : Tree) → AreBuilt facets tree → is_listed f facets ≡ true → 0 < f
-some_listed f facets tree b is = (key_passes (IsHouse tree) f (values_of facets) is b.houses.there).0
+some_listed f facets tree b is = (key_passes (IsOwnFacet tree) f (values_of facets) is b.own_facets.there).0
 
 module _ (g : Plain) (n : ℕ) (facets : Facets) (tree : Tree) (some : 0 < n) (b : AreBuilt facets tree) where
   module _ (free : is_facet n tree ≡ false) (none : facet_for (Some g) facets ≡ None) where
@@ -66,7 +67,7 @@ module _ (g : Plain) (n : ℕ) (facets : Facets) (tree : Tree) (some : 0 < n) (b
       rooted = rooted_more n tree b.rooted;
       ascends = ascend_with n 0 tree b.ascends;
       known = known_more;
-      houses = houses_more g n facets tree some free b.houses;
+      own_facets = own_facets_more g n facets tree some free b.own_facets;
     }
 
   module _ (found : facet_for (Some g) facets ≡ Some n) where
@@ -76,7 +77,7 @@ module _ (g : Plain) (n : ℕ) (facets : Facets) (tree : Tree) (some : 0 < n) (b
         ap is_some (lookup-filter q (n ∷ []) tree)
         ∙ ap (λ c. is_some (cond c None (value_at q tree))) (one_key q n)
         ∙ by (value_at q tree) (q == n) (q == 0) (is_listed q facets) not_first (b.known q)
-        ∙ ap (λ c. q == 0 || c) (sym (listed_less (is_at (order g)) q n facets found b.houses.apart))
+        ∙ ap (λ c. q == 0 || c) (sym (listed_less (is_at (order g)) q n facets found b.own_facets.apart))
       where
         not_first : (q == n) ≡ true → (q == 0) ≡ false
         not_first is = grind (arith, nat_tests, is, some)
@@ -106,7 +107,7 @@ module _ (g : Plain) (n : ℕ) (facets : Facets) (tree : Tree) (some : 0 < n) (b
           subst (IsStrictlySortedBy nat_cmp) (sym (keys_less (λ k. not (is_key k (n ∷ []))) tree))
           (IsStrictlySortedBy-filter nat_cmp (λ k. not (is_key k (n ∷ []))) (keys_of tree) b.ascends);
       known = known_less;
-      houses = houses_less g n facets tree found b.houses;
+      own_facets = own_facets_less g n facets tree found b.own_facets;
     }
 
 -- ---- the actor's rows, keys and facets; of the spare facet alone it isn't known whether a row stands in it
@@ -335,7 +336,7 @@ module _ (group : Plain → Option Plain) (a : ℕ) (handles : List (Plain × �
     still_lived : (f : ℕ) → is_listed f fewer ≡ true → (None ≡ Some f) ⊎ IsLivedIn a f t.rows
     still_lived f is =
         let both = both_hold (is_listed f facets) (f == n)
-        (sym (listed_less (is_at (order x)) f n facets found d.built.houses.apart) ∙ is) in
+        (sym (listed_less (is_at (order x)) f n facets found d.built.own_facets.apart) ∙ is) in
         elim (d.lived_in f both.0) [
           | inl here ↦
               absurd (let one : n ≡ f = cc in
@@ -364,26 +365,27 @@ module _ (group : Plain → Option Plain) (a : ℕ) (handles : List (Plain × �
       built =
           subst (AreBuilt fewer) tree_less
           (built_less x n facets (tree_of a t)
-          (house_passes (IsHouse (tree_of a t)) (is_at (order x)) n facets found d.built.houses.there).0 d.built found);
+          (own_facet_passes (IsOwnFacet (tree_of a t)) (is_at (order x)) n facets found d.built.own_facets.there).0
+          d.built found);
       lived_in = still_lived;
     }
 
-  abbrev AreVacated : Vacated → Type 0
-  AreVacated v = Dwells group a None handles v.facets (record t { trees = v.trees })
+  abbrev AreReleased : Released → Type 0
+  AreReleased v = Dwells group a None handles v.facets (record t { trees = v.trees })
 
-  pub vacated_dwells : (g : Option Plain) → Dwells group a (facet_for g facets) handles facets t
-      → AreVacated (vacated a g facets t)
-  vacated_dwells None d =
+  pub released_dwells : (g : Option Plain) → Dwells group a (facet_for g facets) handles facets t
+      → AreReleased (released a g facets t)
+  released_dwells None d =
       settled (Some 0)
       (λ f is first. absurd (let same : 0 ≡ f = cc in
       let some = some_listed f facets (tree_of a t) d.built is in omega (arith, same, some))) d
-  vacated_dwells (Some x) d = by (facet_for (Some x) facets) refl d
+  released_dwells (Some x) d = by (facet_for (Some x) facets) refl d
     where
-      kept : Vacated
+      kept : Released
       kept = record { facets = facets; trees = t.trees }
 
       at : (n : ℕ) → facet_for (Some x) facets ≡ Some n → Dwells group a (Some n) handles facets t → (b : Bool)
-          → has_rows a n t ≡ b → AreVacated (cond b kept (record {
+          → has_rows a n t ≡ b → AreReleased (cond b kept (record {
             facets = remove_entry (is_at (order x)) facets;
             trees = (without_facets a (n ∷ []) t).trees;
           }))
@@ -394,13 +396,13 @@ module _ (group : Plain → Option Plain) (a : ℕ) (handles : List (Plain × �
       at n found d false is = emptied x n found is d
 
       by : (o : Option ℕ) → facet_for (Some x) facets ≡ o → Dwells group a o handles facets t
-          → AreVacated (vacated_at a x o facets t)
+          → AreReleased (released_at a x o facets t)
       by None none d = settled None (λ f is nothing. absurd cc) d
       by (Some n) found d = at n found d (has_rows a n t) refl
 
   -- ---- a row is to come: its facet is there, or is made
 
-  pub record AreHousedIn (g : Option Plain) (h : Housed) : Type 0 where
+  pub record HaveOwnFacetsIn (g : Option Plain) (h : Allocated) : Type 0 where
     pub dwells : Dwells group a (Some h.facet) handles h.facets (record t { trees = h.trees })
     pub home : facet_for g h.facets ≡ Some h.facet
 
@@ -442,9 +444,9 @@ module _ (group : Plain → Option Plain) (a : ℕ) (handles : List (Plain × �
       tree_more : insert_entry nat_cmp (tree_of a t) number 0 ≡ tree_of a (faceted a 0 number t)
       tree_more = sym (tree_faceted a 0 number t (tree_of_facet a 0 t d.built.rooted.root))
 
-      founded_in : AreHousedIn (Some x)
+      first_allocated_in : HaveOwnFacetsIn (Some x)
           (record { facet = number; facets = more_facets; trees = (faceted a 0 number t).trees })
-      founded_in =
+      first_allocated_in =
           let is_new = least_is_new (tree_of a t) d.built.ascends in
           record {
             dwells = record {
@@ -464,12 +466,13 @@ module _ (group : Plain → Option Plain) (a : ℕ) (handles : List (Plain × �
             home = found_more x ∙ ap (λ b. cond b (Some number) (facet_for (Some x) facets)) (same_self x);
           }
 
-    pub housed_dwells : (g : Option Plain) → AreHousedIn g (housed a g facets t)
-    housed_dwells None = record { dwells = spared (Some 0) d; home = refl }
-    housed_dwells (Some x) = by (facet_for (Some x) facets) refl
+    pub allocated_dwells : (g : Option Plain) → HaveOwnFacetsIn g (allocated a g facets t)
+    allocated_dwells None = record { dwells = spared (Some 0) d; home = refl }
+    allocated_dwells (Some x) = by (facet_for (Some x) facets) refl
       where
-        by : (o : Option ℕ) → facet_for (Some x) facets ≡ o → AreHousedIn (Some x) (housed_at a (Some x) o facets t)
-        by None none = founded_in x none
+        by : (o : Option ℕ) → facet_for (Some x) facets ≡ o → HaveOwnFacetsIn (Some x)
+            (allocated_at a (Some x) o facets t)
+        by None none = first_allocated_in x none
         by (Some n) found = record { dwells = spared (Some n) d; home = found }
 
 -- ---- a row comes for a new key, in a facet that is there

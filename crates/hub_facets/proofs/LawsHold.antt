@@ -19,10 +19,10 @@ use Rattle.ac_world.specs.declared.aims.Aim.{Aim}
 use Rattle.ac_world.specs.declared.watched.Watched.{Watched}
 use Rattle.ac_world.specs.Aims.{observation_of}
 use Rattle.ac_world.specs.Behaviours.{aim_in, behaviour_of, other}
-use Rattle.ac_world.specs.Housing.{Facets, AreApart, facet_for}
+use Rattle.ac_world.specs.Allocating.{Facets, AreApart, facet_for}
 use Rattle.ac_world.specs.Watchers.{Task, task_of, watcher_of}
 use Rattle.ac_world.specs.Worlds.{WorldState, Resident, resident_of}
-use Rattle.ac_world.proofs.Houses.{house_passes}
+use Rattle.ac_world.proofs.OwnFacets.{own_facet_passes}
 use Rattle.hub_machine.specs.Replays.{replay}
 use Rattle.hub_laws.specs.Wanting.{AreMet}
 use Rattle.hub_laws.proofs.LawsHold.{wants}
@@ -43,7 +43,7 @@ rooms_of group a w d = record {
   others = d.others;
   facets = d.built.known;
   flat = d.built.rooted.flat;
-  houses = d.built.houses;
+  own_facets = d.built.own_facets;
   lived_in = λ f is. elim (d.lived_in f is) [
     | inl none ↦ absurd cc
     | inr l ↦ l
@@ -92,7 +92,7 @@ one_group g q f [] apart e d = absurd cc
 one_group g q f (x ∷ xs) apart e d = by (same g x.0) (same q x.0) refl refl e d (one_group g q f xs apart.1)
   where
     clash : (z : Plain) → x.1 ≡ f → facet_for (Some z) xs ≡ Some f → ⊥
-    clash z one past = house_passes (λ m. m ≢ x.1) (is_at (order z)) f xs past apart.0 (sym one)
+    clash z one past = own_facet_passes (λ m. m ≢ x.1) (is_at (order z)) f xs past apart.0 (sym one)
 
     by : (b c : Bool) → same g x.0 ≡ b → same q x.0 ≡ c
         → cond b (Some x.1) (facet_for (Some g) xs) ≡ Some f → cond c (Some x.1) (facet_for (Some q) xs) ≡ Some f
@@ -116,7 +116,7 @@ module _ (group : Plain → Option Plain) (a : ℕ) (w : WorldState)
       let some = some_listed f own.facets _ d.built (found_listed (is_at (order g)) f own.facets found) in
       omega (arith, one, some))
   group_is g k f found at (Some q) is =
-      is ∙ ap Some (one_group q g f own.facets d.built.houses.apart
+      is ∙ ap Some (one_group q g f own.facets d.built.own_facets.apart
       (ap (λ o. facet_for o own.facets) (sym is) ∙ at) found)
 
   has_key : (g : Plain) (f : ℕ) → facet_for (Some g) own.facets ≡ Some f → HasKey group g own

@@ -12,8 +12,8 @@ use Rattle.pv_value.specs.Order.{order}
 use Rattle.ac_table.specs.Facets.{Tree, is_facet, least_from, least_free}
 use Rattle.ac_table.specs.Lemmas.Entries.{is_at_same}
 use Rattle.ac_table.specs.Maps.{KeysAscend, is_key}
-use Rattle.ac_world.specs.Housing.{Facets, AreApart}
-use Rattle.ac_world.proofs.Houses.{house_passes}
+use Rattle.ac_world.specs.Allocating.{Facets, AreApart}
+use Rattle.ac_world.proofs.OwnFacets.{own_facet_passes}
 use Rattle.hub_facets.specs.Rooms.{is_listed}
 
 -- ---- numbers in a list
@@ -92,7 +92,7 @@ listed_less test q f (e ∷ es) found apart =
 
     other_here : lookup test es ≡ Some f → (q == f) ≡ true → is_at (nat_cmp q) e.1 ≡ false
     other_here past is =
-        let ne : f ≢ e.1 = house_passes (λ m. m ≢ e.1) test f es past apart.0 in
+        let ne : f ≢ e.1 = own_facet_passes (λ m. m ≢ e.1) test f es past apart.0 in
         let one : q ≡ f = same_number is in
         at_is q e.1 ∙ ap (λ (n : ℕ). n == e.1) one ∙ grind (arith, nat_tests, ne)
 

@@ -32,15 +32,15 @@ use Rattle.ac_world.specs.declared.aims.Aim.{Aim}
 use Rattle.ac_world.specs.declared.spreads.Spread.{Spread}
 use Rattle.ac_world.specs.Aims.{aim_at, aim_for}
 use Rattle.ac_world.specs.Behaviours.{Behaviour, fanned_weight}
-use Rattle.ac_world.specs.Housing.{housed}
+use Rattle.ac_world.specs.Allocating.{allocated}
 use Rattle.ac_world.specs.Outboxes.{Plan}
-use Rattle.ac_world.specs.Turns.{Turning, handle_for, drop_met, left, housing, came, came_at, changed_by}
+use Rattle.ac_world.specs.Turns.{Turning, handle_for, drop_met, left, allocating, came, came_at, changed_by}
 use Rattle.ac_world.specs.Turns.{all_changed, with_rows, regot, spreading, by_assertion, by_message, applied}
 use Rattle.ac_world.specs.Turns.{say_at, say_all, passed_on, answer_to, turned_by, all_turned}
 use Rattle.hub_laws.proofs.Keys.{lookup-insert_entry, lookup-without_entry}
 use Rattle.hub_laws.proofs.Logs.{got-regot}
-use Rattle.hub_facets.proofs.Dwelling.{Dwells, taken, given, rows_go, gone_dwells, vacated_dwells, AreHousedIn}
-use Rattle.hub_facets.proofs.Dwelling.{housed_dwells, come_dwells}
+use Rattle.hub_facets.proofs.Dwelling.{Dwells, taken, given, rows_go, gone_dwells, released_dwells, HaveOwnFacetsIn}
+use Rattle.hub_facets.proofs.Dwelling.{allocated_dwells, come_dwells}
 
 -- an actor that behaves so dwells in its facets as its turn goes on
 abbrev pub Lodges : Behaviour → ℕ → Turning → Type 0
@@ -54,7 +54,7 @@ module _ (y : Behaviour) (a : ℕ) (k : Plain) (u : Turning) (d : Lodges y a u) 
 
   left_lodges : Lodges y a (left y a k u)
   left_lodges =
-      vacated_dwells y.group a (remove_entry (is_at (order k)) u.resident.handles) u.resident.facets gone (y.group k)
+      released_dwells y.group a (remove_entry (is_at (order k)) u.resident.handles) u.resident.facets gone (y.group k)
       (gone_dwells y.group a k u.resident.handles u.resident.facets u.plan.table gone d
       (rows_go a (handle_for k u.resident.handles) u.plan d.table (λ h r e found. d.own k h r e found)))
 
@@ -70,11 +70,11 @@ module _ (y : Behaviour) (a : ℕ) (k : Plain) (u : Turning) (d : Lodges y a u) 
   came_lodges_at : handle_for k u.resident.handles ≡ None → (o : Option Aim) → Lodges y a (came_at a (y.group k) k o u)
   came_lodges_at new None = d
   came_lodges_at new (Some aim) =
-      let h : AreHousedIn y.group a u.resident.handles u.resident.facets u.plan.table (y.group k)
-      (housed a (y.group k) u.resident.facets u.plan.table) =
-      housed_dwells y.group a u.resident.handles u.resident.facets u.plan.table d (y.group k) in
-      come_dwells y.group a (housed a (y.group k) u.resident.facets u.plan.table).facet aim.at.actor aim.at.entity
-      aim.value k u.resident.handles (housing a (y.group k) u).resident.facets (housing a (y.group k) u).plan.table
+      let h : HaveOwnFacetsIn y.group a u.resident.handles u.resident.facets u.plan.table (y.group k)
+      (allocated a (y.group k) u.resident.facets u.plan.table) =
+      allocated_dwells y.group a u.resident.handles u.resident.facets u.plan.table d (y.group k) in
+      come_dwells y.group a (allocated a (y.group k) u.resident.facets u.plan.table).facet aim.at.actor aim.at.entity
+      aim.value k u.resident.handles (allocating a (y.group k) u).resident.facets (allocating a (y.group k) u).plan.table
       h.dwells h.home new
 
   came_lodges : handle_for k u.resident.handles ≡ None → Lodges y a (came y a k u)

@@ -18,7 +18,7 @@ use Rattle.ac_world.specs.Turns.{handle_for}
 use Rattle.ac_world.specs.declared.watched.Watched.{Watched}
 use Rattle.ac_world.specs.Watchers.{Task, task_at}
 use Rattle.ac_world.specs.Worlds.{WorldState, Resident, resident_of, no_resident, gone, ended_of}
-use Rattle.ac_world.specs.Housing.{Facets}
+use Rattle.ac_world.specs.Allocating.{Facets}
 use Rattle.ac_world.proofs.Lives.{tree-posted}
 use Rattle.gk_sturdy.specs.declared.bound.Binding.{Binding}
 use Rattle.ps_schema.specs.declared.Definition.{Definition}

@@ -10,7 +10,7 @@ use Rattle.ac_table.specs.Facets.{is_facet, above, root_alone}
 use Rattle.ac_table.specs.Maps.{is_key, value_at}
 use Rattle.ac_table.specs.Tables.{TableState, find_row, is_live, tree_of}
 use Rattle.ac_world.specs.Behaviours.{behaviour_of}
-use Rattle.ac_world.specs.Housing.{Facets, AreHouses, facet_for}
+use Rattle.ac_world.specs.Allocating.{Facets, AreOwnFacets, facet_for}
 use Rattle.ac_world.specs.Turns.{handle_for}
 use Rattle.ac_world.specs.declared.watched.Watched.{Watched}
 use Rattle.ac_world.specs.Watchers.{watcher_of}
@@ -42,7 +42,7 @@ pub record HasRooms (group : Plain → Option Plain) (a : ℕ) (resident : Resid
   pub facets : (f : ℕ) → is_facet f (tree_of a t) ≡ (f == 0 || is_listed f resident.facets)
   pub flat : (f : ℕ) → above f (tree_of a t) ≡ 0
   -- no two groups have one facet, and none has facet 0
-  pub houses : AreHouses resident.facets (tree_of a t)
+  pub own_facets : AreOwnFacets resident.facets (tree_of a t)
   -- in each of them stands a row of the actor's
   pub lived_in : (f : ℕ) → is_listed f resident.facets ≡ true → IsLivedIn a f t.rows
 

@@ -22,7 +22,7 @@ use Rattle.ac_world.specs.declared.aims.Aim.{Aim}
 use Rattle.ac_world.specs.declared.turns.Turned.TheVariants as turned
 use Rattle.ac_world.specs.Aims.{aim_at, aim_for}
 use Rattle.ac_world.specs.Behaviours.{Behaviour, behaviour_of, fanned_weight}
-use Rattle.ac_world.specs.Housing.{housed}
+use Rattle.ac_world.specs.Allocating.{allocated}
 use Rattle.ac_world.specs.Outboxes.{Outbox, Plan, plan_over, drop_row, drop_own, acted, all_acted, posted, retractions}
 use Rattle.ds_space.specs.Changes.{changes}
 use Rattle.ac_world.specs.Turns.{After, Turning, handle_for, drop_met, came_at, changed_by, all_changed, with_rows, regot}
@@ -89,7 +89,7 @@ module _ (n : ℕ) (old : List Row) where
       by : (o : Option Aim) → Follows (came_at a (y.group key) key o u).plan.table
       by None = k
       by (Some aim) =
-          let facet : ℕ = (housed a (y.group key) u.resident.facets u.plan.table).facet in
+          let facet : ℕ = (allocated a (y.group key) u.resident.facets u.plan.table).facet in
           after_new n old u.plan.table.next u.plan.table.rows
           (row_next a facet aim.at.actor aim.at.entity aim.value u.plan.table) refl k
 

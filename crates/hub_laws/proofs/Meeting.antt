@@ -26,8 +26,8 @@ use Rattle.ac_table.specs.declared.batches.Row.{Row}
 use Rattle.ac_table.specs.Tables.{TableState, find_row, is_live, without_row}
 use Rattle.ac_world.specs.Outboxes.{Plan, dropped, drop_own, drop_row}
 use Rattle.ac_world.specs.declared.aims.Aim.{Aim}
-use Rattle.ac_world.specs.Housing.{housed, vacated}
-use Rattle.ac_world.specs.Turns.{Turning, handle_for, drop_met, vacating, row_gone, left, housing, row_come, came}
+use Rattle.ac_world.specs.Allocating.{allocated, released}
+use Rattle.ac_world.specs.Turns.{Turning, handle_for, drop_met, releasing, row_gone, left, allocating, row_come, came}
 use Rattle.ac_world.specs.Turns.{came_at, changed_by}
 use Rattle.ac_world.specs.Turns.{all_changed, with_rows, regot}
 use Rattle.hub_laws.specs.Wanting.{passing, IsMet}
@@ -87,18 +87,18 @@ among_found q met = sym (is_some-lookup (same q) met)
 
 module _ (y : Behaviour) (o : Option Watched) (a : ℕ) (t : TableState) (g : Option Plain) (u : Turning)
     (m : Meets y o a t u) where
-  vacating_meets : Meets y o a t (vacating a g u)
-  vacating_meets = record {
-    moves = with_trees_moves a t u.plan (vacated a g u.resident.facets u.plan.table).trees m.moves;
-    good = with_trees_good a u.plan (vacated a g u.resident.facets u.plan.table).trees m.good;
+  releasing_meets : Meets y o a t (releasing a g u)
+  releasing_meets = record {
+    moves = with_trees_moves a t u.plan (released a g u.resident.facets u.plan.table).trees m.moves;
+    good = with_trees_good a u.plan (released a g u.resident.facets u.plan.table).trees m.good;
     ascend = m.ascend;
     rows = m.rows;
   }
 
-  housing_meets : Meets y o a t (housing a g u)
-  housing_meets = record {
-    moves = with_trees_moves a t u.plan (housed a g u.resident.facets u.plan.table).trees m.moves;
-    good = with_trees_good a u.plan (housed a g u.resident.facets u.plan.table).trees m.good;
+  allocating_meets : Meets y o a t (allocating a g u)
+  allocating_meets = record {
+    moves = with_trees_moves a t u.plan (allocated a g u.resident.facets u.plan.table).trees m.moves;
+    good = with_trees_good a u.plan (allocated a g u.resident.facets u.plan.table).trees m.good;
     ascend = m.ascend;
     rows = m.rows;
   }
@@ -166,7 +166,7 @@ module _ (y : Behaviour) (o : Option Watched) (a : ℕ) (t : TableState) where
         good (Some h) = dropped_good a t u.plan m.moves m.good h
 
     left_meets : Meets y o a t (left y a k u)
-    left_meets = vacating_meets y o a t (y.group k) (row_gone a k u) row_gone_meets
+    left_meets = releasing_meets y o a t (y.group k) (row_gone a k u) row_gone_meets
 
   -- and all that leave
   record HaveLeft (ks : List Plain) (u v : Turning) : Type 1 where
@@ -248,8 +248,8 @@ module _ (y : Behaviour) (o : Option Watched) (a : ℕ) (t : TableState) (live :
       → has_key k u ≡ false → Meets y o a t (came y a k u)
   came_meets k u m known aim aimed new =
       subst (λ p. Meets y o a t (came_at a (y.group k) k p u)) (sym aimed)
-      (row_come_meets k (housing a (y.group k) u) (housing_meets y o a t (y.group k) u m) known aim aimed
-      (housed a (y.group k) u.resident.facets u.plan.table).facet new)
+      (row_come_meets k (allocating a (y.group k) u) (allocating_meets y o a t (y.group k) u m) known aim aimed
+      (allocated a (y.group k) u.resident.facets u.plan.table).facet new)
 
   -- and all that come, of which those have a row that pass
   record HaveCome (ks : List Plain) (u v : Turning) : Type 1 where

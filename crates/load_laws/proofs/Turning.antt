@@ -26,9 +26,9 @@ use Rattle.ac_table.specs.Tables.{find_row}
 use Rattle.ac_world.specs.declared.aims.Aim.{Aim}
 use Rattle.ac_world.specs.Aims.{aim_of, aim_by}
 use Rattle.ac_world.specs.Behaviours.{Behaviour, dataspace}
-use Rattle.ac_world.specs.Housing.{housed}
+use Rattle.ac_world.specs.Allocating.{allocated}
 use Rattle.ac_world.specs.Outboxes.{Plan, drop_row, drop_own, dropped}
-use Rattle.ac_world.specs.Turns.{Turning, handle_for, drop_met, left, housing, came_at}
+use Rattle.ac_world.specs.Turns.{Turning, handle_for, drop_met, left, allocating, came_at}
 use Rattle.ac_world.specs.Turns.{changed_by, all_changed, with_rows, regot, spreading, by_assertion, taken_in}
 use Rattle.ac_world.specs.Turns.{turned_by, all_turned}
 use Rattle.ac_world.specs.Lemmas.Entries.{each_with, each_without, values_pass, values_all}
@@ -145,12 +145,12 @@ module _ (start n : ℕ) (few : n ≤ 20000) where
   came_adds g k None t well f = record { plan = f; got = refl; cost = omega arith }
   came_adds g k (Some aim) t well f =
       let w = well aim refl in
-      let p : Plan = (housing 1 g t).plan in
+      let p : Plan = (allocating 1 g t).plan in
       let fits : FitsPlan start n p = record {
         table = record { rows = f.table.rows; inboxes = f.table.inboxes };
         out = f.out;
       } in
-      let facet : ℕ = (housed 1 g t.resident.facets t.plan.table).facet in
+      let facet : ℕ = (allocated 1 g t.resident.facets t.plan.table).facet in
       let cost = put_cost start n 1 facet aim.at.actor aim.at.entity aim.value p fits in
       let far = w.far in
       let other : (aim.at.actor == 1) ≡ false = grind (arith, nat_tests, far) in

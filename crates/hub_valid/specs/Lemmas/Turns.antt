@@ -32,8 +32,8 @@ use Rattle.ac_world.specs.declared.aims.Aim.{Aim}
 use Rattle.ac_world.specs.Aims.{aim_at, aim_for, aim_of}
 use Rattle.ac_world.specs.Behaviours.{Behaviour, dataspace, asks, answer_for, gatekeeper, watcher, other, behaviour_of}
 use Rattle.ac_world.specs.Behaviours.{fanned_weight}
-use Rattle.ac_world.specs.Housing.{housed, vacated}
-use Rattle.ac_world.specs.Turns.{Turning, handle_for, drop_met, vacating, row_gone, left, housing, row_come, came_at}
+use Rattle.ac_world.specs.Allocating.{allocated, released}
+use Rattle.ac_world.specs.Turns.{Turning, handle_for, drop_met, releasing, row_gone, left, allocating, row_come, came_at}
 use Rattle.ac_world.specs.Turns.{came}
 use Rattle.ac_world.specs.Turns.{changed_by, all_changed, with_rows, regot, spreading, by_assertion}
 use Rattle.ac_world.specs.Turns.{by_message, applied, taken_in, say_at, say_all, passed_on, answer_to, turned_by}
@@ -105,18 +105,18 @@ pub record IsValidTurning (n : Lived) (t : Turning) : Type 0 where
 
 -- ---- how its rows change
 
-vacating_valid : (n : Lived) (a : ℕ) (g : Option Plain) (t : Turning) → IsValidTurning n t
-    → IsValidTurning n (vacating a g t)
-vacating_valid n a g t v = record {
+releasing_valid : (n : Lived) (a : ℕ) (g : Option Plain) (t : Turning) → IsValidTurning n t
+    → IsValidTurning n (releasing a g t)
+releasing_valid n a g t v = record {
   got = v.got;
-  plan = with_trees_valid n (vacated a g t.resident.facets t.plan.table).trees t.plan v.plan;
+  plan = with_trees_valid n (released a g t.resident.facets t.plan.table).trees t.plan v.plan;
 }
 
-housing_valid : (n : Lived) (a : ℕ) (g : Option Plain) (t : Turning) → IsValidTurning n t
-    → IsValidTurning n (housing a g t)
-housing_valid n a g t v = record {
+allocating_valid : (n : Lived) (a : ℕ) (g : Option Plain) (t : Turning) → IsValidTurning n t
+    → IsValidTurning n (allocating a g t)
+allocating_valid n a g t v = record {
   got = v.got;
-  plan = with_trees_valid n (housed a g t.resident.facets t.plan.table).trees t.plan v.plan;
+  plan = with_trees_valid n (allocated a g t.resident.facets t.plan.table).trees t.plan v.plan;
 }
 
 row_gone_valid : (n : Lived) (a : ℕ) (k : Plain) (t : Turning) → IsValidTurning n t → IsValidTurning n (row_gone a k t)
@@ -128,7 +128,7 @@ row_gone_valid n a k t v = record { got = v.got; plan = by (handle_for k t.resid
 
 left_valid : (y : Behaviour) (n : Lived) (a : ℕ) (k : Plain) (t : Turning) → IsValidTurning n t
     → IsValidTurning n (left y a k t)
-left_valid y n a k t v = vacating_valid n a (y.group k) (row_gone a k t) (row_gone_valid n a k t v)
+left_valid y n a k t v = releasing_valid n a (y.group k) (row_gone a k t) (row_gone_valid n a k t v)
 
 row_come_valid : (n : Lived) (a facet : ℕ) (k : Plain) (aim : Aim) (t : Turning) → IsAimed n aim → IsValidTurning n t
     → IsValidTurning n (row_come a facet k aim t)
@@ -144,8 +144,9 @@ came_valid y n a k t aims v = by (y.aim k) aims
     by : (o : Option Aim) → If o (IsAimed n) → IsValidTurning n (came_at a (y.group k) k o t)
     by None is = v
     by (Some aim) is =
-        row_come_valid n a (housed a (y.group k) t.resident.facets t.plan.table).facet k aim (housing a (y.group k) t)
-        is (housing_valid n a (y.group k) t v)
+        row_come_valid n a (allocated a (y.group k) t.resident.facets t.plan.table).facet k aim
+        (allocating a (y.group k) t)
+        is (allocating_valid n a (y.group k) t v)
 
 -- what a key that comes wants is aimed at an object and holds objects
 abbrev IsValidChange : Behaviour → Lived → Change → Type 0

@@ -2,8 +2,8 @@ use Rattle.std.proofs.Common.{◌≡◌, ℕ, List, [], ◌∷◌, arith, rules,
 use Rattle.ac_world.specs.Keeping.{residents_by}
 use Rattle.ac_world.specs.Outboxes.{Plan, plan_over}
 use Rattle.ac_world.specs.Watchers.{Watched}
-use Rattle.ac_world.specs.Worlds.{Resident, IsWorld, AreHoused}
-use Rattle.ac_world.proofs.Housings.{first_housed}
+use Rattle.ac_world.specs.Worlds.{Resident, IsWorld, HaveOwnFacets}
+use Rattle.ac_world.proofs.OwnFacetsKept.{first_own}
 use Rattle.ac_world.proofs.Numbers.{first_world}
 use Rattle.ac_world.proofs.parts.Parts.begin.Goals as goal
 
@@ -27,8 +27,8 @@ returns-clause-sound g c =
       numbered = subst (λ (p : Plan). IsWorld 0 c.new.result.items p.table) (sym plan)
           (subst (λ (ws : List Watched). IsWorld 0 ws t) (sym watches)
           (first_world 9 t (omega arith) c.in_ok-table.ensures));
-      housed = subst (λ (p : Plan). AreHoused p.table rs) (sym plan) (subst (AreHoused t)
+      own_facets = subst (λ (p : Plan). HaveOwnFacets p.table rs) (sym plan) (subst (HaveOwnFacets t)
           (sym (λ i. (0, record { got = got i; handles = handles i; facets = facets i }) ∷ residents_by (none i)))
-          (first_housed 9 t c.in_ok-table.ensures));
+          (first_own 9 t c.in_ok-table.ensures));
       seated = rw none tt;
     }

@@ -14,7 +14,7 @@ returns-in_ok-post-in-Ok-clause-sound g c =
     record {
       posted = λ i. record { table = c.post.new.table; out = (s.posted i).out };
       numbered = kept.0;
-      housed = kept.1;
+      own_facets = kept.1;
       seated = kept.2;
     }
 

@@ -2,10 +2,10 @@ use Rattle.std.proofs.Common.{◌≡◌, [], ◌∷◌, refl, ap, arith, sym, su
 use Rattle.ac_world.specs.Behaviours.{Behaviour, gatekeeper}
 use Rattle.ac_world.specs.Keeping.{resident_by, residents_by, residents_of, turning_over, world_by, Stands}
 use Rattle.ac_world.specs.Outboxes.{Plan, plan_over}
-use Rattle.ac_world.specs.Worlds.{WorldState, Resident, AreHoused}
+use Rattle.ac_world.specs.Worlds.{WorldState, Resident, HaveOwnFacets}
 use Rattle.ac_world.specs.declared.turns.Turned.TheVariants as turned
 use Rattle.ac_world.specs.Turns.{Turning, end_turn}
-use Rattle.ac_world.proofs.Housings.{housed_turned, stands_first}
+use Rattle.ac_world.proofs.OwnFacetsKept.{own_facets_turned, stands_first}
 use Rattle.ac_world.proofs.Numbers.{world_turned}
 use Rattle.ac_world.proofs.parts.Parts.gatekeeper_turn.Goals as goal
 
@@ -15,7 +15,7 @@ take_turn-requires g c =
     let s = c.requires.sound in
     let r : Resident = resident_by (λ k. k.got) p.gatekeeper in
     subst (λ (q : Plan). Stands 0 (record { resident = r; plan = q; spreads = [] })) (sym s.posted)
-    (stands_first 0 r p.plan.table (residents_of p) (omega arith) c.requires.live refl s.housed)
+    (stands_first 0 r p.plan.table (residents_of p) (omega arith) c.requires.live refl s.own_facets)
 
 pub returns-clause-sound : goal.returns-clause-sound
 returns-clause-sound g c =
@@ -34,8 +34,9 @@ returns-clause-sound g c =
     record {
       posted = it.plan ∙ sym (ap (λ (q : Plan). plan_over q.table) it.plan);
       numbered = world_turned y 0 from p.opened p.watches.items es r t new.table p.plan.table is table s.numbered;
-      housed = subst (λ (x : Resident). AreHoused new.table ((0, x) ∷ residents_by p.others.entries)) (sym it.resident)
-          (housed_turned y 0 from es r p.plan.table t new.table is table (residents_of p) it.stands s.housed);
+      own_facets = subst (λ (x : Resident). HaveOwnFacets new.table ((0, x) ∷ residents_by p.others.entries))
+          (sym it.resident)
+          (own_facets_turned y 0 from es r p.plan.table t new.table is table (residents_of p) it.stands s.own_facets);
       seated = s.seated;
     }
 

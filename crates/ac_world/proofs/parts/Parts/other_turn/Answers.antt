@@ -4,10 +4,10 @@ use Rattle.ac_world.specs.Keeping.{resident_by, residents_of, turning_over, Stan
 use Rattle.ac_world.specs.Others.{rows_in, task_in}
 use Rattle.ac_world.specs.Outboxes.{Plan, plan_over}
 use Rattle.ac_world.specs.Watchers.{task_at}
-use Rattle.ac_world.specs.Worlds.{Resident, AreHoused, with_entry}
+use Rattle.ac_world.specs.Worlds.{Resident, HaveOwnFacets, with_entry}
 use Rattle.ac_world.specs.declared.turns.Turned.TheVariants as turned
 use Rattle.ac_world.specs.Turns.{Turning}
-use Rattle.ac_world.proofs.Housings.{housed_turned, stands_first}
+use Rattle.ac_world.proofs.OwnFacetsKept.{own_facets_turned, stands_first}
 use Rattle.ac_world.proofs.Numbers.{live_numbered, world_turned}
 use Rattle.ac_world.proofs.Taken.{begun, resident_is, residents_put, other_turn_is, taken_seated, seated_put}
 use Rattle.ac_world.proofs.parts.Parts.other_turn.Goals as goal
@@ -31,7 +31,7 @@ take_turn-requires g c =
     (resident_is p.opened (g.J.Judge.schema p.judge) p.gatekeeper.system.bindings p.watches.items p.plan.table gate
     p.others.entries p.held.entries a c.requires.other c.remove-kept.result c.in_ok-resident.resident
     c.remove-kept.ensures.value c.in_ok-resident.ensures.resident)
-    s.housed)
+    s.own_facets)
 
 pub returns-clause-sound : goal.returns-clause-sound
 returns-clause-sound g c =
@@ -56,14 +56,14 @@ returns-clause-sound g c =
     record {
       posted = it.plan ∙ sym (ap (λ (q : Plan). plan_over q.table) it.plan);
       numbered = world_turned y a from p.opened ws es r t new.table p.plan.table is table s.numbered;
-      housed = subst (AreHoused new.table)
+      own_facets = subst (HaveOwnFacets new.table)
           (sym (residents_put p.opened (g.J.Judge.schema p.judge) p.gatekeeper.system.bindings ws p.plan.table gate
           p.others.entries p.held.entries a c.requires.other after
           c.remove-kept.new.self.entries c.insert.new.self.entries c.keeps_its_order.ensures
           c.remove-kept.ensures.entries
           c.in_ok-insert.ensures.entries))
-          (subst (λ (x : Resident). AreHoused new.table (with_entry a x (residents_of p))) (sym it.resident)
-          (housed_turned y a from es r p.plan.table t new.table is table (residents_of p) it.stands s.housed));
+          (subst (λ (x : Resident). HaveOwnFacets new.table (with_entry a x (residents_of p))) (sym it.resident)
+          (own_facets_turned y a from es r p.plan.table t new.table is table (residents_of p) it.stands s.own_facets));
       seated = seated_put a ws after p.others.entries c.remove-kept.new.self.entries
           c.insert.new.self.entries c.remove-kept.ensures.entries c.in_ok-insert.ensures.entries
           (ap (λ l. l.task) c.in_ok-spreads.ensures.lasting ∙ task)

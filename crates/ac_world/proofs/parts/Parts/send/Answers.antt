@@ -2,7 +2,7 @@ use Rattle.std.proofs.Common.{◌≡◌, ap, sym, ◌∙◌}
 use Rattle.std.proofs.lemmas.Result.{on_ok_weaker}
 use Rattle.ac_world.specs.Keeping.{residents_of}
 use Rattle.ac_world.specs.Outboxes.{Plan, plan_over, all_acted, committed}
-use Rattle.ac_world.proofs.Housings.{housed_sent}
+use Rattle.ac_world.proofs.OwnFacetsKept.{own_facets_sent}
 use Rattle.ac_world.proofs.Numbers.{numbers-all_acted, world_sent}
 use Rattle.ac_world.proofs.parts.Parts.send.Goals as goal
 
@@ -21,6 +21,6 @@ returns-clause-sound g c =
       posted = done ∙ sym (ap (λ (q : Plan). plan_over q.table) done);
       numbered = world_sent a p.opened p.watches.items acted c.commit.new.self.table p.plan.table table
           (numbers-all_acted a acts (plan_over p.plan.table)) s.numbered;
-      housed = housed_sent a acts p.plan.table c.commit.new.self.table (residents_of p) table s.housed;
+      own_facets = own_facets_sent a acts p.plan.table c.commit.new.self.table (residents_of p) table s.own_facets;
       seated = s.seated;
     }) c.commit.ensures

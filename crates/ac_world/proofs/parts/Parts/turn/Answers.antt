@@ -10,7 +10,7 @@ turn_with-requires-clause-sound g c =
     record {
       posted = λ i. record { table = c.pop_batch.new.self; out = (s.posted i).out };
       numbered = kept.0;
-      housed = kept.1;
+      own_facets = kept.1;
       seated = kept.2;
     }
 

@@ -25,7 +25,7 @@ send-requires-clause-sound g c =
     record {
       posted = λ i. record { table = c.add_actor.new.self; out = (s.posted i).out };
       numbered = kept.0;
-      housed = kept.1;
+      own_facets = kept.1;
       seated = kept.2;
     }
 

@@ -1,8 +1,8 @@
 use Rattle.std.proofs.Common.{◌≡◌, ◌∷◌, [], true, false, cond, if◌then◌else◌, ap, sym, subst, ◌∙◌}
 use Rattle.ac_table.specs.Tables.{has_rows, has_facet, tree_of, without_facets}
-use Rattle.ac_world.specs.Housing.{IsRooted}
+use Rattle.ac_world.specs.Allocating.{IsRooted}
 use Rattle.ac_world.specs.Outboxes.{Plan, with_trees}
-use Rattle.ac_world.proofs.Houses.{leaf_gone}
+use Rattle.ac_world.proofs.OwnFacets.{leaf_gone}
 use Rattle.ac_world.proofs.plans.Plan.release_facet.Goals as goal
 
 pub returns-in-Ok-clause-state : goal.returns-in-Ok-clause-state

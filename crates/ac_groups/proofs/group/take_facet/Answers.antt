@@ -1,7 +1,7 @@
 use Rattle.std.proofs.Common.{None, Some, refl, sym, ◌∙◌}
 use Rattle.ac_groups.specs.Kept.{Group}
 use Rattle.ac_groups.proofs.Members.{written, written_out, none_there, handles_stay, facet_set, bare_handle}
-use Rattle.ac_groups.proofs.group.vacate.Goals as goal
+use Rattle.ac_groups.proofs.group.take_facet.Goals as goal
 
 pub returns-in_default-clause-facets : goal.returns-in_default-clause-facets
 returns-in_default-clause-facets c =
@@ -15,7 +15,7 @@ pub returns-then-is_bare-clause-handles : goal.returns-then-is_bare-clause-handl
 returns-then-is_bare-clause-handles c =
     let old = c.args.groups.now in
     let o = c.args.group.now in
-    let was = c.in-Some.housed.now in
+    let was = c.in-Some.it.now in
     let w : Group = record { facet = None; handles = was.handles } in
     let mid = c.get_mut.follows.lender w in
     let new = c.remove.new.self in
@@ -27,7 +27,7 @@ pub returns-else-is_bare-clause-handles : goal.returns-else-is_bare-clause-handl
 returns-else-is_bare-clause-handles c =
     let old = c.args.groups.now in
     let o = c.args.group.now in
-    let was = c.in-Some.housed.now in
+    let was = c.in-Some.it.now in
     let w : Group = record { facet = None; handles = was.handles } in
     let new = c.get_mut.follows.lender w in
     let r = written old new o o was w refl c.in-Some.ensures.value (c.get_mut.follows.holds w) in
@@ -37,7 +37,7 @@ pub returns-then-is_bare-clause-facets : goal.returns-then-is_bare-clause-facets
 returns-then-is_bare-clause-facets c =
     let old = c.args.groups.now in
     let o = c.args.group.now in
-    let was = c.in-Some.housed.now in
+    let was = c.in-Some.it.now in
     let w : Group = record { facet = None; handles = was.handles } in
     let mid = c.get_mut.follows.lender w in
     let new = c.remove.new.self in
@@ -49,7 +49,7 @@ pub returns-else-is_bare-clause-facets : goal.returns-else-is_bare-clause-facets
 returns-else-is_bare-clause-facets c =
     let old = c.args.groups.now in
     let o = c.args.group.now in
-    let was = c.in-Some.housed.now in
+    let was = c.in-Some.it.now in
     let w : Group = record { facet = None; handles = was.handles } in
     let new = c.get_mut.follows.lender w in
     let r = written old new o o was w refl c.in-Some.ensures.value (c.get_mut.follows.holds w) in

@@ -4,7 +4,7 @@ use Rattle.std.specs.Map.{lookup}
 use Rattle.pv_value.specs.Order.{order}
 use Rattle.ac_groups.specs.Kept.{Group}
 use Rattle.ac_groups.proofs.Members.{written, put_there, handles_stay, facet_set}
-use Rattle.ac_groups.proofs.group.house.Goals as goal
+use Rattle.ac_groups.proofs.group.put_facet.Goals as goal
 
 pub returns-in-Some-clause-handles : goal.returns-in-Some-clause-handles
 returns-in-Some-clause-handles c =

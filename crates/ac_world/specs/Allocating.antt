@@ -22,44 +22,44 @@ facet_for (Some g) fs = lookup (is_at (order g)) fs
 -- ---- a row comes
 
 -- the facet in which it is to stand, the facets of groups, and the trees of all actors
-pub record Housed : Type 0 where
+pub record Allocated : Type 0 where
   pub facet : ℕ
   pub facets : Facets
   pub trees : List (ℕ × Tree)
 
 -- a group has a facet from now on
-abbrev pub founded : ℕ → Plain → ℕ → Facets → TableState → Housed
-founded a g n fs t = record {
+abbrev pub first_allocated : ℕ → Plain → ℕ → Facets → TableState → Allocated
+first_allocated a g n fs t = record {
   facet = n;
   facets = insert_entry order fs g n;
   trees = (faceted a 0 n t).trees;
 }
 
-abbrev pub housed_at : ℕ → Option Plain → Option ℕ → Facets → TableState → Housed
-housed_at a g (Some f) fs t = record { facet = f; facets = fs; trees = t.trees }
-housed_at a (Some g) None fs t = founded a g (least_free (tree_of a t)) fs t
-housed_at a None None fs t = record { facet = 0; facets = fs; trees = t.trees }
+abbrev pub allocated_at : ℕ → Option Plain → Option ℕ → Facets → TableState → Allocated
+allocated_at a g (Some f) fs t = record { facet = f; facets = fs; trees = t.trees }
+allocated_at a (Some g) None fs t = first_allocated a g (least_free (tree_of a t)) fs t
+allocated_at a None None fs t = record { facet = 0; facets = fs; trees = t.trees }
 
 -- it stands in the facet of its group, or else in a new one, of the least number that is free
-abbrev pub housed : ℕ → Option Plain → Facets → TableState → Housed
-housed a g fs t = housed_at a g (facet_for g fs) fs t
+abbrev pub allocated : ℕ → Option Plain → Facets → TableState → Allocated
+allocated a g fs t = allocated_at a g (facet_for g fs) fs t
 
 -- ---- a row has gone
 
-pub record Vacated : Type 0 where
+pub record Released : Type 0 where
   pub facets : Facets
   pub trees : List (ℕ × Tree)
 
-abbrev pub vacated_at : ℕ → Plain → Option ℕ → Facets → TableState → Vacated
-vacated_at a g None fs t = record { facets = fs; trees = t.trees }
-vacated_at a g (Some f) fs t =
+abbrev pub released_at : ℕ → Plain → Option ℕ → Facets → TableState → Released
+released_at a g None fs t = record { facets = fs; trees = t.trees }
+released_at a g (Some f) fs t =
     if has_rows a f t then record { facets = fs; trees = t.trees }
     else record { facets = remove_entry (is_at (order g)) fs; trees = (without_facets a (f ∷ []) t).trees }
 
 -- the facet of its group goes, where no row stands in it any more
-abbrev pub vacated : ℕ → Option Plain → Facets → TableState → Vacated
-vacated a None fs t = record { facets = fs; trees = t.trees }
-vacated a (Some g) fs t = vacated_at a g (facet_for (Some g) fs) fs t
+abbrev pub released : ℕ → Option Plain → Facets → TableState → Released
+released a None fs t = record { facets = fs; trees = t.trees }
+released a (Some g) fs t = released_at a g (facet_for (Some g) fs) fs t
 
 -- ---- what is true of every world
 
@@ -74,10 +74,10 @@ AreApart [] = Unit {0}
 AreApart (f ∷ fs) = AllByRecursion (λ g. g ≢ f) fs × AreApart fs
 
 -- a group's facet is there, and isn't facet 0
-abbrev pub IsHouse : Tree → ℕ → Type 0
-IsHouse t f = (0 < f) × (is_facet f t ≡ true)
+abbrev pub IsOwnFacet : Tree → ℕ → Type 0
+IsOwnFacet t f = (0 < f) × (is_facet f t ≡ true)
 
 -- each group has a facet of its own
-pub record AreHouses (fs : Facets) (t : Tree) : Type 0 where
-  pub there : AllByRecursion (IsHouse t) (values_of fs)
+pub record AreOwnFacets (fs : Facets) (t : Tree) : Type 0 where
+  pub there : AllByRecursion (IsOwnFacet t) (values_of fs)
   pub apart : AreApart (values_of fs)
