@@ -25,7 +25,7 @@ use Rattle.hub_laws.proofs.Leaving.{one_or_not}
 use Rattle.hub_laws.proofs.Presence.{dead_itself}
 use Rattle.hub_cascade.proofs.Ends.{unless_live, unless_named}
 use Rattle.hub_cascade.proofs.Looked.{within_nameless, within_dismissed, within_named, within_opened}
-use Rattle.hub_core.specs.declared.unlooked.Unlooked.{Unlooked}
+use Rattle.hub_core.specs.declared.unchecked.Unchecked.{Unchecked}
 use Rattle.hub_core.specs.Looking.{AreLeft, and_one, and_turned}
 use Rattle.hub_core.specs.Work.{is_waited_for}
 use Rattle.hub_core.proofs.Idle.{ended_idle, zeroth}
@@ -33,10 +33,10 @@ use Rattle.hub_core.proofs.Looking.{state_of, left_still, left_and_one, left_tur
 use Rattle.hub_core.proofs.Small.{AreSmall, small_with, small_without, entry_at}
 use Rattle.hub_core.proofs.Watching.{may_watch, none_named}
 
-abbrev pub AreKept : Unlooked → WorldState → List (ℕ × PortsState) → List (ℕ × Fault) → Type 0
+abbrev pub AreKept : Unchecked → WorldState → List (ℕ × PortsState) → List (ℕ × Fault) → Type 0
 AreKept u w names faults = AreSmall names × AreSmall faults × AreValid w names × AreLeft u w names
 
-pub kept_without : (k : ℕ) (u : Unlooked) (w : WorldState) (names less : List (ℕ × PortsState))
+pub kept_without : (k : ℕ) (u : Unchecked) (w : WorldState) (names less : List (ℕ × PortsState))
     (faults : List (ℕ × Fault)) → less ≡ remove_entry (is_at (nat_cmp k)) names → AreKept u w names faults
     → AreKept u w less faults
 kept_without k u w names less faults is kept =
@@ -49,7 +49,7 @@ kept_without k u w names less faults is kept =
     )
 
 -- whoever goes
-pub kept_dismissed : (a : ℕ) (u : Unlooked) (w world : WorldState) (names : List (ℕ × PortsState))
+pub kept_dismissed : (a : ℕ) (u : Unchecked) (w world : WorldState) (names : List (ℕ × PortsState))
     (faults : List (ℕ × Fault)) → world ≡ ended_of a w → AreKept u w names faults → AreKept u world names faults
 kept_dismissed a u w world names faults is kept =
     subst (λ (x : WorldState). AreKept u x names faults) (sym is) (
@@ -70,7 +70,7 @@ kept_dismissed a u w world names faults is kept =
     ]
 
 -- names come, in a world that may have changed
-pub kept_with : (k : ℕ) (u v : Unlooked) (w world : WorldState) (names more : List (ℕ × PortsState))
+pub kept_with : (k : ℕ) (u v : Unchecked) (w world : WorldState) (names more : List (ℕ × PortsState))
     (faults : List (ℕ × Fault)) (p : PortsState) → more ≡ insert_entry nat_cmp names k p → k ≤ 2 ^ 31
     → AreKept u w names faults → AreValid world (insert_entry nat_cmp names k p)
     → AreLeft v world (insert_entry nat_cmp names k p) → AreKept v world more faults
@@ -78,20 +78,20 @@ kept_with k u v w world names more faults p is small kept valid left =
     subst (λ (es : List (ℕ × PortsState)). AreKept v world es faults) (sym is)
     (small_with k p names small kept.0, kept.1, valid, left)
 
-pub kept_turned : (a : ℕ) (d : Turned) (u v : Unlooked) (w world : WorldState) (names : List (ℕ × PortsState))
+pub kept_turned : (a : ℕ) (d : Turned) (u v : Unchecked) (w world : WorldState) (names : List (ℕ × PortsState))
     (faults : List (ℕ × Fault)) → world ≡ (turn a w).world → d ≡ (turn a w).turned → v ≡ and_turned a d u
     → AreKept u w names faults → AreKept v world names faults
-kept_turned a d u v w world names faults is told unlooked kept =
+kept_turned a d u v w world names faults is told unchecked kept =
     subst (λ (x : WorldState). AreKept v x names faults) (sym is) (
       kept.0,
       kept.1,
       turned_is_valid a (state_of w names) kept.2,
-      subst (λ (x : Unlooked). AreLeft x (turn a w).world names)
-          (sym (unlooked ∙ ap (λ (x : Turned). and_turned a x u) told))
+      subst (λ (x : Unchecked). AreLeft x (turn a w).world names)
+          (sym (unchecked ∙ ap (λ (x : Turned). and_turned a x u) told))
           (left_turned a u w names (zeroth (lived w) names kept.2.named) kept.3),
     )
 
-pub kept_bound : (b : Binding) (u : Unlooked) (s : State) (world : WorldState) → IsSound b.cap → is_barred b s ≡ false
+pub kept_bound : (b : Binding) (u : Unchecked) (s : State) (world : WorldState) → IsSound b.cap → is_barred b s ≡ false
     → world ≡ binding b s.world → AreKept u s.world s.connections s.faults
     → AreKept u world s.connections s.faults
 kept_bound b u s world sound free is kept =
@@ -104,7 +104,7 @@ kept_bound b u s world sound free is kept =
     )
 
 -- no connection has names then
-pub kept_watched : (x : Watched) (u : Unlooked) (s : State) (world : WorldState) → is_unwatchable x s ≡ false
+pub kept_watched : (x : Watched) (u : Unchecked) (s : State) (world : WorldState) → is_unwatchable x s ≡ false
     → world ≡ watching x s.world → AreKept u s.world s.connections s.faults
     → AreKept u world s.connections s.faults
 kept_watched x u s world free is kept =
@@ -119,15 +119,15 @@ kept_watched x u s world free is kept =
     )
 
 -- a connection's names are put back
-pub left_named : (k : ℕ) (p : PortsState) (u v : Unlooked) (w : WorldState) (names : List (ℕ × PortsState))
+pub left_named : (k : ℕ) (p : PortsState) (u v : Unchecked) (w : WorldState) (names : List (ℕ × PortsState))
     → v ≡ and_one k u → AreLeft u w names → AreLeft v w (insert_entry nat_cmp names k p)
 left_named k p u v w names is left =
-    subst (λ (x : Unlooked). AreLeft x w (insert_entry nat_cmp names k p)) (sym is)
+    subst (λ (x : Unchecked). AreLeft x w (insert_entry nat_cmp names k p)) (sym is)
     (left_and_one k u w w names (insert_entry nat_cmp names k p)
     (λ j apart. within_named j k p (state_of w names) apart) left)
 
 -- a connection comes
-pub left_opened : (space number at : ℕ) (first : Plain) (u v : Unlooked) (w world : WorldState)
+pub left_opened : (space number at : ℕ) (first : Plain) (u v : Unchecked) (w world : WorldState)
     (names : List (ℕ × PortsState)) (p : PortsState) → world ≡ arrived w → number ≡ w.opened + 1 → at ≡ space
     → first ≡ actor_reference at → p ≡ ports_to first → v ≡ and_one number u → AreLeft u w names
     → AreLeft v world (insert_entry nat_cmp names number p)

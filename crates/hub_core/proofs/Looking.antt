@@ -22,8 +22,8 @@ use Rattle.hub_cascade.proofs.Ends.{over_as_before, within_failed}
 use Rattle.hub_cascade.proofs.Looked.{within_accepted, looked_at_one, all_looked_at}
 use Rattle.hub_cascade.proofs.Taking.{taken, others_wait}
 use Rattle.hub_cascade.proofs.Unheard.{IsApart}
-use Rattle.hub_core.specs.declared.unlooked.Unlooked.{Unlooked}
-use Rattle.hub_core.specs.declared.unlooked.Unlooked.TheVariants.{Nobody, One, Waiting, All}
+use Rattle.hub_core.specs.declared.unchecked.Unchecked.{Unchecked}
+use Rattle.hub_core.specs.declared.unchecked.Unchecked.TheVariants.{Nobody, One, Waiting, All}
 use Rattle.hub_core.specs.Looking.{AreWithin, AreWithinBut, IdleAreWithin, AreLeft, and_one, and_waiting}
 use Rattle.hub_core.specs.Looking.{is_at_connection, and_acted, and_turned}
 use Rattle.hub_core.specs.Work.{is_waited_for, waited_for}
@@ -34,7 +34,7 @@ abbrev pub state_of : WorldState → List (ℕ × PortsState) → State
 state_of w names = record { world = w; connections = names; faults = []; stopped = false }
 
 -- nobody comes to be over a limit, and for whom nothing waits nothing waited, or nothing of him is over
-pub left_still : (u : Unlooked) (w v : WorldState) (names less : List (ℕ × PortsState))
+pub left_still : (u : Unchecked) (w v : WorldState) (names less : List (ℕ × PortsState))
     → ((j : ℕ) → overrun_of j (state_of w names) ≡ None → overrun_of j (state_of v less) ≡ None)
     → ((j : ℕ) → is_waited_for j (state_of v less) ≡ false
     → (is_waited_for j (state_of w names) ≡ false) ⊎ (overrun_of j (state_of v less) ≡ None))
@@ -48,7 +48,7 @@ left_still Waiting w v names less stays idle left = λ j none. elim (idle j none
 left_still All w v names less stays idle left = tt
 
 -- nobody does but connection k
-pub left_and_one : (k : ℕ) (u : Unlooked) (w v : WorldState) (names more : List (ℕ × PortsState))
+pub left_and_one : (k : ℕ) (u : Unchecked) (w v : WorldState) (names more : List (ℕ × PortsState))
     → ((j : ℕ) → j ≢ k → overrun_of j (state_of w names) ≡ None → overrun_of j (state_of v more) ≡ None)
     → AreLeft u w names → AreLeft (and_one k u) v more
 left_and_one k Nobody w v names more stays left = λ j apart. stays j apart (left j)
@@ -81,7 +81,7 @@ no_acts c (x ∷ xs) high is = by (is_at_connection x) refl is (no_acts c xs hig
     by true here is later = absurd cc
     by false here is later = (no_act c x high here, later is)
 
-left_acted : (k : ℕ) (x : Admitting) (u : Unlooked) (w : WorldState) (names : List (ℕ × PortsState))
+left_acted : (k : ℕ) (x : Admitting) (u : Unchecked) (w : WorldState) (names : List (ℕ × PortsState))
     → AreLeft u w names
     → AreLeft (and_acted k x.acts u) (sent (actor_of k) x.acts w) (with_entry k x.ports names)
 left_acted k x u w names left = by (list_any is_at_connection x.acts) refl
@@ -96,7 +96,7 @@ left_acted k x u w names left = by (list_any is_at_connection x.acts) refl
         left
 
 -- they are done
-pub left_sent : (k : ℕ) (x : Admitting) (u v : Unlooked) (w world : WorldState) (names : List (ℕ × PortsState))
+pub left_sent : (k : ℕ) (x : Admitting) (u v : Unchecked) (w world : WorldState) (names : List (ℕ × PortsState))
     (seen acts : List Act) (p : PortsState) → world ≡ sent (actor_of k) acts w → v ≡ and_acted k seen u
     → seen ≡ acts → acts ≡ x.acts → p ≡ x.ports → AreLeft u w names → AreLeft v world (with_entry k p names)
 left_sent k x u v w world names seen acts p world_is v_is seen_is acts_is p_is left =
@@ -104,7 +104,7 @@ left_sent k x u v w world names seen acts p world_is v_is seen_is acts_is p_is l
 
 -- ---- a turn
 
-left_ran : (a : ℕ) (b : Batch) (u : Unlooked) (w : WorldState) (names : List (ℕ × PortsState)) → a < 17
+left_ran : (a : ℕ) (b : Batch) (u : Unchecked) (w : WorldState) (names : List (ℕ × PortsState)) → a < 17
     → entry_of 0 names ≡ None → AreLeft u w names
     → AreLeft (and_waiting u) (system_turn a b (less a w)).world names
 left_ran a b Nobody w names low none left = λ j idle. elim (one_or_not (actor_of j) a) [
@@ -119,7 +119,7 @@ left_ran a b Waiting w names low none left = λ j idle. elim (one_or_not (actor_
 ]
 left_ran a b All w names low none left = tt
 
-left_took : (a : ℕ) (b : Batch) (u : Unlooked) (w : WorldState) (names : List (ℕ × PortsState)) → 17 ≤ a
+left_took : (a : ℕ) (b : Batch) (u : Unchecked) (w : WorldState) (names : List (ℕ × PortsState)) → 17 ≤ a
     → AreLeft u w names → AreLeft (and_one (a - 16) u) (connection_turn a b (less a w)).world names
 left_took a b u w names high left =
     let its : actor_of (a - 16) ≡ a = omega (arith, high) in
@@ -131,7 +131,7 @@ left_took a b u w names high left =
     ∙ within))
     left
 
-left_with : (a : ℕ) (b : Batch) (u : Unlooked) (w : WorldState) (names : List (ℕ × PortsState))
+left_with : (a : ℕ) (b : Batch) (u : Unchecked) (w : WorldState) (names : List (ℕ × PortsState))
     → entry_of 0 names ≡ None → AreLeft u w names
     → AreLeft (and_turned a (turn_with a b (less a w)).turned u) (turn_with a b (less a w)).world names
 left_with a b u w names none left = by (is_system a) refl
@@ -142,7 +142,7 @@ left_with a b u w names none left = by (is_system a) refl
     by true is = left_ran a b u w names (grind (arith, nat_tests, is)) none left
     by false is = left_took a b u w names (grind (arith, nat_tests, is)) left
 
-pub left_turned : (a : ℕ) (u : Unlooked) (w : WorldState) (names : List (ℕ × PortsState)) → entry_of 0 names ≡ None
+pub left_turned : (a : ℕ) (u : Unchecked) (w : WorldState) (names : List (ℕ × PortsState)) → entry_of 0 names ≡ None
     → AreLeft u w names → AreLeft (and_turned a (turn a w).turned u) (turn a w).world names
 left_turned a u w names none left = by (is_live a w.table) (first_batch a w.table)
   where

@@ -9,8 +9,8 @@ use Rattle.ac_world.specs.declared.turns.Turned.TheVariants.{Ran, Taken, Idle, G
 use Rattle.rl_ports.specs.Ports.{PortsState}
 use Rattle.hub_machine.specs.State.{State}
 use Rattle.hub_machine.specs.Endings.{overrun_of}
-use Rattle.hub_core.specs.declared.unlooked.Unlooked.{Unlooked}
-use Rattle.hub_core.specs.declared.unlooked.Unlooked.TheVariants.{Nobody, One, Waiting, All}
+use Rattle.hub_core.specs.declared.unchecked.Unchecked.{Unchecked}
+use Rattle.hub_core.specs.declared.unchecked.Unchecked.TheVariants.{Nobody, One, Waiting, All}
 use Rattle.hub_core.specs.Work.{is_waited_for}
 
 -- nobody is over a limit
@@ -26,7 +26,7 @@ abbrev pub IdleAreWithin : State → Type 0
 IdleAreWithin s = (j : ℕ) → is_waited_for j s ≡ false → overrun_of j s ≡ None
 
 -- nobody is, but those that are left to be looked at; faults and the stop have no part in it
-abbrev pub AreLeft : Unlooked → WorldState → List (ℕ × PortsState) → Type 0
+abbrev pub AreLeft : Unchecked → WorldState → List (ℕ × PortsState) → Type 0
 AreLeft Nobody w names = AreWithin (record { world = w; connections = names; faults = []; stopped = false })
 AreLeft (One k) w names = AreWithinBut k (record { world = w; connections = names; faults = []; stopped = false })
 AreLeft Waiting w names = IdleAreWithin (record { world = w; connections = names; faults = []; stopped = false })
@@ -34,14 +34,14 @@ AreLeft All w names = Unit {0}
 
 -- ---- what is left
 
-abbrev pub and_one : ℕ → Unlooked → Unlooked
+abbrev pub and_one : ℕ → Unchecked → Unchecked
 and_one k Nobody = One k
 and_one k (One j) = if j == k then One k else All
 and_one k Waiting = All
 and_one k All = All
 
 -- all for whom a batch waits
-abbrev pub and_waiting : Unlooked → Unlooked
+abbrev pub and_waiting : Unchecked → Unchecked
 and_waiting Nobody = Waiting
 and_waiting (One k) = All
 and_waiting Waiting = Waiting
@@ -55,12 +55,12 @@ is_at_connection (act.Message target entity v) = nat_lt 8 target
 is_at_connection (act.Sync target entity peer) = nat_lt 8 target
 
 -- connection k did these acts
-abbrev pub and_acted : ℕ → List Act → Unlooked → Unlooked
+abbrev pub and_acted : ℕ → List Act → Unchecked → Unchecked
 and_acted k acts u = if list_any is_at_connection acts then All else and_one k u
 
 -- an actor's turn, by what became of it: a system actor's adds to what waits, and changes nothing else of a connection;
 -- a connection's is its own; and where none was taken nothing changed
-abbrev pub and_turned : ℕ → Turned → Unlooked → Unlooked
+abbrev pub and_turned : ℕ → Turned → Unchecked → Unchecked
 and_turned a (Ran spreads) u = and_waiting u
 and_turned a (Taken b) u = and_one (a - 16) u
 and_turned a Idle u = u

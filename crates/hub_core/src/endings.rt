@@ -9,7 +9,7 @@ ghost use Rattle.hub_core.specs.Work.{waited_for};
 
 use crate::hub::Hub;
 use crate::packets::keeps_its_order;
-use crate::unlooked::Unlooked;
+use crate::unchecked::Unchecked;
 use ac_world::{BEFORE_CONNECTIONS, FIRST_CONNECTION, Load, Spread};
 use ds_space::Space;
 use hub_machine::{DATASPACES, DELIVERIES, DELIVERIES_WEIGHT, Fault, Reply, overrun};
@@ -31,21 +31,8 @@ impl<S: Space + Drop, J: Judge + Drop, B: Behaves + Drop> Hub<S, J, B> {
         requires { 9 ≤ actor }
         ensures { IfOk result (λ h. h ≡ dismissed actor self) }
     {
-        let Hub {
-            world,
-            connections,
-            faults,
-            stopped,
-            unlooked,
-        } = self;
-        let world = world.end(alloc, actor)?;
-        Ok(Hub {
-            world,
-            connections,
-            faults,
-            stopped,
-            unlooked,
-        })
+        let world = self.world.end(alloc, actor)?;
+        Ok(Hub { world, ..self })
     }
 
     /// A connection ends. Its names are gone already.
@@ -191,10 +178,10 @@ impl<S: Space + Drop, J: Judge + Drop, B: Behaves + Drop> Hub<S, J, B> {
     }
 
     /// Who is left to be looked at.
-    fn unlooked(&self) -> Unlooked
+    fn unchecked(&self) -> Unchecked
         ensures { AreLeft result self.now.world self.now.connections }
     {
-        self.unlooked
+        self.unchecked
     }
 
     /// Nobody is left to be looked at.
@@ -203,7 +190,7 @@ impl<S: Space + Drop, J: Judge + Drop, B: Behaves + Drop> Hub<S, J, B> {
         requires { AreWithin self }
         ensures { result ≡ self }
     {
-        self.unlooked = Unlooked::Nobody;
+        self.unchecked = Unchecked::Nobody;
         self
     }
 
@@ -243,11 +230,11 @@ impl<S: Space + Drop, J: Judge + Drop, B: Behaves + Drop> Hub<S, J, B> {
     fn look(self, alloc: Global) -> Result<Hub<S, J, B>, NoMemory>
         ensures { IfOk result (λ h. h ≡ each_overrun self) }
     {
-        match self.unlooked() {
-            Unlooked::Nobody => Ok(self),
-            Unlooked::One(connection) => self.look_at(alloc, connection),
-            Unlooked::Waiting => self.look_at_waiting(alloc),
-            Unlooked::All => self.look_at_each(alloc),
+        match self.unchecked() {
+            Unchecked::Nobody => Ok(self),
+            Unchecked::One(connection) => self.look_at(alloc, connection),
+            Unchecked::Waiting => self.look_at_waiting(alloc),
+            Unchecked::All => self.look_at_each(alloc),
         }
     }
 

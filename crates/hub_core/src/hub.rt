@@ -12,7 +12,7 @@ ghost use Rattle.hub_machine.specs.Completeness.{IsComplete};
 ghost use Rattle.hub_machine.specs.Replays.{pending, lowest, first_failed, least};
 ghost use Rattle.hub_core.specs.Work.{named_by};
 
-use crate::unlooked::Unlooked;
+use crate::unchecked::Unchecked;
 use ac_world::{BEFORE_CONNECTIONS, Watched, World};
 use ds_space::{Reference, Space, reference_value};
 use gk_sturdy::Binding;
@@ -35,7 +35,7 @@ pub struct Hub<S: Space + Drop, J: Judge + Drop, B: Behaves + Drop> {
     pub(crate) faults: BTreeMap<u32, Fault>,
     pub(crate) stopped: bool,
     /// Who is to be looked at at the step's end. It is no part of the state.
-    pub(crate) unlooked: Unlooked,
+    pub(crate) unchecked: Unchecked,
 }
 
 impl<S: Space + Drop, J: Judge + Drop, B: Behaves + Drop> Model for Hub<S, J, B> {
@@ -63,7 +63,7 @@ impl<S: Space + Drop, J: Judge + Drop, B: Behaves + Drop> Model for Hub<S, J, B>
     ghost invariant = { λ h. AllByRecursion (λ e. e.0 ≤ 2 ^ 31) h.connections.entries
         × AllByRecursion (λ e. e.0 ≤ 2 ^ 31) h.faults.entries
         × AreValid h.world h.connections.entries
-        × AreLeft h.unlooked h.world h.connections.entries };
+        × AreLeft h.unchecked h.world h.connections.entries };
 }
 
 /// The lesser of the numbers that are there.
@@ -102,7 +102,7 @@ impl<S: Space + Drop, J: Judge + Drop, B: Behaves + Drop> Hub<S, J, B> {
             connections: BTreeMap::new(alloc),
             faults: BTreeMap::new(alloc),
             stopped: false,
-            unlooked: Unlooked::Nobody,
+            unchecked: Unchecked::Nobody,
         })
     }
 
@@ -226,46 +226,27 @@ impl<S: Space + Drop, J: Judge + Drop, B: Behaves + Drop> Hub<S, J, B> {
         if self.is_barred(alloc, &binding)? {
             return Ok((self, Reply::Barred));
         }
-        let Hub {
-            world,
-            connections,
-            faults,
-            stopped,
-            unlooked,
-        } = self;
         let hub = Hub {
-            world: world.bind(binding)?,
-            connections,
-            faults,
-            stopped,
-            unlooked,
+            world: self.world.bind(binding)?,
+            ..self
         };
         hub.ends(alloc, &[], Reply::Taken)
     }
 
     /// A connection comes.
-    fn open(self, alloc: Global, space: u8) -> Result<(Hub<S, J, B>, u32), NoMemory>
+    fn open(mut self, alloc: Global, space: u8) -> Result<(Hub<S, J, B>, u32), NoMemory>
         requires few { self.world.opened < 2 ^ 31 }
         requires space { space ≤ 8 }
         ensures state { IfOk result (λ done. done.0 ≡ opened space self) }
         ensures number { IfOk result (λ done. done.1 ≡ self.world.opened + 1) }
     {
-        let Hub {
-            world,
-            mut connections,
-            faults,
-            stopped,
-            unlooked,
-        } = self;
-        let (world, number) = world.arrive()?;
+        let (world, number) = self.world.arrive()?;
         let first = actor_reference(alloc, u32::from(space))?;
-        connections.insert(number, Ports::new(alloc, first)?)?;
+        self.connections.insert(number, Ports::new(alloc, first)?)?;
         let hub = Hub {
             world,
-            connections,
-            faults,
-            stopped,
-            unlooked: unlooked.and(number),
+            unchecked: self.unchecked.and(number),
+            ..self
         };
         Ok((hub, number))
     }

@@ -10,7 +10,7 @@ mod endings;
 mod hub;
 mod packets;
 mod turns;
-mod unlooked;
+mod unchecked;
 mod watchers;
 mod work;
 

@@ -58,7 +58,7 @@ impl<S: Space + Drop, J: Judge + Drop, B: Behaves + Drop> Hub<S, J, B> {
     /// What a packet does is done, and its connection names what it leaves.
     #[inline(always)]
     fn accept(
-        self,
+        mut self,
         alloc: Global,
         connection: u32,
         admitting: Admitting,
@@ -68,23 +68,15 @@ impl<S: Space + Drop, J: Judge + Drop, B: Behaves + Drop> Hub<S, J, B> {
         requires valid { IsValid self → IsValid (accepted connection admitting self) }
         ensures { IfOk result (λ h. h ≡ accepted connection admitting self) }
     {
-        let Hub {
-            world,
-            mut connections,
-            faults,
-            stopped,
-            unlooked,
-        } = self;
         let (acts, ports) = admitting.into_parts();
-        connections.insert(connection, ports)?;
-        let unlooked = unlooked.and_acted(connection, &acts);
-        let world = world.send(alloc, BEFORE_CONNECTIONS + connection, acts)?;
+        self.connections.insert(connection, ports)?;
+        let unchecked = self.unchecked.and_acted(connection, &acts);
+        let actor = BEFORE_CONNECTIONS + connection;
+        let world = self.world.send(alloc, actor, acts)?;
         Ok(Hub {
             world,
-            connections,
-            faults,
-            stopped,
-            unlooked,
+            unchecked,
+            ..self
         })
     }
 

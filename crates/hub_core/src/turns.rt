@@ -52,7 +52,7 @@ impl<S: Space + Drop, J: Judge + Drop, B: Behaves + Drop> Hub<S, J, B> {
             ≡ record self { connections = with_entry connection ports self.connections }) }
     {
         self.connections.insert(connection, ports)?;
-        self.unlooked = self.unlooked.and(connection);
+        self.unchecked = self.unchecked.and(connection);
         Ok(self)
     }
 
@@ -136,21 +136,12 @@ impl<S: Space + Drop, J: Judge + Drop, B: Behaves + Drop> Hub<S, J, B> {
         ensures state { IfOk result (λ done. done.0 ≡ (turn_of actor self).state) }
         ensures reply { IfOk result (λ done. done.1 ≡ (turn_of actor self).reply) }
     {
-        let Hub {
-            world,
-            connections,
-            faults,
-            stopped,
-            unlooked,
-        } = self;
-        let (world, turned) = world.turn(alloc, actor)?;
-        let unlooked = unlooked.and_turned(actor, &turned);
+        let (world, turned) = self.world.turn(alloc, actor)?;
+        let unchecked = self.unchecked.and_turned(actor, &turned);
         let hub = Hub {
             world,
-            connections,
-            faults,
-            stopped,
-            unlooked,
+            unchecked,
+            ..self
         };
         hub.after_turn(alloc, actor, turned)
     }

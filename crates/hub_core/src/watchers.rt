@@ -94,19 +94,9 @@ impl<S: Space + Drop, J: Judge + Drop, B: Behaves + Drop> Hub<S, J, B> {
         if self.is_unwatchable(alloc, &watched)? {
             return Ok((self, Reply::Barred));
         }
-        let Hub {
-            world,
-            connections,
-            faults,
-            stopped,
-            unlooked,
-        } = self;
         let hub = Hub {
-            world: world.watch(alloc, watched)?,
-            connections,
-            faults,
-            stopped,
-            unlooked,
+            world: self.world.watch(alloc, watched)?,
+            ..self
         };
         hub.ends(alloc, &[], Reply::Taken)
     }

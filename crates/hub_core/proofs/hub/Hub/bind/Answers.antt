@@ -16,5 +16,5 @@ invariant_of-hub g c =
     let free : is_barred c.args.binding s ≡ false =
     subst (λ (x : State). is_barred c.args.binding x ≡ false) (sym c.self.view_is)
     (sym c.in_ok-is_barred.ensures ∙ c.if-branch.false) in
-    kept_bound c.args.binding c.self.inside.unlooked s c.in_ok-bind.field-0 (search rules) free c.in_ok-bind.ensures
+    kept_bound c.args.binding c.self.inside.unchecked s c.in_ok-bind.field-0 (search rules) free c.in_ok-bind.ensures
     c.self.invariant

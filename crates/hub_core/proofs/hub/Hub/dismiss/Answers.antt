@@ -4,5 +4,5 @@ use Rattle.hub_core.proofs.hub.Hub.dismiss.Goals as goal
 
 pub invariant_of-result : goal.invariant_of-result
 invariant_of-result g c =
-    kept_dismissed c.args.actor c.self.inside.unlooked c.self.inside.world c.in_ok-world.world
+    kept_dismissed c.args.actor c.self.inside.unchecked c.self.inside.world c.in_ok-world.world
     c.self.inside.connections.entries c.self.inside.faults.entries c.in_ok-world.ensures c.self.invariant

@@ -8,12 +8,12 @@ use Rattle.hub_core.proofs.hub.Hub.name.Goals as goal
 
 pub invariant_of-self : goal.invariant_of-self
 invariant_of-self g c =
-    kept_with c.args.connection c.self.inside.unlooked c.and-self-inside.result c.self.inside.world
+    kept_with c.args.connection c.self.inside.unchecked c.and-self-inside.result c.self.inside.world
     c.self.inside.world c.self.inside.connections.entries
     c.insert.new.self.entries c.self.inside.faults.entries c.args.ports c.in_ok-insert.ensures.entries
     c.requires.small c.self.invariant
     (subst (λ (s : State). IsValid s
     → IsValid (record s { connections = with_entry c.args.connection c.args.ports s.connections }))
     (sym c.self.view_is) c.requires.valid c.self.invariant.2)
-    (left_named c.args.connection c.args.ports c.self.inside.unlooked c.and-self-inside.result c.self.inside.world
+    (left_named c.args.connection c.args.ports c.self.inside.unchecked c.and-self-inside.result c.self.inside.world
     c.self.inside.connections.entries c.and-self-inside.ensures c.self.invariant.3)

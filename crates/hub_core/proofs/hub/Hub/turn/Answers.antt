@@ -7,9 +7,9 @@ use Rattle.hub_core.proofs.hub.Hub.turn.Goals as goal
 
 pub invariant_of-hub : goal.invariant_of-hub
 invariant_of-hub g c =
-    kept_turned c.args.actor c.in_ok-world.turned c.self.inside.unlooked c.and_turned-unlooked.result
+    kept_turned c.args.actor c.in_ok-world.turned c.self.inside.unchecked c.and_turned-unchecked.result
     c.self.inside.world c.in_ok-world.world c.self.inside.connections.entries c.self.inside.faults.entries
-    c.in_ok-world.ensures.world c.in_ok-world.ensures.turned c.and_turned-unlooked.ensures c.self.invariant
+    c.in_ok-world.ensures.world c.in_ok-world.ensures.turned c.and_turned-unchecked.ensures c.self.invariant
 
 pub after_turn-requires : goal.after_turn-requires
 after_turn-requires g c =

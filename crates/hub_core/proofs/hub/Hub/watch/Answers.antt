@@ -47,7 +47,7 @@ invariant_of-hub g c =
       faults = c.self.inside.faults.entries;
       stopped = c.self.inside.stopped;
     } in
-    kept_watched c.args.watched c.self.inside.unlooked s c.in_ok-watch.field-0
+    kept_watched c.args.watched c.self.inside.unchecked s c.in_ok-watch.field-0
     (free_inside c.args.watched s c.args.self c.self.view_is
     (sym c.in_ok-is_unwatchable.ensures ∙ c.if-branch.false))
     c.in_ok-watch.ensures c.self.invariant

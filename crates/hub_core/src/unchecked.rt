@@ -9,7 +9,7 @@ use hub_machine::DATASPACES;
 
 /// The connections that are left to be looked at at the step's end.
 #[derive(Clone, Copy)]
-pub(crate) enum Unlooked {
+pub(crate) enum Unchecked {
     Nobody,
     One(u32),
     /// Those for which a batch waits.
@@ -36,41 +36,41 @@ fn are_at_connections(acts: &[Act]) -> bool
     acts.iter().any(|act| is_at_connection(act))
 }
 
-impl Unlooked {
+impl Unchecked {
     /// One connection more is left.
-    pub(crate) fn and(self, connection: u32) -> Unlooked
+    pub(crate) fn and(self, connection: u32) -> Unchecked
         ensures { result ≡ and_one connection self }
     {
         match self {
-            Unlooked::Nobody => Unlooked::One(connection),
-            Unlooked::One(other) if other == connection => Unlooked::One(connection),
-            _ => Unlooked::All,
+            Unchecked::Nobody => Unchecked::One(connection),
+            Unchecked::One(other) if other == connection => Unchecked::One(connection),
+            _ => Unchecked::All,
         }
     }
 
     /// A connection did these acts, and what it names was changed.
-    pub(crate) fn and_acted(self, connection: u32, acts: &[Act]) -> Unlooked
+    pub(crate) fn and_acted(self, connection: u32, acts: &[Act]) -> Unchecked
         ensures { result ≡ and_acted connection acts.now self }
     {
         if are_at_connections(acts) {
-            Unlooked::All
+            Unchecked::All
         } else {
             self.and(connection)
         }
     }
 
     /// All for which a batch waits are left.
-    fn and_waiting(self) -> Unlooked
+    fn and_waiting(self) -> Unchecked
         ensures { result ≡ and_waiting self }
     {
         match self {
-            Unlooked::Nobody | Unlooked::Waiting => Unlooked::Waiting,
-            _ => Unlooked::All,
+            Unchecked::Nobody | Unchecked::Waiting => Unchecked::Waiting,
+            _ => Unchecked::All,
         }
     }
 
     /// An actor took a turn, if one was taken: this became of it.
-    pub(crate) fn and_turned(self, actor: u32, turned: &Turned) -> Unlooked
+    pub(crate) fn and_turned(self, actor: u32, turned: &Turned) -> Unchecked
         ensures { result ≡ and_turned actor turned.now self }
     {
         match turned {
