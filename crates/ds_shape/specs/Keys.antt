@@ -7,8 +7,10 @@ use Rattle.pv_value.specs.Order.{order}
 use Rattle.pv_words.specs.Words.{labelled, number}
 use Rattle.dp_pattern.specs.declared.Extent.{Extent}
 use Rattle.dp_pattern.specs.declared.Extent.TheVariants.{Open, Exactly}
+use Rattle.dp_pattern.specs.declared.Group.{Group}
+use Rattle.dp_pattern.specs.declared.Group.TheVariants.{InRecord, InSequence, InDictionary}
 use Rattle.ds_shape.specs.Paths.{Step, Field, Item, Under}
-use Rattle.ds_shape.specs.Outlines.{Kind, Any, Record, Sequence, Dictionary, Test, Outline}
+use Rattle.ds_shape.specs.Outlines.{Kind, Any, Of, Test, Outline}
 
 -- `[x ..]`
 abbrev pub list_value : List Plain → Plain
@@ -29,12 +31,16 @@ abbrev pub extent_value : Extent → Plain
 extent_value Open = boolean false
 extent_value (Exactly n) = number n
 
--- `<any>`, `<rec label extent>`, `<arr extent>`, `<dict>`
+-- `<rec label extent>`, `<arr extent>`, `<dict>`
+abbrev pub group_value : Group → Plain
+group_value (InRecord label e) = labelled (codes "rec") (label ∷ extent_value e ∷ [])
+group_value (InSequence e) = labelled (codes "arr") (extent_value e ∷ [])
+group_value InDictionary = labelled (codes "dict") []
+
+-- `<any>`, or the value of the group
 abbrev pub kind_value : Kind → Plain
 kind_value Any = labelled (codes "any") []
-kind_value (Record label e) = labelled (codes "rec") (label ∷ extent_value e ∷ [])
-kind_value (Sequence e) = labelled (codes "arr") (extent_value e ∷ [])
-kind_value Dictionary = labelled (codes "dict") []
+kind_value (Of g) = group_value g
 
 -- `[path kind]`
 abbrev pub test_value : Test → Plain

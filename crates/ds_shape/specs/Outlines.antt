@@ -1,11 +1,10 @@
 -- What patterns have in common that differ in their constants alone.
-use Rattle.std.specs.Prelude.{Bool, true, false, ◌&&◌, List, length, Option, Some, None}
-use Rattle.pv_value.specs.Plain.{Plain, record_of, sequence, dictionary, listed}
-use Rattle.pv_words.specs.Parts.{same}
-use Rattle.dp_pattern.specs.Matching.{is_met_by}
+use Rattle.std.specs.Prelude.{Bool, true, false, List, Option, Some, None}
+use Rattle.pv_value.specs.Plain.{Plain}
+use Rattle.dp_pattern.specs.Matching.{is_of}
 use Rattle.ds_shape.specs.Paths.{Step, part_at}
 pub use Rattle.ds_shape.specs.declared.outlines.Kind.{Kind}
-pub use Rattle.ds_shape.specs.declared.outlines.Kind.TheVariants.{Any, Record, Sequence, Dictionary}
+pub use Rattle.ds_shape.specs.declared.outlines.Kind.TheVariants.{Any, Of}
 pub use Rattle.ds_shape.specs.declared.outlines.Test.{Test}
 
 -- tests, the paths at which constants are to stand, and those at which values are captured, in order
@@ -16,10 +15,7 @@ pub record Outline : Type 0 where
 
 abbrev pub is_kind : Kind → Plain → Bool
 is_kind Any v = true
-is_kind (Record label e) (record_of l fs) = same l label && is_met_by e (length (listed fs))
-is_kind (Sequence e) (sequence xs) = is_met_by e (length (listed xs))
-is_kind Dictionary (dictionary ps) = true
-is_kind k v = false
+is_kind (Of g) v = is_of g v
 
 abbrev pub is_there : Kind → Option Plain → Bool
 is_there k (Some v) = is_kind k v

@@ -6,14 +6,8 @@ use Rattle.dp_pattern.specs.declared.Group.TheVariants.{InRecord, InSequence, In
 use Rattle.dp_pattern.specs.Patterns.{Pattern, discard, bind, literal, group}
 use Rattle.dp_pattern.specs.Patterns.{Fields, no_fields, then_field}
 use Rattle.ds_shape.specs.Paths.{Step, Field, Item, Under}
-use Rattle.ds_shape.specs.Outlines.{Kind, Any, Record, Sequence, Dictionary, Test, Outline}
+use Rattle.ds_shape.specs.Outlines.{Any, Of, Test, Outline}
 pub use Rattle.ds_shape.specs.declared.splitting.Constant.{Constant}
-
--- what a group asks of the value
-abbrev pub kind_of : Group → Kind
-kind_of (InRecord label e) = Record label e
-kind_of (InSequence e) = Sequence e
-kind_of InDictionary = Dictionary
 
 -- the step to the part that a key of the group names
 abbrev pub step_of : Group → Plain → Step
@@ -34,7 +28,7 @@ abbrev mutual
   tests discard = record { path = []; kind = Any } ∷ []
   tests (bind p) = tests p
   tests (literal u) = []
-  tests (group g fs) = record { path = []; kind = kind_of g } ∷ field_tests g fs
+  tests (group g fs) = record { path = []; kind = Of g } ∷ field_tests g fs
 
   pub field_tests : Group → Fields → List Test
   field_tests g no_fields = []

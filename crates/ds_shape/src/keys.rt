@@ -1,12 +1,12 @@
 //! Outlines as values, by which they are told apart.
 ghost use Rattle.std.specs.Prelude.{◌≡◌, ◌∷◌, [], map, IfOk};
 ghost use Rattle.pv_words.specs.Words.{labelled};
-ghost use Rattle.ds_shape.specs.Keys.{list_value, step_value, path_value, kind_value, test_value};
-ghost use Rattle.ds_shape.specs.Keys.{extent_value, outline_value};
+ghost use Rattle.ds_shape.specs.Keys.{list_value, step_value, path_value, extent_value};
+ghost use Rattle.ds_shape.specs.Keys.{group_value, kind_value, test_value, outline_value};
 
 use crate::outlines::{Kind, Outline, Test};
 use crate::paths::{Path, Step};
-use dp_pattern::Extent;
+use dp_pattern::{Extent, Group};
 use pv_value::{Items, NoMemory, Value};
 use pv_words::{labelled, number};
 use std::alloc::Global;
@@ -79,20 +79,29 @@ fn step_value(alloc: Global, step: &Step) -> Result<Value, NoMemory>
     }
 }
 
-/// `<any>`, `<rec label extent>`, `<arr extent>` or `<dict>`.
+/// `<any>`, or the value of the group.
 fn kind_value(alloc: Global, kind: &Kind) -> Result<Value, NoMemory>
     ensures { IfOk result (λ v. v ≡ kind_value kind.now) }
 {
     match kind {
         Kind::Any => labelled(alloc, "any", Vec::new(alloc)),
-        Kind::Record(label, extent) => {
+        Kind::Of(group) => group_value(alloc, group),
+    }
+}
+
+/// `<rec label extent>`, `<arr extent>` or `<dict>`.
+fn group_value(alloc: Global, group: &Group) -> Result<Value, NoMemory>
+    ensures { IfOk result (λ v. v ≡ group_value group.now) }
+{
+    match group {
+        Group::InRecord(label, extent) => {
             let mut fields = Vec::new(alloc);
             fields.push(label.copy()?)?;
             fields.push(extent_value(*extent))?;
             labelled(alloc, "rec", fields)
         }
-        Kind::Sequence(extent) => word_with(alloc, "arr", &extent_value(*extent)),
-        Kind::Dictionary => labelled(alloc, "dict", Vec::new(alloc)),
+        Group::InSequence(extent) => word_with(alloc, "arr", &extent_value(*extent)),
+        Group::InDictionary => labelled(alloc, "dict", Vec::new(alloc)),
     }
 }
 

@@ -3,13 +3,13 @@ ghost use Rattle.std.specs.Prelude.{◌≡◌, map};
 ghost use Rattle.std.specs.Ordering.{nat_cmp};
 ghost use Rattle.pv_value.specs.Order.{order, orders};
 ghost use Rattle.pv_value.specs.Plain.{plains};
-ghost use Rattle.ds_shape.specs.Keys.{step_value, path_value, extent_value, kind_value, test_value};
-ghost use Rattle.ds_shape.specs.Outlines.{Record};
-ghost use Rattle.ds_shape.specs.Keys.{outline_order};
+ghost use Rattle.dp_pattern.specs.declared.Group.TheVariants.{InRecord};
+ghost use Rattle.ds_shape.specs.Keys.{step_value, path_value, extent_value, group_value};
+ghost use Rattle.ds_shape.specs.Keys.{kind_value, test_value, outline_order};
 
 use crate::outlines::{Kind, Outline, Test};
 use crate::paths::{Path, Step};
-use dp_pattern::Extent;
+use dp_pattern::{Extent, Group};
 use pv_value::Value;
 use std::cmp::Ordering;
 
@@ -93,24 +93,34 @@ fn compare_steps(a: &Step, b: &Step) -> Ordering
     }
 }
 
-/// In the order of the words: `any`, `arr`, `dict`, `rec`.
+/// In the order of the words: `any` comes before those of groups.
 fn compare_kinds(a: &Kind, b: &Kind) -> Ordering
     ensures { result ≡ order (kind_value a.now) (kind_value b.now) }
 {
     match (a, b) {
         (Kind::Any, Kind::Any) => Ordering::Equal,
-        (Kind::Sequence(d), Kind::Sequence(e)) => compare_extents(*d, *e),
-        (Kind::Dictionary, Kind::Dictionary) => Ordering::Equal,
-        (Kind::Record(x, d), Kind::Record(y, e)) => compare_records(x, *d, y, *e),
-        (Kind::Any, _) | (_, Kind::Record(_, _)) | (Kind::Sequence(_), Kind::Dictionary) =>
-            Ordering::Less,
+        (Kind::Any, Kind::Of(_)) => Ordering::Less,
+        (Kind::Of(_), Kind::Any) => Ordering::Greater,
+        (Kind::Of(g), Kind::Of(h)) => compare_groups(g, h),
+    }
+}
+
+/// In the order of the words: `arr`, `dict`, `rec`.
+fn compare_groups(a: &Group, b: &Group) -> Ordering
+    ensures { result ≡ order (group_value a.now) (group_value b.now) }
+{
+    match (a, b) {
+        (Group::InSequence(d), Group::InSequence(e)) => compare_extents(*d, *e),
+        (Group::InDictionary, Group::InDictionary) => Ordering::Equal,
+        (Group::InRecord(x, d), Group::InRecord(y, e)) => compare_records(x, *d, y, *e),
+        (_, Group::InRecord(_, _)) | (Group::InSequence(_), Group::InDictionary) => Ordering::Less,
         _ => Ordering::Greater,
     }
 }
 
 /// By label, then by extent.
 fn compare_records(x: &Value, d: Extent, y: &Value, e: Extent) -> Ordering
-    ensures { result ≡ order (kind_value (Record x.now d)) (kind_value (Record y.now e)) }
+    ensures { result ≡ order (group_value (InRecord x.now d)) (group_value (InRecord y.now e)) }
 {
     let by_label = x.cmp(y);
     if by_label.is_ne() {

@@ -1,6 +1,6 @@
 //! Outlines and shapes: what splitting makes of a pattern.
 use crate::paths::Path;
-use dp_pattern::Extent;
+use dp_pattern::Group;
 use pv_value::Value;
 use std::marker::Model;
 
@@ -9,12 +9,8 @@ use std::marker::Model;
 pub enum Kind {
     /// Nothing but that it is there.
     Any,
-    /// That it is a record of this label, and of so many fields.
-    Record(Value, Extent),
-    /// That it is a sequence of so many items.
-    Sequence(Extent),
-    /// That it is a dictionary.
-    Dictionary,
+    /// That it is of the group's kind, and has as many parts as the group wants.
+    Of(Group),
 }
 
 /// That at a path something stands, and is of a kind.

@@ -4,7 +4,7 @@ ghost use Rattle.pv_value.specs.Plain.{Plain, sequence, plains};
 ghost use Rattle.dp_pattern.specs.Matching.{matched};
 ghost use Rattle.dp_pattern.specs.View.{listed_fields};
 ghost use Rattle.ds_shape.specs.Splitting.{tests, field_tests, constants, field_constants};
-ghost use Rattle.ds_shape.specs.Splitting.{captures, field_captures, kind_of, step_of};
+ghost use Rattle.ds_shape.specs.Splitting.{captures, field_captures, step_of};
 ghost use Rattle.ds_shape.specs.Splitting.{test_under, constant_under, outline_of, constants_of};
 ghost use Rattle.ds_shape.specs.Standing.{captured_by, Says};
 
@@ -68,7 +68,7 @@ fn gather(alloc: Global, found: &mut Found, path: &Path, pattern: &DPat) -> Resu
         }
         Form::Lit(literal) => push_constant(found, path.copy(alloc)?, literal.copy()?),
         Form::Group(group, fields) => {
-            push_test(found, path.copy(alloc)?, kind_of(group)?)?;
+            push_test(found, path.copy(alloc)?, Kind::Of(group.copy()?))?;
             gather_fields(alloc, found, path, group, fields)
         }
     }
@@ -117,17 +117,6 @@ fn push_constant(found: &mut Found, path: Path, value: Value) -> Result<(), NoMe
 {
     found.constants.push(Constant { path, value })?;
     Ok(())
-}
-
-/// What a group asks of the value.
-fn kind_of(group: &Group) -> Result<Kind, NoMemory>
-    ensures { IfOk result (λ k. k ≡ kind_of group.now) }
-{
-    match group {
-        Group::InRecord(label, extent) => Ok(Kind::Record(label.copy()?, *extent)),
-        Group::InSequence(extent) => Ok(Kind::Sequence(*extent)),
-        Group::InDictionary => Ok(Kind::Dictionary),
-    }
 }
 
 /// The step to the part that a key of the group names.

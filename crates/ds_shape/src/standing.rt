@@ -6,7 +6,8 @@ ghost use Rattle.ds_shape.specs.Paths.{sequence_at};
 
 use crate::outlines::{Kind, Outline, Test};
 use crate::paths::{Path, part_at};
-use pv_value::{Items, NoMemory, Node, Value};
+use dp_pattern::is_of;
+use pv_value::{Items, NoMemory, Value};
 use std::alloc::Global;
 
 /// Whether the value passes the tests of the outline.
@@ -57,14 +58,9 @@ fn passes_one(test: &Test, value: &Value) -> bool
 fn is_kind(kind: &Kind, value: &Value) -> bool
     ensures { result ≡ is_kind kind.now value.now }
 {
-    match (kind, &value.node) {
-        (Kind::Any, _) => true,
-        (Kind::Record(label, extent), Node::Rec(rec)) => {
-            rec.label == *label && extent.is_met_by(rec.fields.as_slice().len())
-        }
-        (Kind::Sequence(extent), Node::Seq(items)) => extent.is_met_by(items.len()),
-        (Kind::Dictionary, Node::Dict(_)) => true,
-        _ => false,
+    match kind {
+        Kind::Any => true,
+        Kind::Of(group) => is_of(group, value),
     }
 }
 

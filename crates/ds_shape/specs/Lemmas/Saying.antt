@@ -15,8 +15,8 @@ use Rattle.dp_pattern.specs.Patterns.{Pattern, discard, bind, literal, group}
 use Rattle.dp_pattern.specs.Patterns.{Fields, no_fields, then_field}
 use Rattle.dp_pattern.specs.Matching.{is_of, part_of, matched, matched_fields}
 use Rattle.ds_shape.specs.Paths.{Step, part_by, part_at, with_first, parts_at, sequence_at}
-use Rattle.ds_shape.specs.Outlines.{Test, Outline, is_kind, is_there, passes}
-use Rattle.ds_shape.specs.Splitting.{Constant, kind_of, step_of, test_under, constant_under, tests, field_tests}
+use Rattle.ds_shape.specs.Outlines.{Test, Outline, is_there, passes}
+use Rattle.ds_shape.specs.Splitting.{Constant, step_of, test_under, constant_under, tests, field_tests}
 use Rattle.ds_shape.specs.Splitting.{constants, field_constants, captures, field_captures, outline_of, constants_of}
 use Rattle.ds_shape.specs.Standing.{is_found, captured_by, Says}
 use Rattle.ds_shape.specs.Lemmas.Orders.{plains_same}
@@ -31,13 +31,7 @@ abbrev pub said : List Test → List Constant → List (List Step) → Plain →
 said ts cs ps v =
     cond {A = Option (List Plain)} (list_all (passes v) ts && list_all (has v) cs) (parts_at ps v) None
 
--- ---- a group's kind, and the steps to its parts
-
-kind_is : (g : Group) (v : Plain) → is_kind (kind_of g) v ≡ is_of g v
-kind_is (InRecord label e) (record_of l fs) = refl
-kind_is (InSequence e) (sequence xs) = refl
-kind_is InDictionary (dictionary ps) = refl
-kind_is g v = refl
+-- ---- the steps to a group's parts
 
 step_is : (g : Group) (v k : Plain) → part_by (step_of g k) v ≡ part_of g v k
 step_is (InRecord label e) (record_of l fs) k = refl
@@ -152,10 +146,9 @@ mutual
       ∙ bound (list_all (passes v) (tests p) && list_all (has v) (constants p)) v (parts_at (captures p) v)
   matched_said (literal u) v = lone (same u v)
   matched_said (group g fs) v =
-      ap (λ b. cond {A = Option (List Plain)} b (matched_fields g fs v) None) (sym (kind_is g v))
-      ∙ ap (λ o. cond {A = Option (List Plain)} (is_kind (kind_of g) v) o None) (fields_said g fs v)
-      ∙ grouped (is_kind (kind_of g) v) (list_all (passes v) (field_tests g fs))
-      (list_all (has v) (field_constants g fs)) (parts_at (field_captures g fs) v)
+      ap (λ o. cond {A = Option (List Plain)} (is_of g v) o None) (fields_said g fs v)
+      ∙ grouped (is_of g v) (list_all (passes v) (field_tests g fs)) (list_all (has v) (field_constants g fs))
+      (parts_at (field_captures g fs) v)
 
   fields_said : (g : Group) (fs : Fields) (v : Plain)
       → matched_fields g fs v ≡ said (field_tests g fs) (field_constants g fs) (field_captures g fs) v

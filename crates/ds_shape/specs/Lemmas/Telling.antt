@@ -7,10 +7,12 @@ use Rattle.pv_value.specs.Lemmas.OrderLaws.{order_total, order_same}
 use Rattle.pv_words.specs.Words.{is_word}
 use Rattle.dp_pattern.specs.declared.Extent.{Extent}
 use Rattle.dp_pattern.specs.declared.Extent.TheVariants.{Open, Exactly}
+use Rattle.dp_pattern.specs.declared.Group.{Group}
+use Rattle.dp_pattern.specs.declared.Group.TheVariants.{InRecord, InSequence, InDictionary}
 use Rattle.ds_shape.specs.Paths.{Step, Field, Item, Under}
-use Rattle.ds_shape.specs.Outlines.{Kind, Any, Record, Sequence, Dictionary, Test, Outline}
-use Rattle.ds_shape.specs.Keys.{list_value, step_value, path_value, extent_value, kind_value, test_value}
-use Rattle.ds_shape.specs.Keys.{outline_value, outline_order}
+use Rattle.ds_shape.specs.Outlines.{Kind, Any, Of, Test, Outline}
+use Rattle.ds_shape.specs.Keys.{list_value, step_value, path_value, extent_value, group_value, kind_value}
+use Rattle.ds_shape.specs.Keys.{test_value, outline_value, outline_order}
 use Rattle.ds_shape.specs.Lemmas.Orders.{plains_same}
 
 one_to_one : {A : Type 0} (f : A → Plain) → ((x y : A) → f x ≡ f y → x ≡ y) → (xs ys : List A) → map f xs ≡ map f ys
@@ -56,28 +58,32 @@ extent_tells Open (Exactly m) e = absurd cc
 extent_tells (Exactly n) Open e = absurd cc
 extent_tells (Exactly n) (Exactly m) e = cc
 
-kind_tells : (k l : Kind) → kind_value k ≡ kind_value l → k ≡ l
-kind_tells Any Any e = refl
-kind_tells Any (Record y d) e = absurd (other_word (codes "any") _ _ refl refl e)
-kind_tells Any (Sequence d) e = absurd (other_word (codes "any") _ _ refl refl e)
-kind_tells Any Dictionary e = absurd (other_word (codes "any") _ _ refl refl e)
-kind_tells (Record x d) Any e = absurd (other_word (codes "rec") _ _ refl refl e)
-kind_tells (Record x c) (Record y d) e =
+group_tells : (g h : Group) → group_value g ≡ group_value h → g ≡ h
+group_tells (InRecord x c) (InRecord y d) e =
     let label : x ≡ y = cc in
     let extent : extent_value c ≡ extent_value d = cc in
-    λ i. Record (label i) (extent_tells c d extent i)
-kind_tells (Record x d) (Sequence c) e = absurd (other_word (codes "rec") _ _ refl refl e)
-kind_tells (Record x d) Dictionary e = absurd (other_word (codes "rec") _ _ refl refl e)
-kind_tells (Sequence d) Any e = absurd (other_word (codes "arr") _ _ refl refl e)
-kind_tells (Sequence c) (Record y d) e = absurd (other_word (codes "arr") _ _ refl refl e)
-kind_tells (Sequence c) (Sequence d) e =
+    λ i. InRecord (label i) (extent_tells c d extent i)
+group_tells (InRecord x d) (InSequence c) e = absurd (other_word (codes "rec") _ _ refl refl e)
+group_tells (InRecord x d) InDictionary e = absurd (other_word (codes "rec") _ _ refl refl e)
+group_tells (InSequence c) (InRecord y d) e = absurd (other_word (codes "arr") _ _ refl refl e)
+group_tells (InSequence c) (InSequence d) e =
     let extent : extent_value c ≡ extent_value d = cc in
-    ap Sequence (extent_tells c d extent)
-kind_tells (Sequence d) Dictionary e = absurd (other_word (codes "arr") _ _ refl refl e)
-kind_tells Dictionary Any e = absurd (other_word (codes "dict") _ _ refl refl e)
-kind_tells Dictionary (Record y d) e = absurd (other_word (codes "dict") _ _ refl refl e)
-kind_tells Dictionary (Sequence d) e = absurd (other_word (codes "dict") _ _ refl refl e)
-kind_tells Dictionary Dictionary e = refl
+    ap InSequence (extent_tells c d extent)
+group_tells (InSequence d) InDictionary e = absurd (other_word (codes "arr") _ _ refl refl e)
+group_tells InDictionary (InRecord y d) e = absurd (other_word (codes "dict") _ _ refl refl e)
+group_tells InDictionary (InSequence d) e = absurd (other_word (codes "dict") _ _ refl refl e)
+group_tells InDictionary InDictionary e = refl
+
+no_any : (g : Group) → has_word (codes "any") (group_value g) ≡ false
+no_any (InRecord x d) = refl
+no_any (InSequence d) = refl
+no_any InDictionary = refl
+
+kind_tells : (k l : Kind) → kind_value k ≡ kind_value l → k ≡ l
+kind_tells Any Any e = refl
+kind_tells Any (Of h) e = absurd (other_word (codes "any") _ _ refl (no_any h) e)
+kind_tells (Of g) Any e = absurd (other_word (codes "any") _ _ refl (no_any g) (sym e))
+kind_tells (Of g) (Of h) e = ap Of (group_tells g h e)
 
 test_tells : (t u : Test) → test_value t ≡ test_value u → t ≡ u
 test_tells t u e =
