@@ -1,11 +1,12 @@
 #!/usr/bin/env python3
 """A room on a server of dataspaces, and what a program says and hears there, with nothing but the standard library.
 
-    examples/client.py ADDR REF NAME
+    examples/client.py [--older] ADDR REF NAME
 
 ADDR is HOST:PORT, as `dsd serve` has it. REF is the text of a signed reference to the room, as `dsd mint` prints it. Who comes
 and who goes is printed as it comes, `+ "ann"` and `- "ann"`. Each line of the input is said to all who are there, and is
-printed as `"ann": "hello"` by all of them. At the end of the input the client goes.
+printed as `"ann": "hello"` by all of them. At the end of the input the client goes. With --older it speaks the older dialect,
+which says the same with other labels and other patterns: who speaks which makes no difference to the others.
 
 A program that connects speaks in turns, which are sequences of events `[oid event]`, and hears such turns. Oid 0 is the
 server's gatekeeper, to which references are given; what they stand for gets a number of its own. What the server tells comes
@@ -225,10 +226,26 @@ def observes(oid, label, count, entity, handle):
     return asserts(oid, record("Observe", pattern, own(entity)), handle)
 
 
+def observes_exactly(oid, label, count, entity, handle):
+    """The same of records with exactly so many fields, in the older grammar of patterns."""
+    pattern = record("rec", Symbol(label), (record("bind", record("_")),) * count)
+    return asserts(oid, record("Observe", pattern, own(entity)), handle)
+
+
+# the labels of events in the older dialect: a connection speaks one of both, and is told in the one that it speaks
+OLDER = {"A": "assert", "R": "retract", "M": "message", "S": "sync"}
+NEWER = {older: newer for newer, older in OLDER.items()}
+
+
+def relabelled(events, labels):
+    return tuple((oid, record(labels[event.label], *event.fields)) for oid, event in events)
+
+
 class Connection:
     """A link to a server: packets in both directions, one behind another."""
 
-    def __init__(self, address):
+    def __init__(self, address, older=False):
+        self.older = older
         host, _, port = address.rpartition(":")
         self.link = socket.create_connection((host.strip("[]"), int(port)))
         self.link.setsockopt(socket.IPPROTO_TCP, socket.TCP_NODELAY, 1)
@@ -237,7 +254,7 @@ class Connection:
 
     def send(self, *events):
         """Sends one turn, which is done as a whole, or not at all."""
-        self.link.sendall(written(events))
+        self.link.sendall(written(relabelled(events, OLDER) if self.older else events))
 
     def packet(self):
         """The next packet, or None at the link's end."""
@@ -258,7 +275,7 @@ class Connection:
             if packet is None:
                 return None
             if isinstance(packet, tuple):
-                self.told.extend(packet)
+                self.told.extend(relabelled(packet, NEWER) if self.older else packet)
             elif isinstance(packet, Record) and packet.label == "error":
                 raise ConnectionError("%s %s" % packet.fields)
         return self.told.popleft()
@@ -288,9 +305,10 @@ RESOLVED, WATCHING, HEARING, BEING = 1, 2, 3, 4
 def enter(connection, reference, name):
     """Comes into the room, and sees and hears what is there from then on."""
     room = connection.resolve(reference, ANSWER, RESOLVED)
+    sees = observes_exactly if connection.older else observes
     connection.send(
-        observes(room, "Present", 1, PRESENCE, WATCHING),
-        observes(room, "Says", 2, SPEECH, HEARING),
+        sees(room, "Present", 1, PRESENCE, WATCHING),
+        sees(room, "Says", 2, SPEECH, HEARING),
         asserts(room, record("Present", name), BEING),
     )
     return room
@@ -326,11 +344,12 @@ def speak(connection, room, name):
 
 
 def main():
-    if len(sys.argv) != 4:
+    words = [word for word in sys.argv[1:] if word != "--older"]
+    if len(words) != 3:
         sys.exit(__doc__)
-    address, reference, name = sys.argv[1:]
+    address, reference, name = words
     try:
-        connection = Connection(address)
+        connection = Connection(address, older="--older" in sys.argv)
         room = enter(connection, read_text(reference), name)
         threading.Thread(target=speak, args=(connection, room, name), daemon=True).start()
         for line in lines(connection):

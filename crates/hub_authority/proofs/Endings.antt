@@ -13,25 +13,27 @@ use Rattle.hub_machine.specs.State.{State, ports_of}
 use Rattle.hub_machine.specs.Endings.{closed, failed, dismissed, finished}
 use Rattle.hub_valid.specs.Lemmas.Lives.{live_ended, opened_ended}
 use Rattle.hub_valid.specs.Lemmas.StepEnds.{finished_keeps}
+use Rattle.hub_authority.proofs.Dialects.{StaysFixed}
 
--- what connection k had before, with the same exports
+-- what connection k had before, with the same exports, and the dialect that was fixed
 pub record HadThem (k : ℕ) (s : State) (p : PortsState) : Type 0 where
   pub before : PortsState
   pub there : ports_of k s ≡ Some before
   pub same : p.exports ≡ before.exports
+  pub fixed : StaysFixed before.dialect p.dialect
 
--- from s to t: no connection comes, and the exports of k are what they were, or it names nothing
+-- the same
+pub had_same : (k : ℕ) (s : State) (p : PortsState) → ports_of k s ≡ Some p → HadThem k s p
+had_same k s p is = record { before = p; there = is; same = refl; fixed = λ d was. was }
+
+-- from s to t: no connection comes, and the exports of k are what they were and its dialect stays, or it names nothing
 pub record Keeps (k : ℕ) (s t : State) : Type 0 where
   pub opened : t.world.opened ≡ s.world.opened
   pub live : is_live (actor_of k) s.world.table ≡ false → is_live (actor_of k) t.world.table ≡ false
   pub named : (p : PortsState) → ports_of k t ≡ Some p → HadThem k s p
 
 pub keeps_all : (k : ℕ) (s : State) → Keeps k s s
-keeps_all k s = record {
-  opened = refl;
-  live = λ is. is;
-  named = λ p is. record { before = p; there = is; same = refl };
-}
+keeps_all k s = record { opened = refl; live = λ is. is; named = had_same k s }
 
 pub keeps_then : (k : ℕ) (s t u : State) → Keeps k s t → Keeps k t u → Keeps k s u
 keeps_then k s t u first later = record {
@@ -40,7 +42,12 @@ keeps_then k s t u first later = record {
   named = λ p is.
       let l = later.named p is in
       let f = first.named l.before l.there in
-      record { before = f.before; there = f.there; same = l.same ∙ f.same };
+      record {
+        before = f.before;
+        there = f.there;
+        same = l.same ∙ f.same;
+        fixed = λ d was. l.fixed d (f.fixed d was);
+      };
 }
 
 -- ---- one connection ends
@@ -70,7 +77,7 @@ pub keeps_failed : (k j : ℕ) (f : Fault) (s : State) → Keeps k s (failed j f
 keeps_failed k j f s = record {
   opened = opened_ended (actor_of j) s.world;
   live = λ is. still_dead _ _ _ (live_ended (actor_of k) (actor_of j) s.world) is;
-  named = λ p is. record { before = p; there = by (k == j) refl p is; same = refl };
+  named = λ p is. had_same k s p (by (k == j) refl p is);
 }
   where
     by : (b : Bool) → (k == j) ≡ b → (p : PortsState) → ports_of k (failed j f s) ≡ Some p → ports_of k s ≡ Some p
@@ -95,11 +102,8 @@ pub keeps_dismissed : (k a : ℕ) (s : State) → Keeps k s (dismissed a s)
 keeps_dismissed k a s = record {
   opened = opened_ended a s.world;
   live = λ is. still_dead _ _ _ (live_ended (actor_of k) a s.world) is;
-  named = λ p is. record {
-    before = p;
-    there = fewer _ _ _ _ p (was_live (actor_of k == a) _ _ (live_ended (actor_of k) a s.world)) (λ e. e) is;
-    same = refl;
-  };
+  named = λ p is. had_same k s p
+      (fewer _ _ _ _ p (was_live (actor_of k == a) _ _ (live_ended (actor_of k) a s.world)) (λ e. e) is);
 }
 
 -- ---- the end of a step

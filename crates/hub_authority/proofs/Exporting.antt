@@ -17,6 +17,7 @@ use Rattle.hub_machine.specs.Machine.{step, foreign_to}
 use Rattle.hub_machine.specs.Replays.{run_from, replay}
 use Rattle.hub_machine.specs.declared.steps.Step.{Step}
 use Rattle.hub_authority.specs.Named.{told_by, told_from, first_by, first_from, objects_told, AreItsOwn}
+use Rattle.hub_authority.proofs.Dialects.{StaysFixed}
 use Rattle.hub_authority.proofs.Endings.{Keeps}
 use Rattle.hub_valid.specs.Lemmas.Lists.{flat_map_append}
 
@@ -30,11 +31,12 @@ pub record CameWith (k : ℕ) (s : State) (told : List Batch) (first : Option Pl
   pub untold : told ≡ []
   pub exports : p.exports ≡ object ∷ []
 
--- connection k was there, and exports what it was told of
+-- connection k was there, and exports what it was told of; its dialect is what was fixed
 pub record WasTold (k : ℕ) (s : State) (told : List Batch) (p : PortsState) : Type 0 where
   pub before : PortsState
   pub there : ports_of k s ≡ Some before
   pub exports : p.exports ≡ all_exported before.exports (flat_map (foreign_to k) told)
+  pub fixed : StaysFixed before.dialect p.dialect
 
 -- from s to t, where connection k is told these batches and gets this first object
 pub record Tells (k : ℕ) (s t : State) (told : List Batch) (first : Option Plain) : Type 0 where
@@ -49,7 +51,9 @@ tells_nothing k s t keeps = record {
   opened = omega (arith, keeps.opened);
   live = λ l is. keeps.live is;
   silent = λ l is. (refl, refl);
-  named = λ p is. let h = keeps.named p is in inl (record { before = h.before; there = h.there; exports = h.same });
+  named = λ p is.
+      let h = keeps.named p is in
+      inl (record { before = h.before; there = h.there; exports = h.same; fixed = h.fixed });
 }
 
 pub tells_then : (k : ℕ) (s t u : State) (told : List Batch) (first : Option Plain) → Tells k s t told first
@@ -58,13 +62,19 @@ tells_then k s t u told first tells keeps = record {
   opened = subst (λ n. s.world.opened ≤ n) (sym keeps.opened) tells.opened;
   live = λ l is. keeps.live (tells.live (subst (λ n. n < k) keeps.opened l) is);
   silent = λ l is. tells.silent (subst (λ n. n < k) keeps.opened l) is;
-  named = λ p is. let h = keeps.named p is in by p h.same (tells.named h.before h.there);
+  named = λ p is. let h = keeps.named p is in by p h.same h.fixed (tells.named h.before h.there);
 }
   where
-    by : (p : PortsState) {q : PortsState} → p.exports ≡ q.exports → WasTold k s told q ⊎ CameWith k s told first q
-        → WasTold k s told p ⊎ CameWith k s told first p
-    by p same (inl w) = inl (record { before = w.before; there = w.there; exports = same ∙ w.exports })
-    by p same (inr c) = inr (record {
+    by : (p : PortsState) {q : PortsState} → p.exports ≡ q.exports → StaysFixed q.dialect p.dialect
+        → WasTold k s told q ⊎ CameWith k s told first q → WasTold k s told p ⊎ CameWith k s told first p
+    by p same fixed (inl w) =
+        inl (record {
+          before = w.before;
+          there = w.there;
+          exports = same ∙ w.exports;
+          fixed = λ d was. fixed d (w.fixed d was);
+        })
+    by p same fixed (inr c) = inr (record {
       object = c.object;
       next = c.next;
       is_first = c.is_first;

@@ -1,4 +1,5 @@
 pub mod Asking
+pub mod Dialects
 pub mod Endings
 pub mod Exporting
 pub mod Meaning
@@ -8,5 +9,6 @@ pub mod Rows
 pub mod Runs
 pub mod Saying
 pub mod Sparing
+pub mod Speaking
 pub mod Taking
 pub mod Telling

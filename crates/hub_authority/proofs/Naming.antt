@@ -72,7 +72,7 @@ dead_step : (k : ℕ) (s : State) (e : Step) → is_live (actor_of k) s.world.ta
 dead_step k s (Bind b) dead = refl
 dead_step k s (Watch x) dead = refl
 dead_step k s (Arrive space) dead = refl
-dead_step k s (Packet j es) dead = refl
+dead_step k s (Packet j t) dead = refl
 dead_step k s (Bad j f) dead = refl
 dead_step k s (Close j) dead = refl
 dead_step k s (Turn a) dead = by (a == actor_of k) refl
@@ -181,7 +181,7 @@ module _ (k : ℕ) (s : State) (valid : IsValid s) (ports : PortsState) (named :
   step_sends (Bind b) = tt
   step_sends (Watch x) = tt
   step_sends (Arrive space) = tt
-  step_sends (Packet j es) = tt
+  step_sends (Packet j t) = tt
   step_sends (Bad j f) = tt
   step_sends (Close j) = tt
   step_sends (Turn a) = by (a == own) refl

@@ -14,10 +14,12 @@ use Rattle.ac_world.specs.Turns.{turn}
 use Rattle.ac_world.specs.declared.watched.Watched.{Watched}
 use Rattle.ac_world.specs.Worlds.{WorldState, actor_of, is_system, without_entry, binding, watching}
 use Rattle.ac_world.specs.Lemmas.Entries.{each_with, each_without, each_found, KeysAscend, ascend_none}
+use Rattle.rl_packet.specs.declared.packets.Turn.{Turn as TurnRecord}
 use Rattle.rl_packet.specs.declared.packets.TurnEvent.{TurnEvent}
-use Rattle.rl_ports.specs.Ports.{PortsState, ports_to, with_exports}
+use Rattle.rl_ports.specs.Ports.{PortsState, speaking, ports_to, with_exports}
 use Rattle.hub_machine.specs.Limits.{most_events}
 use Rattle.hub_machine.specs.declared.faults.Fault.{Fault}
+use Rattle.hub_machine.specs.declared.faults.Fault.TheVariants.{BadPacket}
 use Rattle.hub_machine.specs.declared.steps.Reply.{Reply}
 use Rattle.hub_machine.specs.declared.steps.Reply.TheVariants.{Worn, Halted, Idle}
 use Rattle.hub_machine.specs.declared.steps.Step.{Step}
@@ -27,6 +29,7 @@ use Rattle.hub_machine.specs.State.{State, opening, ports_of}
 use Rattle.hub_machine.specs.Admission.{Admitting, Admitted, refused, admitted, admission, before_all, unless}
 use Rattle.hub_machine.specs.Admission.{all_admitted}
 use Rattle.hub_machine.specs.Endings.{nameless, closed, failed, dismissed, finished}
+use Rattle.hub_machine.specs.Lemmas.Dialects.{by_dialect}
 use Rattle.hub_machine.specs.Machine.{unchanged, opened, refusal, arrive_unless, accepted, judged, packet_at, bad_at}
 use Rattle.hub_machine.specs.Machine.{bind_unless, is_barred, is_unwatchable, watch_unless}
 use Rattle.hub_machine.specs.Machine.{close_at, exports_after, exporting, telling_fault, told_unless, tell, fault_for}
@@ -114,10 +117,13 @@ orderly_of k ports s h all is =
     let i = each_found (IsInOrder s.world.table.next) k ports s.connections all (named_of k ports s is).kept in
     (h.sound.table, i.0, i.1)
 
+refused_in_order : (k : ℕ) (f : Fault) (s : State) → AreInOrder s
+    → AreInOrder (judged k (refused f) (nameless k s)).state
+refused_in_order k f s all = finished_in_order [] (failed k f s) (failed_in_order k f s all)
+
 judged_in_order : (k : ℕ) (ports : PortsState) (es : List TurnEvent) (d : Admitted) (s : State) → IsOrderly s ports
     → AreInOrder s → admission k ports s.world es ≡ d → AreInOrder (judged k d (nameless k s)).state
-judged_in_order k ports es (refused f) s orderly all is =
-    finished_in_order [] (failed k f s) (failed_in_order k f s all)
+judged_in_order k ports es (refused f) s orderly all is = refused_in_order k f s all
 judged_in_order k ports es (admitted x) s orderly all is =
     finished_in_order [] (accepted k x (nameless k s)) (by (over most_events 3 (length es)) is)
   where
@@ -130,11 +136,14 @@ judged_in_order k ports es (admitted x) s orderly all is =
         accepted_in_order k ports es x s (all_led k s.world es start x (walked_from s ports orderly) is) all
     by (Some f) is = absurd cc
 
-packet_in_order : (k : ℕ) (o : Option PortsState) (es : List TurnEvent) (s : State) → IsHub [] s → AreInOrder s
-    → ports_of k s ≡ o → AreInOrder (packet_at k o es s).state
-packet_in_order k None es s h all is = all
-packet_in_order k (Some ports) es s h all is =
-    judged_in_order k ports es (admission k ports s.world es) s (orderly_of k ports s h all is) all refl
+packet_in_order : (k : ℕ) (o : Option PortsState) (t : TurnRecord) (s : State) → IsHub [] s → AreInOrder s
+    → ports_of k s ≡ o → AreInOrder (packet_at k o t s).state
+packet_in_order k None t s h all is = all
+packet_in_order k (Some ports) t s h all is =
+    let now : PortsState = speaking t.dialect ports in
+    by_dialect (λ d. AreInOrder (judged k d (nameless k s)).state) k ports s.world t
+    (refused_in_order k BadPacket s all)
+    (judged_in_order k now t.events (admission k now s.world t.events) s (orderly_of k ports s h all is) all refl)
 
 bad_in_order : (k : ℕ) (o : Option PortsState) (f : Fault) (s : State) → AreInOrder s
     → AreInOrder (bad_at k o f s).state
@@ -204,7 +213,7 @@ done_in_order : (s : State) (e : Step) → IsHub [] s → AreInOrder s → AreIn
 done_in_order s (Bind b) h all = bind_in_order (is_barred b s) b s all
 done_in_order s (Watch x) h all = watch_in_order (is_unwatchable x s) x s all
 done_in_order s (Arrive space) h all = arrive_in_order (refusal space s) space s all
-done_in_order s (Packet k es) h all = packet_in_order k (ports_of k s) es s h all refl
+done_in_order s (Packet k t) h all = packet_in_order k (ports_of k s) t s h all refl
 done_in_order s (Bad k f) h all = bad_in_order k (ports_of k s) f s all
 done_in_order s (Close k) h all = close_in_order k (ports_of k s) s all
 done_in_order s (Turn a) h all = turn_in_order a s all
@@ -226,7 +235,7 @@ run_in_order s (e ∷ es) may valid h all =
     (step_in_order s e h all)
 
 pub taken_packets : TakenPackets
-taken_packets ds steps k es ports may there taken =
-    taken_does (replay ds steps) k es ports
+taken_packets ds steps k t ports may there taken =
+    taken_does (replay ds steps) k t ports
     (orderly_of k ports (replay ds steps) (replay_hub ds steps may)
     (run_in_order (opening ds) steps may (stays_valid.0 ds) (replay_hub ds [] tt) tt) there) there taken

@@ -87,6 +87,10 @@ all_told ds k before (e ∷ es) one is =
     (subst (IsTold ds k (before ++ e ∷ [])) (sym (replay-more ds before e))
     (one_more ds k before e is (step_tells k (replay ds before) e one))))
 
+-- to a connection that is live
+pub told_so : (ds : List Definition) (k : ℕ) (steps : List Step) (ports : PortsState)
+    → ports_of k (replay ds steps) ≡ Some ports → IsTold ds k steps (replay ds steps)
+told_so ds k steps ports is = all_told ds k [] steps (counts_from_one ds k steps ports is) (at_first ds k)
+
 pub are_its_own : Exports
-are_its_own ds k steps ports is =
-    (all_told ds k [] steps (counts_from_one ds k steps ports is) (at_first ds k)).own ports is
+are_its_own ds k steps ports is = (told_so ds k steps ports is).own ports is

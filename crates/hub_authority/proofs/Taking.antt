@@ -1,24 +1,29 @@
 -- A packet that is taken makes the rows and brings the messages for which its events ask.
-use Rattle.std.proofs.Common.{◌≡◌, ℕ, List, [], ◌∷◌, ◌++◌, Bool, true, false, cond, Option, Some, None}
+use Rattle.std.proofs.Common.{◌≡◌, ℕ, List, [], ◌∷◌, ◌++◌, ◌==◌, ◌&&◌, not, Bool, true, false, cond, Option, Some, None}
 use Rattle.std.proofs.Common.{refl, ap, sym, ◌∙◌, subst, filter, length}
-use Rattle.std.specs.List.{AllByRecursion}
+use Rattle.std.specs.List.{AllByRecursion, list_any}
 use Rattle.pv_value.specs.Plain.{Plain}
 use Rattle.sr_caveat.specs.declared.caps.Cap.{Cap}
 use Rattle.ps_schema.specs.declared.Definition.{Definition}
+use Rattle.ac_table.specs.declared.batches.Row.{Row as TableRow}
 use Rattle.ac_table.specs.Tables.{Actor, IsTable, find_actor, is_live}
 use Rattle.ac_world.specs.Outboxes.{Plan, plan_over, told_to}
 use Rattle.ac_world.specs.Worlds.{actor_of}
 use Rattle.ac_world.specs.Lemmas.Entries.{KeysAscend, ascend_none}
 use Rattle.rl_packet.specs.declared.packets.Event.{Event}
 use Rattle.rl_packet.specs.declared.packets.Event.TheVariants.{Assert, Retract, Message, Sync}
+use Rattle.rl_packet.specs.declared.packets.Turn.{Turn as TurnRecord}
 use Rattle.rl_packet.specs.declared.packets.TurnEvent.{TurnEvent}
-use Rattle.rl_ports.specs.Ports.{PortsState}
+use Rattle.rl_packet.specs.declared.packets.Dialect.{Dialect}
+use Rattle.rl_ports.specs.Ports.{PortsState, speaking}
 use Rattle.hub_machine.specs.Limits.{most_events}
 use Rattle.hub_machine.specs.declared.faults.Fault.{Fault}
 use Rattle.hub_machine.specs.Faults.{over}
 use Rattle.hub_machine.specs.State.{State, ports_of}
 use Rattle.hub_machine.specs.Admission.{Admitting, Admitted, refused, admitted, before_all, unless, all_admitted}
+use Rattle.hub_machine.specs.Admission.{turn_admission}
 use Rattle.hub_machine.specs.Endings.{nameless, finished}
+use Rattle.hub_machine.specs.Lemmas.Dialects.{by_dialect}
 use Rattle.hub_machine.specs.Machine.{is_worn, unchanged, accepted, judged, packet_at, step}
 use Rattle.hub_machine.specs.declared.steps.Step.TheVariants.{Packet}
 use Rattle.hub_machine.specs.declared.steps.Reply.TheVariants.{Worn, Taken}
@@ -26,7 +31,7 @@ use Rattle.hub_valid.specs.Lemmas.Filtered.{all_kept}
 use Rattle.hub_valid.specs.Lemmas.Values.{all_weaker, all_append}
 use Rattle.hub_laws.proofs.Steps.{named_of}
 use Rattle.hub_authority.specs.Asked.{takes_back, cap_under, let_in, row_of, row_asked, next_after, rows_asked}
-use Rattle.hub_authority.specs.Asked.{rows_left, messages_asked}
+use Rattle.hub_authority.specs.Asked.{takes_row, rows_left, messages_asked}
 use Rattle.hub_laws.specs.Standing.{events_of}
 use Rattle.hub_authority.specs.Asked.{messages_in}
 use Rattle.hub_authority.specs.Laws.{DoesWhatIsAsked}
@@ -47,8 +52,8 @@ IsOrderly s ports = IsTable s.world.table × KeysAscend ports.handles × StandBe
 -- the law, of any state that is so
 abbrev pub TakenInOrder : Type 0
 TakenInOrder =
-    (s : State) (k : ℕ) (es : List TurnEvent) (ports : PortsState) → IsOrderly s ports → ports_of k s ≡ Some ports
-    → (step s (Packet k es)).reply ≡ Taken → DoesWhatIsAsked k ports es s (step s (Packet k es)).state
+    (s : State) (k : ℕ) (t : TurnRecord) (ports : PortsState) → IsOrderly s ports → ports_of k s ≡ Some ports
+    → (step s (Packet k t)).reply ≡ Taken → DoesWhatIsAsked k ports t s (step s (Packet k t)).state
 
 pub walked_from : (s : State) (ports : PortsState) → IsOrderly s ports
     → IsWalked s.world.table s.world.table.next ports
@@ -85,6 +90,20 @@ rows_owned ds exports k next (e ∷ es) =
     let to = cap_under exports e.oid in
     all_append _ (row_asked ds exports k next to e.event es) _ (asked_owned ds exports k next to e.event es)
     (rows_owned ds exports k (next_after ds exports k to e.event next) es)
+
+-- ---- whatever the dialect
+
+takes_alike : (d : Option Dialect) (ports : PortsState) (n : ℕ) (e : Event)
+    → takes_row (speaking d ports) n e ≡ takes_row ports n e
+takes_alike d ports n (Retract h) = refl
+takes_alike d ports n (Assert v h) = refl
+takes_alike d ports n (Message v) = refl
+takes_alike d ports n (Sync peer) = refl
+
+left_alike : (d : Option Dialect) (k : ℕ) (ports : PortsState) (es : List TurnEvent) (rows : List TableRow)
+    → rows_left k (speaking d ports) es rows ≡ rows_left k ports es rows
+left_alike d k ports es rows =
+    λ i. filter (λ r. not ((r.owner == actor_of k) && list_any (λ e. takes_alike d ports r.handle e.event i) es)) rows
 
 -- ---- a packet that is admitted
 
@@ -141,42 +160,57 @@ made_live k ports es s t table live made =
     (rows_asked s.world.schema ports.exports k s.world.table.next es)
     (rows_owned s.world.schema ports.exports k s.world.table.next es))))
 
-does : (k : ℕ) (ports : PortsState) (es : List TurnEvent) (s t : State) → IsTable s.world.table
-    → is_live (actor_of k) s.world.table ≡ true → Made k ports es s t
-    → DoesWhatIsAsked k ports es s (finished [] t)
-does k ports es s t table live made =
-    let spares = spares_finished [] t (made_live k ports es s t table live made) in
+does : (k : ℕ) (ports : PortsState) (t : TurnRecord) (s u : State) → IsTable s.world.table
+    → is_live (actor_of k) s.world.table ≡ true → Made k (speaking t.dialect ports) t.events s u
+    → DoesWhatIsAsked k ports t s (finished [] u)
+does k ports t s u table live made =
+    let spares = spares_finished [] u (made_live k (speaking t.dialect ports) t.events s u table live made) in
     record {
-      rows = spares.rows ∙ ap (filter (λ r. is_live r.owner (finished [] t).world.table)) made.rows;
+      rows =
+          spares.rows
+          ∙ ap (filter (λ r. is_live r.owner (finished [] u).world.table))
+          (made.rows
+          ∙ ap (λ rows. rows ++ rows_asked s.world.schema ports.exports k s.world.table.next t.events)
+          (left_alike t.dialect k ports t.events s.world.table.rows));
       messages = λ b x y old new.
-          let had = messages_finished [] t b y new in
+          let had = messages_finished [] u b y new in
           had.same ∙ made.messages b x had.actor old had.found;
     }
 
 -- ---- the step
 
+-- where it is taken, it does so
+abbrev TakenDoes : ℕ → PortsState → TurnRecord → State → Admitted → Type 0
+TakenDoes k ports t s d =
+    (judged k d (nameless k s)).reply ≡ Taken → DoesWhatIsAsked k ports t s (judged k d (nameless k s)).state
+
 pub taken_does : TakenInOrder
-taken_does s k es ports orderly there taken =
-    worn (is_worn s (Packet k es)) taken
+taken_does s k t ports orderly there taken =
+    worn (is_worn s (Packet k t)) taken
   where
+    now : PortsState
+    now = speaking t.dialect ports
+
     admit : (c : Option Fault)
-        → (judged k (unless c (all_admitted k s.world es (before_all k ports s.world))) (nameless k s)).reply ≡ Taken
-        → DoesWhatIsAsked k ports es s
-        (judged k (unless c (all_admitted k s.world es (before_all k ports s.world))) (nameless k s)).state
+        → TakenDoes k ports t s (unless c (all_admitted k s.world t.events (before_all k now s.world)))
     admit (Some f) is = absurd cc
-    admit None is = events (all_admitted k s.world es (before_all k ports s.world)) refl is
+    admit None is = events (all_admitted k s.world t.events (before_all k now s.world)) refl is
       where
-        events : (d : Admitted) → all_admitted k s.world es (before_all k ports s.world) ≡ d
-            → (judged k d (nameless k s)).reply ≡ Taken
-            → DoesWhatIsAsked k ports es s (judged k d (nameless k s)).state
+        events : (d : Admitted) → all_admitted k s.world t.events (before_all k now s.world) ≡ d
+            → TakenDoes k ports t s d
         events (refused f) is taken = absurd cc
         events (admitted x) is taken =
-            does k ports es s (accepted k x (nameless k s)) orderly.0 (named_of k ports s there).live
-            (made k ports es s x orderly is)
+            does k ports t s (accepted k x (nameless k s)) orderly.0 (named_of k ports s there).live
+            (made k now t.events s x orderly is)
 
-    worn : (b : Bool) → (cond b (unchanged s Worn) (packet_at k (ports_of k s) es s)).reply ≡ Taken
-        → DoesWhatIsAsked k ports es s (cond b (unchanged s Worn) (packet_at k (ports_of k s) es s)).state
+    judge : TakenDoes k ports t s (turn_admission k ports s.world t)
+    judge =
+        by_dialect (TakenDoes k ports t s) k ports s.world t (λ is. absurd cc)
+        (admit (over most_events 3 (length t.events)))
+
+    worn : (b : Bool) → (cond b (unchanged s Worn) (packet_at k (ports_of k s) t s)).reply ≡ Taken
+        → DoesWhatIsAsked k ports t s (cond b (unchanged s Worn) (packet_at k (ports_of k s) t s)).state
     worn true is = absurd cc
     worn false is =
-        subst (λ o. (packet_at k o es s).reply ≡ Taken → DoesWhatIsAsked k ports es s (packet_at k o es s).state)
-        (sym there) (admit (over most_events 3 (length es))) is
+        subst (λ o. (packet_at k o t s).reply ≡ Taken → DoesWhatIsAsked k ports t s (packet_at k o t s).state)
+        (sym there) judge is

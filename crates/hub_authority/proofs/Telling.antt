@@ -19,16 +19,18 @@ use Rattle.ac_world.specs.Turns.{After as TurnOf, Turning, turn_first, turn_with
 use Rattle.ac_world.specs.Turns.{connection_turn}
 use Rattle.ac_world.specs.Lemmas.Entries.{put_found, put_other, out_other}
 use Rattle.ac_world.specs.Behaviours.{Behaviour, behaviour_of}
-use Rattle.rl_packet.specs.declared.packets.TurnEvent.{TurnEvent}
-use Rattle.rl_ports.specs.Ports.{PortsState, ports_to, with_exports}
+use Rattle.rl_packet.specs.declared.packets.Turn.{Turn as TurnRecord}
+use Rattle.rl_ports.specs.Ports.{PortsState, first_fixed, speaking, ports_to, with_exports}
 use Rattle.rl_wire.specs.Crossing.{all_exported}
 use Rattle.hub_machine.specs.Limits.{most_connections, last_dataspace}
 use Rattle.hub_machine.specs.declared.faults.Fault.{Fault}
+use Rattle.hub_machine.specs.declared.faults.Fault.TheVariants.{BadPacket}
 use Rattle.hub_machine.specs.Faults.{error_of}
 use Rattle.hub_machine.specs.State.{State, ports_of}
 use Rattle.hub_machine.specs.Admission.{Admitting, Admitted, refused, admitted}
 use Rattle.hub_machine.specs.Admission.{admission}
 use Rattle.hub_machine.specs.Endings.{nameless, failed, closed}
+use Rattle.hub_machine.specs.Lemmas.Dialects.{by_dialect}
 use Rattle.hub_machine.specs.Machine.{After, step, done, is_worn, unchanged, ends, opened, refusal, arrive_unless}
 use Rattle.hub_machine.specs.Machine.{bind_unless, is_barred, is_unwatchable, watch_unless}
 use Rattle.hub_machine.specs.Machine.{accepted, judged, packet_at, bad_at, close_at, foreign_to, telling_fault}
@@ -45,7 +47,8 @@ use Rattle.hub_authority.specs.Named.{batch_sent, told_by, first_by, opened_as}
 use Rattle.hub_valid.specs.Lemmas.Lives.{live_placed, live_committed}
 use Rattle.hub_valid.specs.Lemmas.Plans.{goes_on_all_turned}
 use Rattle.hub_valid.specs.Lemmas.Watchers.{may_watch}
-use Rattle.hub_authority.proofs.Endings.{HadThem, Keeps, keeps_all, keeps_then, keeps_failed, keeps_closed}
+use Rattle.hub_authority.proofs.Dialects.{StaysFixed, dialect_stays}
+use Rattle.hub_authority.proofs.Endings.{HadThem, Keeps, had_same, keeps_all, keeps_then, keeps_failed, keeps_closed}
 use Rattle.hub_authority.proofs.Endings.{keeps_finished}
 use Rattle.hub_authority.proofs.Exporting.{Tells, WasTold, CameWith, tells_nothing, tells_then}
 
@@ -57,11 +60,7 @@ pub keeps_world : (k : ℕ) (s : State) (w : WorldState) → w.opened ≡ s.worl
 keeps_world k s w same live = record {
   opened = same;
   live = λ is. live ∙ is;
-  named = λ p is. record {
-    before = p;
-    there = ap (λ b. cond b (entry_of k s.connections) None) (sym live) ∙ is;
-    same = refl;
-  };
+  named = λ p is. had_same k s p (ap (λ b. cond b (entry_of k s.connections) None) (sym live) ∙ is);
 }
 
 pub live_from_actors : (a : ℕ) (t u : TableState) → t.actors ≡ u.actors → is_live a t ≡ is_live a u
@@ -69,7 +68,7 @@ live_from_actors a t u same = ap (λ xs. is_some (find_actor a xs)) same
 
 -- ---- an arrival
 
-named_with : (b : Bool) (o : Option PortsState) (q p : PortsState) → o ≡ Some q → cond b o None ≡ Some p → q ≡ p
+pub named_with : (b : Bool) (o : Option PortsState) (q p : PortsState) → o ≡ Some q → cond b o None ≡ Some p → q ≡ p
 named_with true o q p there is = let same : Some q ≡ Some p = sym there ∙ is in cc
 named_with false o q p there is = absurd cc
 
@@ -116,6 +115,7 @@ arrival_tells k space s = record {
           there = same_names _ _ _ _ (placed apart)
               (put_other (s.world.opened + 1) k (ports_to first) s.connections apart) ∙ is;
           exports = refl;
+          fixed = λ d was. was;
         })
 
 arrive_tells : (k space : ℕ) (s : State) → Tells k s (step s (Arrive space)).state [] (first_by k s (Arrive space))
@@ -156,8 +156,9 @@ arrive_tells k space s = worn (is_worn s (Arrive space))
 -- ---- a packet
 
 keeps_accepted : (k j : ℕ) (x : Admitting) (ports : PortsState) (s : State) → ports_of j s ≡ Some ports
-    → x.ports.exports ≡ ports.exports → Keeps k s (accepted j x (nameless j s))
-keeps_accepted k j x ports s there same = record {
+    → x.ports.exports ≡ ports.exports → StaysFixed ports.dialect x.ports.dialect
+    → Keeps k s (accepted j x (nameless j s))
+keeps_accepted k j x ports s there same fixed = record {
   opened = refl;
   live = λ is. live ∙ is;
   named = λ p is. by (k == j) refl p is;
@@ -178,31 +179,35 @@ keeps_accepted k j x ports s there same = record {
           before = ports;
           there = ap (λ n. ports_of n s) one ∙ there;
           same = ap (λ q. q.exports) (sym (named_with _ _ x.ports p found is)) ∙ same;
+          fixed = λ d was. ap (λ q. q.dialect) (sym (named_with _ _ x.ports p found is)) ∙ fixed d was;
         }
     by false other p is =
         let apart : k ≢ j = λ same. grind (arith, nat_tests, other, same) in
-        record {
-          before = p;
-          there = same_names _ _ _ _ live (put_other j k x.ports (without_entry j s.connections) apart
-              ∙ out_other j k s.connections apart) ∙ is;
-          same = refl;
-        }
+        had_same k s p
+        (same_names _ _ _ _ live
+        (put_other j k x.ports (without_entry j s.connections) apart ∙ out_other j k s.connections apart) ∙ is)
 
-keeps_packet : (k j : ℕ) (es : List TurnEvent) (s : State) → Keeps k s (packet_at j (ports_of j s) es s).state
-keeps_packet k j es s = by (ports_of j s) refl
+keeps_packet : (k j : ℕ) (t : TurnRecord) (s : State) → Keeps k s (packet_at j (ports_of j s) t s).state
+keeps_packet k j t s = by (ports_of j s) refl
   where
-    judge : (ports : PortsState) (d : Admitted) → ports_of j s ≡ Some ports → admission j ports s.world es ≡ d
-        → Keeps k s (judged j d (nameless j s)).state
-    judge ports (refused f) there is =
-        keeps_then k s (failed j f s) _ (keeps_failed k j f s) (keeps_finished k [] (failed j f s))
+    refuse : (f : Fault) → Keeps k s (judged j (refused f) (nameless j s)).state
+    refuse f = keeps_then k s (failed j f s) _ (keeps_failed k j f s) (keeps_finished k [] (failed j f s))
+
+    judge : (ports : PortsState) (d : Admitted) → ports_of j s ≡ Some ports
+        → admission j (speaking t.dialect ports) s.world t.events ≡ d → Keeps k s (judged j d (nameless j s)).state
+    judge ports (refused f) there is = refuse f
     judge ports (admitted x) there is =
+        let now : PortsState = speaking t.dialect ports in
         keeps_then k s (accepted j x (nameless j s)) _
-        (keeps_accepted k j x ports s there (exports_stay j ports s.world es x is))
+        (keeps_accepted k j x ports s there (exports_stay j now s.world t.events x is)
+        (λ d fixed. dialect_stays j now s.world t.events x is ∙ ap (λ o. first_fixed o t.dialect) fixed))
         (keeps_finished k [] (accepted j x (nameless j s)))
 
-    by : (o : Option PortsState) → ports_of j s ≡ o → Keeps k s (packet_at j o es s).state
+    by : (o : Option PortsState) → ports_of j s ≡ o → Keeps k s (packet_at j o t s).state
     by None is = keeps_all k s
-    by (Some ports) is = judge ports (admission j ports s.world es) is refl
+    by (Some ports) is =
+        by_dialect (λ d. Keeps k s (judged j d (nameless j s)).state) j ports s.world t (refuse BadPacket)
+        (judge ports (admission j (speaking t.dialect ports) s.world t.events) is refl)
 
 -- ---- a turn
 
@@ -331,6 +336,7 @@ exporting_tells k j b ports s true there one apart = record {
             ap (λ q. q.exports) (sym (named_with _ _ after p found is))
             ∙ ap (λ n. all_exported ports.exports (foreign_to n b)) (sym (one refl))
             ∙ ap (all_exported ports.exports) (sym (append-nil (foreign_to k b)));
+        fixed = λ d was. ap (λ q. q.dialect) (sym (named_with _ _ after p found is)) ∙ was;
       });
 }
   where
@@ -344,11 +350,8 @@ exporting_tells k j b ports s false there one apart =
     tells_nothing k s (exporting j b ports s) (record {
       opened = refl;
       live = λ is. is;
-      named = λ p is. record {
-        before = p;
-        there = same_names _ _ _ _ refl (put_other j k _ s.connections (apart refl)) ∙ is;
-        same = refl;
-      };
+      named = λ p is. had_same k s p
+          (same_names _ _ _ _ refl (put_other j k _ s.connections (apart refl)) ∙ is);
     })
 
 tells_after : (k : ℕ) (s t u : State) (told : List Batch) → Keeps k s t → Tells k t u told None → Tells k s u told None
@@ -367,6 +370,7 @@ tells_after k s t u told keeps tells = record {
           before = h.before;
           there = h.there;
           exports = w.exports ∙ ap (λ xs. all_exported xs (flat_map (foreign_to k) told)) h.same;
+          fixed = λ d was. w.fixed d (h.fixed d was);
         })
     by p (inr c) = let none : None ≡ Some c.object = c.is_first in absurd cc
 
@@ -402,7 +406,7 @@ turn_tells k a s = by (is_system a) refl
         let keeps : Keeps k s t = record {
           opened = refl;
           live = λ is. is;
-          named = λ p is. record { before = p; there = is; same = refl };
+          named = had_same k s;
         } in
         no_batch_tells k a s (ends [] t (Sent (error_of f))) (keeps_then k s t _ keeps (keeps_finished k [] t))
 
@@ -464,18 +468,15 @@ keeps_work k (Some a) s = by (is_system a) refl
 
 keeps_stop : (k : ℕ) (s : State) → Keeps k s (ends [] (record s { stopped = true }) Taken).state
 keeps_stop k s =
-    keeps_then k s (record s { stopped = true }) _ (record { opened = refl; live = λ is. is; named = all_there })
+    keeps_then k s (record s { stopped = true }) _ (record { opened = refl; live = λ is. is; named = had_same k s })
     (keeps_finished k [] (record s { stopped = true }))
-  where
-    all_there : (p : PortsState) → ports_of k s ≡ Some p → HadThem k s p
-    all_there p is = record { before = p; there = is; same = refl }
 
 keeps_bind : (k : ℕ) (c : Bool) (b : Binding) (s : State) → Keeps k s (bind_unless c b s).state
 keeps_bind k true b s = keeps_all k s
 keeps_bind k false b s =
     let t : State = record s { world = binding b s.world } in
     keeps_then k s t _
-    (record { opened = refl; live = λ is. is; named = λ p is. record { before = p; there = is; same = refl } })
+    (record { opened = refl; live = λ is. is; named = had_same k s })
     (keeps_finished k [] t)
 
 -- connections count from 1, and actor 16 is a watcher
@@ -510,7 +511,7 @@ pub step_tells : (k : ℕ) (s : State) (e : Step) → 1 ≤ k
 step_tells k s (Bind b) one = unless_worn k s (Bind b) (keeps_bind k (is_barred b s) b s)
 step_tells k s (Watch x) one = unless_worn k s (Watch x) (keeps_watch k (is_unwatchable x s) x s one refl)
 step_tells k s (Arrive space) one = arrive_tells k space s
-step_tells k s (Packet j es) one = unless_worn k s (Packet j es) (keeps_packet k j es s)
+step_tells k s (Packet j t) one = unless_worn k s (Packet j t) (keeps_packet k j t s)
 step_tells k s (Bad j f) one = unless_worn k s (Bad j f) (keeps_bad k j (ports_of j s) f s)
 step_tells k s (Close j) one = unless_worn k s (Close j) (keeps_close k j (ports_of j s) s)
 step_tells k s (Turn a) one = turn_step_tells k a s

@@ -5,7 +5,7 @@ use Rattle.std.specs.Prelude.{◌≡◌, ℕ, ◌++◌, List, Some}
 use Rattle.std.specs.List.{flat_map}
 use Rattle.ps_schema.specs.declared.Definition.{Definition}
 use Rattle.ac_table.specs.Tables.{Actor, find_actor}
-use Rattle.rl_packet.specs.declared.packets.TurnEvent.{TurnEvent}
+use Rattle.rl_packet.specs.declared.packets.Turn.{Turn as TurnRecord}
 use Rattle.rl_packet.specs.Holding.{events_in}
 use Rattle.rl_ports.specs.Ports.{PortsState}
 use Rattle.hub_machine.specs.State.{State, opening, ports_of}
@@ -21,24 +21,24 @@ use Rattle.hub_authority.specs.Asked.{rows_asked, rows_left, messages_asked, mes
 use Rattle.hub_authority.specs.Meant.{AreSentAs}
 use Rattle.hub_authority.specs.Named.{told_from, AreItsOwn}
 
--- from s to t: what a packet of connection k, which had these ports, does
-pub record DoesWhatIsAsked (k : ℕ) (ports : PortsState) (es : List TurnEvent) (s t : State) : Type 0 where
+-- from s to u: what the turn t of connection k, which had these ports, does
+pub record DoesWhatIsAsked (k : ℕ) (ports : PortsState) (t : TurnRecord) (s u : State) : Type 0 where
   -- the rows are those that were there and aren't taken back, and then those that are asked for
-  pub rows : t.world.table.rows ≡ of_the_live t
-      (rows_left k ports es s.world.table.rows ++ rows_asked s.world.schema ports.exports k s.world.table.next es)
+  pub rows : u.world.table.rows ≡ of_the_live u (rows_left k ports t.events s.world.table.rows
+      ++ rows_asked s.world.schema ports.exports k s.world.table.next t.events)
   -- to the messages that wait for a live actor come exactly those that are asked for
   pub messages : (b : ℕ) (x y : Actor) → find_actor b s.world.table.actors ≡ Some x
-      → find_actor b t.world.table.actors ≡ Some y
+      → find_actor b u.world.table.actors ≡ Some y
       → messages_in (events_of y.inbox) ≡ messages_in
-      (events_of x.inbox) ++ messages_asked s.world.schema ports.exports k b es
+      (events_of x.inbox) ++ messages_asked s.world.schema ports.exports k b t.events
 
 -- after each list of steps whose callers saw to their conditions
 abbrev pub TakenPackets : Type 0
 TakenPackets =
-    (ds : List Definition) (steps : List Step) (k : ℕ) (es : List TurnEvent) (ports : PortsState)
+    (ds : List Definition) (steps : List Step) (k : ℕ) (t : TurnRecord) (ports : PortsState)
     → AreAllowed (opening ds) steps → ports_of k (replay ds steps) ≡ Some ports
-    → (step (replay ds steps) (Packet k es)).reply ≡ Taken
-    → DoesWhatIsAsked k ports es (replay ds steps) (step (replay ds steps) (Packet k es)).state
+    → (step (replay ds steps) (Packet k t)).reply ≡ Taken
+    → DoesWhatIsAsked k ports t (replay ds steps) (step (replay ds steps) (Packet k t)).state
 
 abbrev pub Exports : Type 0
 Exports =

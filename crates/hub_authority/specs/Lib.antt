@@ -1,4 +1,5 @@
 pub mod Asked
+pub mod Dialects
 pub mod Laws
 pub mod Meant
 pub mod Named

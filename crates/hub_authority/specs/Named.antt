@@ -21,7 +21,7 @@ use Rattle.hub_machine.specs.declared.steps.Reply.TheVariants.{Opened, Sent}
 
 -- the batch that a turn sent
 abbrev pub batch_sent : Option Batch → Reply → List Batch
-batch_sent (Some b) (Sent (packet.Turn es)) = b ∷ []
+batch_sent (Some b) (Sent (packet.Turn t)) = b ∷ []
 batch_sent o r = []
 
 -- the batch that a step sent to connection k

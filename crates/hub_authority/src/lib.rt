@@ -1,7 +1,8 @@
-//! Authority: what connections may do, and what they can name. Each law is the contract of a
-//! function that does nothing, and is proved of the definitions alone.
+//! Authority: what connections may do, what they can name, and in which dialect they speak. Each
+//! law is the contract of a function that does nothing, and is proved of the definitions alone.
 #![tactic(auto)]
 
+ghost use Rattle.hub_authority.specs.Dialects.{DialectsStay, TakenTurnsFix, RefusedFixNone};
 ghost use Rattle.hub_authority.specs.Laws.{TakenPackets, Exports, Names};
 
 /// In each state to which allowed steps lead, a packet that is taken makes exactly the rows and
@@ -21,4 +22,13 @@ pub fn exports_are_what_was_told()
 /// `[1 e]` for an object of its own, and `[0 n]` for the reference that its export n is.
 pub fn names_mean_what_was_told()
     ensures { Names }
+{}
+
+/// Dialects: once a connection's dialect is fixed it stays, as long as the connection lives. A turn
+/// that is taken fixes it where none was; a packet that is refused fixes none, since the connection
+/// ends.
+pub fn a_dialect_stays()
+    ensures stays { DialectsStay }
+    ensures taken { TakenTurnsFix }
+    ensures refused { RefusedFixNone }
 {}

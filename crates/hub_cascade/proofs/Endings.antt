@@ -1,13 +1,13 @@
 -- A connection that closes, or that is refused, ends alone.
-use Rattle.std.proofs.Common.{◌≡◌, ℕ, List, [], Bool, true, false, cond, Option, Some, None, refl, sym, subst}
+use Rattle.std.proofs.Common.{◌≡◌, ℕ, [], Bool, true, false, cond, Option, Some, None, refl, sym, subst}
 use Rattle.ac_table.specs.Tables.{is_live}
 use Rattle.ac_world.specs.Worlds.{actor_of, entry_of}
-use Rattle.rl_packet.specs.declared.packets.TurnEvent.{TurnEvent}
+use Rattle.rl_packet.specs.declared.packets.Turn.{Turn as TurnRecord}
 use Rattle.rl_ports.specs.Ports.{PortsState}
 use Rattle.hub_machine.specs.declared.faults.Fault.{Fault}
 use Rattle.hub_machine.specs.declared.faults.Fault.TheVariants.{Spread}
 use Rattle.hub_machine.specs.State.{State, ports_of}
-use Rattle.hub_machine.specs.Admission.{Admitted, refused, admitted, admission}
+use Rattle.hub_machine.specs.Admission.{Admitted, refused, admitted, turn_admission}
 use Rattle.hub_machine.specs.Endings.{nameless, closed, failed, finished}
 use Rattle.hub_machine.specs.Machine.{unchanged, judged, packet_at, bad_at, close_at, is_worn, done}
 use Rattle.hub_machine.specs.declared.steps.Step.TheVariants.{Packet, Bad, Close}
@@ -62,16 +62,16 @@ judged_ends : (k : ℕ) (d : Admitted) (f : Fault) (p : PortsState) (s : State) 
 judged_ends k (refused g) f p s there within is = fails_alone k g p s there within
 judged_ends k (admitted x) f p s there within is = absurd cc
 
-packet_ends : (k : ℕ) (o : Option PortsState) (es : List TurnEvent) (f : Fault) (s : State) → ports_of k s ≡ o
-    → AreWithin s → (packet_at k o es s).reply ≡ reply.Refused f → EndsAlone k s (packet_at k o es s).state
-packet_ends k None es f s there within is = absurd cc
-packet_ends k (Some p) es f s there within is = judged_ends k (admission k p s.world es) f p s there within is
+packet_ends : (k : ℕ) (o : Option PortsState) (t : TurnRecord) (f : Fault) (s : State) → ports_of k s ≡ o
+    → AreWithin s → (packet_at k o t s).reply ≡ reply.Refused f → EndsAlone k s (packet_at k o t s).state
+packet_ends k None t f s there within is = absurd cc
+packet_ends k (Some p) t f s there within is = judged_ends k (turn_admission k p s.world t) f p s there within is
 
 ends_one : (k : ℕ) (s : State) → AreWithin s → EndsOne k s
 ends_one k s within = record {
   closed = closing (is_worn s (Close k));
   bad = λ f. sending f (is_worn s (Bad k f));
-  refused = λ es f. asking es f (is_worn s (Packet k es));
+  refused = λ t f. asking t f (is_worn s (Packet k t));
 }
   where
     closing : (c : Bool) → (cond c (unchanged s reply.Worn) (done s (Close k))).reply ≡ reply.Taken
@@ -84,11 +84,11 @@ ends_one k s within = record {
     sending f true is = absurd cc
     sending f false is = bad_ends k (ports_of k s) f f s refl within is
 
-    asking : (es : List TurnEvent) (f : Fault) (c : Bool)
-        → (cond c (unchanged s reply.Worn) (done s (Packet k es))).reply ≡ reply.Refused f
-        → EndsAlone k s (cond c (unchanged s reply.Worn) (done s (Packet k es))).state
-    asking es f true is = absurd cc
-    asking es f false is = packet_ends k (ports_of k s) es f s refl within is
+    asking : (t : TurnRecord) (f : Fault) (c : Bool)
+        → (cond c (unchanged s reply.Worn) (done s (Packet k t))).reply ≡ reply.Refused f
+        → EndsAlone k s (cond c (unchanged s reply.Worn) (done s (Packet k t))).state
+    asking t f true is = absurd cc
+    asking t f false is = packet_ends k (ports_of k s) t f s refl within is
 
 pub an_ending_ends_one : AnEndingEndsOne
 an_ending_ends_one ds steps may k = ends_one k _ (replay_within ds steps)

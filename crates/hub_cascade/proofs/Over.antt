@@ -16,13 +16,13 @@ use Rattle.ac_world.specs.Behaviours.{behaviour_of}
 use Rattle.ac_world.specs.Turns.{After as TurnOf, begin_turn, all_turned, system_turn, connection_turn, turn_first}
 use Rattle.ac_world.specs.declared.watched.Watched.{Watched}
 use Rattle.ac_world.specs.Worlds.{WorldState, actor_of, without_entry, is_system, binding, watching}
-use Rattle.rl_packet.specs.declared.packets.TurnEvent.{TurnEvent}
+use Rattle.rl_packet.specs.declared.packets.Turn.{Turn as TurnRecord}
 use Rattle.rl_ports.specs.Ports.{PortsState}
 use Rattle.hub_machine.specs.Limits.{most_deliveries, most_deliveries_weight}
 use Rattle.hub_machine.specs.declared.faults.Fault.{Fault}
 use Rattle.hub_machine.specs.declared.faults.Fault.TheVariants.{Overrun}
 use Rattle.hub_machine.specs.State.{State, opening, ports_of, is_there}
-use Rattle.hub_machine.specs.Admission.{Admitted, refused, admitted, admission}
+use Rattle.hub_machine.specs.Admission.{Admitted, refused, admitted, turn_admission}
 use Rattle.hub_machine.specs.Endings.{nameless, closed, failed, overrun_by, overrun_of}
 use Rattle.hub_machine.specs.Machine.{opened, refusal, arrive_unless, accepted, judged, packet_at, bind_unless}
 use Rattle.hub_machine.specs.Machine.{is_barred, is_unwatchable, watch_unless, bad_at, close_at, telling_fault}
@@ -52,10 +52,10 @@ judged_within : (k : ℕ) (d : Admitted) (s : State) → AreWithin (judged k d (
 judged_within k (refused f) s = none_over [] (failed k f s)
 judged_within k (admitted x) s = none_over [] (accepted k x (nameless k s))
 
-packet_within : (k : ℕ) (o : Option PortsState) (es : List TurnEvent) (s : State) → AreWithin s
-    → AreWithin (packet_at k o es s).state
-packet_within k None es s within = within
-packet_within k (Some ports) es s within = judged_within k (admission k ports s.world es) s
+packet_within : (k : ℕ) (o : Option PortsState) (t : TurnRecord) (s : State) → AreWithin s
+    → AreWithin (packet_at k o t s).state
+packet_within k None t s within = within
+packet_within k (Some ports) t s within = judged_within k (turn_admission k ports s.world t) s
 
 bad_within : (k : ℕ) (o : Option PortsState) (f : Fault) (s : State) → AreWithin s → AreWithin (bad_at k o f s).state
 bad_within k None f s within = within
@@ -129,7 +129,7 @@ done_within : (s : State) (e : Step) → AreWithin s → AreWithin (done s e).st
 done_within s (Bind b) within = bind_within (is_barred b s) b s within
 done_within s (Watch x) within = watch_within (is_unwatchable x s) x s within
 done_within s (Arrive space) within = arrive_within (refusal space s) space s within
-done_within s (Packet k es) within = packet_within k (ports_of k s) es s within
+done_within s (Packet k t) within = packet_within k (ports_of k s) t s within
 done_within s (Bad k f) within = bad_within k (ports_of k s) f s within
 done_within s (Close k) within = close_within k (ports_of k s) s within
 done_within s (Turn a) within = turn_within a s within

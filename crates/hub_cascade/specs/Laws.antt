@@ -1,10 +1,10 @@
 -- No cascade: after every list of steps whose callers saw to their conditions, whoever ends takes nobody along. The
 -- limits on what is held and waits are this server's own.
-use Rattle.std.specs.Prelude.{◌≡◌, ◌≢◌, ℕ, ◌≤◌, List, true, Some}
+use Rattle.std.specs.Prelude.{◌≡◌, ◌≢◌, ℕ, ◌≤◌, true, Some}
 use Rattle.ac_table.specs.declared.batches.Batch.{Batch}
 use Rattle.ac_table.specs.Tables.{is_live, first_batch, lowest}
 use Rattle.ac_world.specs.Worlds.{actor_of}
-use Rattle.rl_packet.specs.declared.packets.TurnEvent.{TurnEvent}
+use Rattle.rl_packet.specs.declared.packets.Turn.{Turn as TurnRecord}
 use Rattle.hub_machine.specs.declared.faults.Fault.{Fault}
 use Rattle.hub_machine.specs.State.{State}
 use Rattle.hub_machine.specs.Machine.{step}
@@ -23,8 +23,8 @@ NobodyIsOver =
 pub record EndsOne (k : ℕ) (s : State) : Type 0 where
   pub closed : (step s (Close k)).reply ≡ Taken → EndsAlone k s (step s (Close k)).state
   pub bad : (f : Fault) → (step s (Bad k f)).reply ≡ Refused f → EndsAlone k s (step s (Bad k f)).state
-  pub refused : (es : List TurnEvent) (f : Fault) → (step s (Packet k es)).reply ≡ Refused f
-      → EndsAlone k s (step s (Packet k es)).state
+  pub refused : (t : TurnRecord) (f : Fault) → (step s (Packet k t)).reply ≡ Refused f
+      → EndsAlone k s (step s (Packet k t)).state
 
 abbrev pub AnEndingEndsOne : Type 0
 AnEndingEndsOne = AfterAll (λ s. (k : ℕ) → EndsOne k s)

@@ -1,6 +1,6 @@
 -- A batch that is told in a state without the connection's names.
 use Rattle.std.proofs.Common.{◌≡◌, ℕ, List, [], map, Option, Some, None, refl, sym, ap, ◌∙◌}
-use Rattle.std.specs.Prelude.{option_and_then}
+use Rattle.std.specs.Prelude.{option_and_then, unwrap_or}
 use Rattle.std.specs.List.Sorted.{IsStrictlySortedBy}
 use Rattle.std.specs.Map.{keys_of}
 use Rattle.std.specs.Ordering.{nat_cmp}
@@ -8,6 +8,9 @@ use Rattle.ac_table.specs.declared.batches.Batch.{Batch}
 use Rattle.ac_world.specs.Lemmas.Entries.{put_back}
 use Rattle.rl_packet.specs.declared.packets.Packet.TheVariants as packet
 use Rattle.rl_packet.specs.declared.packets.TurnEvent.{TurnEvent}
+use Rattle.rl_packet.specs.declared.packets.Turn.{Turn as TurnRecord}
+use Rattle.rl_packet.specs.declared.packets.Dialect.TheVariants.{Newer}
+use Rattle.rl_packet.specs.Packets.{spoken}
 use Rattle.rl_ports.specs.declared.ports.PortsFault.{PortsFault}
 use Rattle.rl_ports.specs.Ports.{PortsState}
 use Rattle.rl_wire.specs.Crossing.{fault_out}
@@ -26,13 +29,15 @@ pub told_nameless : (f : Option Fault) (k : ℕ) (ports : PortsState) (b : Batch
 told_nameless (Some f) k ports b s ascend = refl
 told_nameless None k ports b s ascend =
     ap (λ (es : List (ℕ × PortsState)). ends [] (record s { connections = es })
-    (packet_to (exports_after k b ports) k b)) (put_back k _ s.connections ascend)
+    (packet_to (exports_after k b ports) ports.dialect k b)) (put_back k _ s.connections ascend)
 
-pub reply_told : (k : ℕ) (b : Batch) (ports new : PortsState) (s : State) (turn sent : List TurnEvent) → turn ≡ sent
+pub reply_told : (k : ℕ) (b : Batch) (ports new : PortsState) (s : State) (turn : TurnRecord) (sent : List TurnEvent)
+    → turn ≡ spoken (unwrap_or new.dialect Newer) sent
     → sent ≡ map (sent_event new.exports k) b.events → new ≡ ports_after (foreign_among k b.events) ports
     → fault_out ports.exports (foreign_among k b.events) ≡ None
     → reply.Sent (packet.Turn turn) ≡ (told_by (telling_fault k b ports) k ports b s).reply
 reply_told k b ports new s turn sent turn_is sent_is new_is free =
-    ap (λ (es : List TurnEvent). reply.Sent (packet.Turn es))
-    (turn_is ∙ sent_is ∙ ap (λ (p : PortsState). map (sent_event p.exports k) b.events) new_is)
+    ap (λ (t : TurnRecord). reply.Sent (packet.Turn t))
+    (turn_is ∙ ap (spoken (unwrap_or new.dialect Newer)) sent_is
+    ∙ ap (λ (p : PortsState). spoken (unwrap_or p.dialect Newer) (map (sent_event p.exports k) b.events)) new_is)
     ∙ sym (ap (λ (o : Option PortsFault). (told_by (option_and_then overrun_by o) k ports b s).reply) free)

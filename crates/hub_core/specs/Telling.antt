@@ -22,4 +22,4 @@ IsToldSoundly Gone s = Unit {0}
 -- what becomes of a batch in a state without the connection's names
 abbrev pub told_by : Option Fault → ℕ → PortsState → Batch → State → After
 told_by (Some f) k ports b s = ends [] (departed_for k f s) (Refused f)
-told_by None k ports b s = ends [] (exporting k b ports s) (packet_to (exports_after k b ports) k b)
+told_by None k ports b s = ends [] (exporting k b ports s) (packet_to (exports_after k b ports) ports.dialect k b)

@@ -9,7 +9,7 @@ ghost use Rattle.ac_table.specs.Tables.{is_live};
 ghost use Rattle.ac_world.specs.Worlds.{actor_of};
 ghost use Rattle.hub_machine.specs.Limits.{worn_handle};
 ghost use Rattle.hub_machine.specs.State.{ports_of};
-ghost use Rattle.hub_machine.specs.Admission.{admission};
+ghost use Rattle.hub_machine.specs.Admission.{admission, differ, turn_admission};
 ghost use Rattle.hub_machine.specs.Endings.{nameless, departed_for, finished};
 ghost use Rattle.hub_machine.specs.Machine.{judged, accepted, packet_at, bad_at, close_at};
 ghost use Rattle.hub_machine.specs.declared.steps.Reply.TheVariants as reply;
@@ -23,7 +23,7 @@ use hub_machine::{Fault, Reply};
 use hub_packets::{Admitting, Refusal, admission};
 use lc_watch::Behaves;
 use pv_value::NoMemory;
-use rl_packet::Turn;
+use rl_packet::{Dialect, Turn, TurnEvents};
 use rl_ports::Ports;
 use sr_pass::Judge;
 use std::alloc::Global;
@@ -34,6 +34,16 @@ pub(crate) fn keeps_its_order(connections: &BTreeMap<u32, Ports>)
     ensures { IsOrdered nat_cmp connections.now }
 {
     let _ = connections.len();
+}
+
+/// Whether a turn's dialect and a connection's differ.
+fn differ(turn: Option<Dialect>, connection: Option<Dialect>) -> bool
+    ensures { result ≡ differ turn connection }
+{
+    match (turn, connection) {
+        (Some(turn), Some(connection)) => turn != connection,
+        _ => false,
+    }
 }
 
 impl<S: Space + Drop, J: Judge + Drop, B: Behaves + Drop> Hub<S, J, B> {
@@ -102,32 +112,58 @@ impl<S: Space + Drop, J: Judge + Drop, B: Behaves + Drop> Hub<S, J, B> {
         }
     }
 
-    /// A packet of a connection whose names were taken out of the state.
+    /// The events of a packet of a connection whose names were taken out of the state.
     #[inline(always)]
-    fn judge_packet(
+    fn judge_events(
         self,
         alloc: Global,
         connection: u32,
         ports: Ports,
-        turn: &Turn,
+        events: &TurnEvents,
     ) -> Result<(Hub<S, J, B>, Reply), NoMemory>
         requires live { is_live (actor_of connection) self.world.table ≡ true }
         requires small { connection ≤ 2 ^ 31 }
         requires next { self.world.table.next < worn_handle }
         requires valid { IsValidEntry (lived self.world) (connection, ports) }
         ensures state { IfOk result (λ done. done.0
-            ≡ (judged connection (admission connection ports self.world turn.now) self).state) }
+            ≡ (judged connection (admission connection ports self.world events.now) self).state) }
         ensures reply { IfOk result (λ done. done.1
-            ≡ (judged connection (admission connection ports self.world turn.now) self).reply) }
+            ≡ (judged connection (admission connection ports self.world events.now) self).reply) }
     {
-        match admission(alloc, connection, ports, turn, &self.world) {
+        match admission(alloc, connection, ports, events, &self.world) {
             Ok(admitting) => {
-                let _wired = turn.as_slice();
+                let _wired = events.as_slice();
                 let hub = self.accept(alloc, connection, admitting)?;
                 hub.ends(alloc, &[], Reply::Taken)
             }
             Err(refusal) => self.refuse(alloc, connection, refusal),
         }
+    }
+
+    /// A packet of a connection whose names were taken out of the state. Its dialect is looked at
+    /// before all else, and is the connection's from then on.
+    #[inline(always)]
+    fn hear(
+        self,
+        alloc: Global,
+        connection: u32,
+        mut ports: Ports,
+        turn: &Turn,
+    ) -> Result<(Hub<S, J, B>, Reply), NoMemory>
+        requires live { is_live (actor_of connection) self.world.table ≡ true }
+        requires small { connection ≤ 2 ^ 31 }
+        requires next { self.world.table.next < worn_handle }
+        requires valid { IsValidEntry (lived self.world) (connection, ports) }
+        ensures state { IfOk result (λ done. done.0 ≡ (judged connection
+            (turn_admission connection ports self.world turn.now) self).state) }
+        ensures reply { IfOk result (λ done. done.1 ≡ (judged connection
+            (turn_admission connection ports self.world turn.now) self).reply) }
+    {
+        if differ(turn.dialect, ports.dialect()) {
+            return self.refuse(alloc, connection, Refusal::Cause(Fault::BadPacket));
+        }
+        ports.speak(turn.dialect);
+        self.judge_events(alloc, connection, ports, &turn.events)
     }
 
     /// A connection's packet.
@@ -144,7 +180,7 @@ impl<S: Space + Drop, J: Judge + Drop, B: Behaves + Drop> Hub<S, J, B> {
             ≡ (packet_at connection (ports_of connection self) turn.now self).reply) }
     {
         match self.take_ports(connection) {
-            Some(ports) => self.judge_packet(alloc, connection, ports, turn),
+            Some(ports) => self.hear(alloc, connection, ports, turn),
             None => Ok((self, Reply::Gone)),
         }
     }

@@ -17,7 +17,7 @@ use hub_machine::Reply;
 use hub_packets::all_to_send;
 use lc_watch::Behaves;
 use pv_value::NoMemory;
-use rl_packet::{Packet, Turn};
+use rl_packet::{Dialect, Packet, Turn, TurnEvents};
 use rl_ports::Ports;
 use sr_pass::Judge;
 use std::alloc::Global;
@@ -98,9 +98,10 @@ impl<S: Space + Drop, J: Judge + Drop, B: Behaves + Drop> Hub<S, J, B> {
     {
         match all_to_send(alloc, connection, &mut ports, batch.events) {
             Ok(sent) => {
+                let dialect = ports.dialect().unwrap_or(Dialect::Newer);
                 let hub = self.name(connection, ports)?;
-                let packet = Packet::Turn(Turn::from_vec(sent));
-                hub.ends(alloc, &[], Reply::Sent(packet))
+                let turn = Turn::of(dialect, TurnEvents::from_vec(sent));
+                hub.ends(alloc, &[], Reply::Sent(Packet::Turn(turn)))
             }
             Err(refusal) => self.refuse(alloc, connection, refusal),
         }

@@ -11,7 +11,7 @@ use Rattle.ac_world.specs.declared.turns.Turned.TheVariants as turned
 use Rattle.ac_world.specs.declared.watched.Watched.{Watched}
 use Rattle.ac_world.specs.Turns.{turn}
 use Rattle.ac_world.specs.Worlds.{actor_of, is_system, without_entry, binding, watching}
-use Rattle.rl_packet.specs.declared.packets.TurnEvent.{TurnEvent}
+use Rattle.rl_packet.specs.declared.packets.Turn.{Turn as TurnRecord}
 use Rattle.rl_ports.specs.Ports.{PortsState}
 use Rattle.hub_machine.specs.declared.faults.Fault.{Fault}
 use Rattle.hub_machine.specs.declared.steps.Reply.{Reply}
@@ -19,7 +19,7 @@ use Rattle.hub_machine.specs.declared.steps.Reply.TheVariants.{Worn, Halted, Idl
 use Rattle.hub_machine.specs.declared.steps.Step.{Step}
 use Rattle.hub_machine.specs.declared.steps.Step.TheVariants.{Bind, Watch, Arrive, Packet, Bad, Close, Turn, Work, Stop}
 use Rattle.hub_machine.specs.State.{State, opening, ports_of}
-use Rattle.hub_machine.specs.Admission.{Admitted, refused, admitted, admission}
+use Rattle.hub_machine.specs.Admission.{Admitted, refused, admitted, turn_admission}
 use Rattle.hub_machine.specs.Endings.{nameless, closed, failed, finished}
 use Rattle.hub_machine.specs.Machine.{unchanged, opened, refusal, arrive_unless, accepted, judged, packet_at, bad_at}
 use Rattle.hub_machine.specs.Machine.{bind_unless, is_barred, is_unwatchable, watch_unless, close_at, exporting}
@@ -69,11 +69,11 @@ judged_home k ports (admitted x) s h n home =
     finished_home [] (accepted k x (nameless k s))
     (sent_at_home (actor_of k) x.acts s.world (omega (arith, come)) n.live h.sound home)
 
-packet_home : (k : ℕ) (o : Option PortsState) (es : List TurnEvent) (s : State) → IsHub [] s → ports_of k s ≡ o
-    → IsAtHome s → IsAtHome (packet_at k o es s).state
-packet_home k None es s h is home = home
-packet_home k (Some ports) es s h is home =
-    judged_home k ports (admission k ports s.world es) s h (named_of k ports s is) home
+packet_home : (k : ℕ) (o : Option PortsState) (t : TurnRecord) (s : State) → IsHub [] s → ports_of k s ≡ o
+    → IsAtHome s → IsAtHome (packet_at k o t s).state
+packet_home k None t s h is home = home
+packet_home k (Some ports) t s h is home =
+    judged_home k ports (turn_admission k ports s.world t) s h (named_of k ports s is) home
 
 bad_home : (k : ℕ) (o : Option PortsState) (f : Fault) (s : State) → IsAtHome s → IsAtHome (bad_at k o f s).state
 bad_home k None f s home = home
@@ -139,7 +139,7 @@ done_home : (s : State) (e : Step) → IsHub [] s → IsAtHome s → IsAtHome (d
 done_home s (Bind b) h home = bind_home (is_barred b s) b s home
 done_home s (Watch x) h home = watch_home (is_unwatchable x s) x s refl h home
 done_home s (Arrive space) h home = arrive_home (refusal space s) space s h home
-done_home s (Packet k es) h home = packet_home k (ports_of k s) es s h refl home
+done_home s (Packet k t) h home = packet_home k (ports_of k s) t s h refl home
 done_home s (Bad k f) h home = bad_home k (ports_of k s) f s home
 done_home s (Close k) h home = close_home k (ports_of k s) s home
 done_home s (Turn a) h home = turn_home a s h home

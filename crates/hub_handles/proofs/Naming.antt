@@ -20,12 +20,14 @@ use Rattle.ac_world.specs.Worlds.{WorldState, actor_of, is_system, without_entry
 use Rattle.ac_world.specs.Lemmas.Entries.{each_with, each_without, each_found}
 use Rattle.rl_packet.specs.declared.packets.Event.{Event}
 use Rattle.rl_packet.specs.declared.packets.Event.TheVariants.{Assert, Retract, Message, Sync}
+use Rattle.rl_packet.specs.declared.packets.Turn.{Turn as TurnRecord}
 use Rattle.rl_packet.specs.declared.packets.TurnEvent.{TurnEvent}
 use Rattle.rl_ports.specs.declared.ports.Inbound.{Inbound}
 use Rattle.rl_ports.specs.declared.ports.Inbound.TheVariants.{Row, Refused}
-use Rattle.rl_ports.specs.Ports.{PortsState, inbound_of, ports_to, with_exports}
+use Rattle.rl_ports.specs.Ports.{PortsState, speaking, inbound_of, ports_to, with_exports}
 use Rattle.hub_machine.specs.Limits.{most_events}
 use Rattle.hub_machine.specs.declared.faults.Fault.{Fault}
+use Rattle.hub_machine.specs.declared.faults.Fault.TheVariants.{BadPacket}
 use Rattle.hub_machine.specs.declared.steps.Reply.{Reply}
 use Rattle.hub_machine.specs.declared.steps.Reply.TheVariants.{Worn, Halted, Idle}
 use Rattle.hub_machine.specs.declared.steps.Step.{Step}
@@ -36,6 +38,7 @@ use Rattle.hub_machine.specs.Admission.{Admitting, Admitted, refused, admitted, 
 use Rattle.hub_machine.specs.Admission.{all_admitted, cap_at, cause_of, after, after_at, after_event, after_assertion}
 use Rattle.hub_machine.specs.Admission.{after_retraction, after_message, let_through, kept, inside}
 use Rattle.hub_machine.specs.Endings.{nameless, closed, failed, dismissed, finished}
+use Rattle.hub_machine.specs.Lemmas.Dialects.{by_dialect}
 use Rattle.hub_machine.specs.Machine.{unchanged, opened, refusal, arrive_unless, accepted, judged, packet_at, bad_at}
 use Rattle.hub_machine.specs.Machine.{bind_unless, is_barred, is_unwatchable, watch_unless, actor_reference}
 use Rattle.hub_machine.specs.Machine.{close_at, exports_after, exporting, telling_fault, told_unless, tell, fault_for}
@@ -217,10 +220,13 @@ named_made : (k : ℕ) (ports : PortsState) (s : State) → NameMade s → ports
 named_made k ports s all is =
     each_found (NamesMade s.world.table.next) k ports s.connections all (named_of k ports s is).kept
 
+refused_names : (k : ℕ) (f : Fault) (s : State) → NameMade s → NameMade (judged k (refused f) (nameless k s)).state
+refused_names k f s all = finished_names [] (failed k f s) (failed_names k f s all)
+
 judged_names : (k : ℕ) (ports : PortsState) (es : List TurnEvent) (d : Admitted) (s : State)
     → AreMade s.world.table.next ports.handles → NameMade s → admission k ports s.world es ≡ d
     → NameMade (judged k d (nameless k s)).state
-judged_names k ports es (refused f) s made all is = finished_names [] (failed k f s) (failed_names k f s all)
+judged_names k ports es (refused f) s made all is = refused_names k f s all
 judged_names k ports es (admitted x) s made all is =
     finished_names [] (accepted k x (nameless k s)) (by (over most_events 3 (length es)) is)
   where
@@ -234,11 +240,13 @@ judged_names k ports es (admitted x) s made all is =
         (all_walked k s.world es start x (record { next = refl; later = omega arith; made = made }) is) all
     by (Some f) is = absurd cc
 
-packet_names : (k : ℕ) (o : Option PortsState) (es : List TurnEvent) (s : State) → NameMade s → ports_of k s ≡ o
-    → NameMade (packet_at k o es s).state
-packet_names k None es s all is = all
-packet_names k (Some ports) es s all is =
-    judged_names k ports es (admission k ports s.world es) s (named_made k ports s all is) all refl
+packet_names : (k : ℕ) (o : Option PortsState) (t : TurnRecord) (s : State) → NameMade s → ports_of k s ≡ o
+    → NameMade (packet_at k o t s).state
+packet_names k None t s all is = all
+packet_names k (Some ports) t s all is =
+    let now : PortsState = speaking t.dialect ports in
+    by_dialect (λ d. NameMade (judged k d (nameless k s)).state) k ports s.world t (refused_names k BadPacket s all)
+    (judged_names k now t.events (admission k now s.world t.events) s (named_made k ports s all is) all refl)
 
 bad_names : (k : ℕ) (o : Option PortsState) (f : Fault) (s : State) → NameMade s → NameMade (bad_at k o f s).state
 bad_names k None f s all = all
@@ -306,7 +314,7 @@ done_names : (s : State) (e : Step) → NameMade s → NameMade (done s e).state
 done_names s (does.Bind b) all = bind_names (is_barred b s) b s all
 done_names s (does.Watch x) all = watch_names (is_unwatchable x s) x s all
 done_names s (does.Arrive space) all = arrive_names (refusal space s) space s all
-done_names s (does.Packet k es) all = packet_names k (ports_of k s) es s all refl
+done_names s (does.Packet k t) all = packet_names k (ports_of k s) t s all refl
 done_names s (does.Bad k f) all = bad_names k (ports_of k s) f s all
 done_names s (does.Close k) all = close_names k (ports_of k s) s all
 done_names s (does.Turn a) all = turn_names a s all

@@ -21,6 +21,7 @@ use Rattle.ac_world.specs.Turns.{After as TurnOf, deliver, turn_with, turn_first
 use Rattle.ac_world.specs.Worlds.{WorldState, is_system, actor_of, arrived, binding, entry_of, without_entry}
 use Rattle.ac_world.specs.Lemmas.Entries.{ascend_none, all_append}
 use Rattle.rl_packet.specs.Holding.{events_in}
+use Rattle.rl_packet.specs.declared.packets.Dialect.{Dialect}
 use Rattle.rl_packet.specs.declared.packets.TurnEvent.{TurnEvent}
 use Rattle.rl_ports.specs.Ports.{PortsState, ports_to}
 use Rattle.hub_machine.specs.Endings.{failed, finished}
@@ -178,9 +179,9 @@ none_by k a r none = by (a == actor_of k)
 other_tells : (k a : ℕ) (r : Reply) → actor_of k ≢ a → events_by k (does.Turn a) r ≡ []
 other_tells k a r apart = let other : (a == actor_of k) ≡ false = grind (arith, nat_tests, apart) in rw other refl
 
-own_tells : (k : ℕ) (exports : List Plain) (b : Batch)
-    → events_by k (does.Turn (actor_of k)) (packet_to exports k b) ≡ map (sent_event exports k) b.events
-own_tells k exports b =
+own_tells : (k : ℕ) (exports : List Plain) (d : Option Dialect) (b : Batch)
+    → events_by k (does.Turn (actor_of k)) (packet_to exports d k b) ≡ map (sent_event exports k) b.events
+own_tells k exports d b =
     let own : (actor_of k == actor_of k) ≡ true = grind (arith, nat_tests) in
     rw own (append-nil (map (sent_event exports k) b.events))
 
@@ -261,7 +262,8 @@ module _ (k : ℕ) (since : 1 ≤ k) (es : List TurnEvent) (s : State) (hub : Is
         → AreSentBy k (does.Turn own) es (told_unless o k ports b taking)
     unless_sent None ports =
         let now : List Plain = exports_after k b ports in
-        subst (λ ds. AreSent k (es ++ ds) (finished [] (exporting k b ports taking))) (sym (own_tells k now b))
+        subst (λ ds. AreSent k (es ++ ds) (finished [] (exporting k b ports taking)))
+        (sym (own_tells k now ports.dialect b))
         (sent_finished k (es ++ more now) [] (exporting k b ports taking) (exporting_sent ports))
     unless_sent (Some f) ports =
         subst (λ ds. AreSent k ds (finished [] (failed k f taking)))
@@ -359,8 +361,8 @@ done_sent k since (does.Watch x) es s hub valid rises sent =
     sent_nothing k es [] s _ refl (watch_stays k (is_unwatchable x s) x s since refl hub.sound) rises sent
 done_sent k since (does.Arrive space) es s hub valid rises sent =
     arrive_sent k (refusal space s) space es s hub.sound sent
-done_sent k since (does.Packet j ts) es s hub valid rises sent =
-    sent_nothing k es [] s _ refl (packet_stays k j (ports_of j s) ts s hub.sound.table refl) rises sent
+done_sent k since (does.Packet j t) es s hub valid rises sent =
+    sent_nothing k es [] s _ refl (packet_stays k j (ports_of j s) t s hub.sound.table refl) rises sent
 done_sent k since (does.Bad j f) es s hub valid rises sent =
     sent_nothing k es [] s _ refl (bad_stays k j (ports_of j s) f s) rises sent
 done_sent k since (does.Close j) es s hub valid rises sent =
@@ -379,7 +381,7 @@ worn_tells : (k : ℕ) (e : Step) → events_by k e Worn ≡ []
 worn_tells k (does.Bind b) = refl
 worn_tells k (does.Watch x) = refl
 worn_tells k (does.Arrive space) = refl
-worn_tells k (does.Packet j ts) = refl
+worn_tells k (does.Packet j t) = refl
 worn_tells k (does.Bad j f) = refl
 worn_tells k (does.Close j) = refl
 worn_tells k (does.Turn a) = none_by k a Worn refl

@@ -15,12 +15,12 @@ use Rattle.ac_world.specs.Turns.{turn}
 use Rattle.ac_world.specs.declared.watched.Watched.{Watched}
 use Rattle.ac_world.specs.Worlds.{WorldState, actor_of, entry_of, is_system}
 use Rattle.ac_world.specs.Lemmas.Entries.{put_found, put_other}
-use Rattle.rl_packet.specs.declared.packets.TurnEvent.{TurnEvent}
+use Rattle.rl_packet.specs.declared.packets.Turn.{Turn as TurnRecord}
 use Rattle.rl_ports.specs.Ports.{PortsState}
 use Rattle.hub_machine.specs.Limits.{last_dataspace, most_connections}
 use Rattle.hub_machine.specs.declared.faults.Fault.{Fault}
 use Rattle.hub_machine.specs.State.{State, ports_of, is_there}
-use Rattle.hub_machine.specs.Admission.{Admitted, refused, admitted, admission}
+use Rattle.hub_machine.specs.Admission.{Admitted, refused, admitted, turn_admission}
 use Rattle.hub_machine.specs.Endings.{nameless, failed, finished}
 use Rattle.hub_machine.specs.Machine.{unchanged, refusal, arrive_unless, judged, packet_at, bad_at, close_at}
 use Rattle.hub_machine.specs.Machine.{bind_unless, is_barred, watch_unless, is_unwatchable}
@@ -126,10 +126,10 @@ module _ (s : State) (are_live : AreLive s.world.table) (f : Fault) where
       let same : g ≡ f = cc in named_left k f g s s are_live (spares_all s.world.table are_live) same
   judged_left k (admitted x) is = absurd cc
 
-  packet_left : (k : ℕ) (o : Option PortsState) (es : List TurnEvent) → (packet_at k o es s).reply ≡ Refused f
-      → LeavesNothing k f s (packet_at k o es s).state
-  packet_left k None es is = absurd cc
-  packet_left k (Some ports) es is = judged_left k (admission k ports s.world es) is
+  packet_left : (k : ℕ) (o : Option PortsState) (t : TurnRecord) → (packet_at k o t s).reply ≡ Refused f
+      → LeavesNothing k f s (packet_at k o t s).state
+  packet_left k None t is = absurd cc
+  packet_left k (Some ports) t is = judged_left k (turn_admission k ports s.world t) is
 
   bad_left : (k : ℕ) (o : Option PortsState) (g : Fault) → (bad_at k o g s).reply ≡ Refused f
       → LeavesNothing k f s (bad_at k o g s).state
@@ -232,7 +232,7 @@ module _ (s : State) (are_live : AreLive s.world.table) (f : Fault) where
   done_left (Bind b) is = bind_left (is_barred b s) b is
   done_left (Watch x) is = watch_left (is_unwatchable x s) x is
   done_left (Arrive space) is = arrive_left space is
-  done_left (Packet k es) is = packet_left k (ports_of k s) es is
+  done_left (Packet k t) is = packet_left k (ports_of k s) t is
   done_left (Bad k g) is = bad_left k (ports_of k s) g is
   done_left (Close k) is = close_left k (ports_of k s) is
   done_left (Turn a) is =

@@ -23,6 +23,7 @@ use Rattle.ac_world.specs.Lemmas.Entries.{put_found, ascend_none, all_append}
 use Rattle.rl_packet.specs.Holding.{events_in, all_kept, holdings_in_order, held}
 use Rattle.rl_packet.specs.declared.packets.Event.TheVariants as wire
 use Rattle.rl_packet.specs.declared.packets.TurnEvent.{TurnEvent}
+use Rattle.rl_packet.specs.declared.packets.Dialect.{Dialect}
 use Rattle.rl_ports.specs.Ports.{PortsState, ports_to}
 use Rattle.rl_wire.specs.Crossing.{all_exported}
 use Rattle.rl_wire.specs.Lemmas.Exporting.{IsExported, exported_later, are_exported}
@@ -206,9 +207,9 @@ fault_tells k a (Some f) s = none_by k a (Sent (error_of f)) (ap (λ es. es ++ [
 other_tells : (k a : ℕ) (r : Reply) → actor_of k ≢ a → events_by k (Turn a) r ≡ []
 other_tells k a r apart = let other : (a == actor_of k) ≡ false = grind (arith, nat_tests, apart) in rw other refl
 
-own_tells : (k : ℕ) (exports : List Plain) (b : Batch)
-    → events_by k (Turn (actor_of k)) (packet_to exports k b) ≡ map (sent_event exports k) b.events
-own_tells k exports b =
+own_tells : (k : ℕ) (exports : List Plain) (d : Option Dialect) (b : Batch)
+    → events_by k (Turn (actor_of k)) (packet_to exports d k b) ≡ map (sent_event exports k) b.events
+own_tells k exports d b =
     let own : (actor_of k == actor_of k) ≡ true = grind (arith, nat_tests) in
     rw own (append-nil (map (sent_event exports k) b.events))
 
@@ -289,7 +290,8 @@ module _ (k : ℕ) (since : 1 ≤ k) (es : List TurnEvent) (s : State) (hub : Is
 
     unless_sent : (o : Option Fault) → AreSentBy k (Turn own) es (told_unless o k ports b taking)
     unless_sent None =
-        subst (λ ds. AreSent k (es ++ ds) (finished [] (exporting k b ports taking))) (sym (own_tells k now b))
+        subst (λ ds. AreSent k (es ++ ds) (finished [] (exporting k b ports taking)))
+        (sym (own_tells k now ports.dialect b))
         (sent_alike k (es ++ map (sent_event now k) b.events) (exporting k b ports taking) _
         (finished_stays k [] (exporting k b ports taking)) exporting_sent)
     unless_sent (Some f) =

@@ -16,11 +16,13 @@ use Rattle.ac_world.specs.Worlds.{ended_of, watching}
 use Rattle.ac_world.specs.declared.watched.Watched.{Watched}
 use Rattle.ac_world.specs.Watchers.{next_watcher}
 use Rattle.ac_world.specs.Lemmas.Entries.{put_found, put_other, out_other}
-use Rattle.rl_packet.specs.declared.packets.TurnEvent.{TurnEvent}
-use Rattle.rl_ports.specs.Ports.{PortsState}
+use Rattle.rl_packet.specs.declared.packets.Turn.{Turn as TurnRecord}
+use Rattle.rl_ports.specs.Ports.{PortsState, speaking}
 use Rattle.hub_machine.specs.declared.faults.Fault.{Fault}
+use Rattle.hub_machine.specs.declared.faults.Fault.TheVariants.{BadPacket}
 use Rattle.hub_machine.specs.declared.faults.Fault.TheVariants.{Spread}
 use Rattle.hub_machine.specs.State.{State, is_there, ports_of}
+use Rattle.hub_machine.specs.Lemmas.Dialects.{by_dialect}
 use Rattle.hub_machine.specs.Admission.{Admitting, Admitted, refused, admitted, admission}
 use Rattle.hub_machine.specs.Endings.{nameless, closed, failed, failed_where, dismissed, spread_out, all_spread_out}
 use Rattle.hub_machine.specs.Endings.{overrun_of, all_overrun, finished}
@@ -162,19 +164,23 @@ accepted_stays k j p x s table named is = record {
   ];
 }
 
-judged_stays : (k j : ℕ) (p : PortsState) (es : List TurnEvent) (d : Admitted) (s : State) → IsTable s.world.table
-    → IsNamed j p s → admission j p s.world es ≡ d → Stays k s (judged j d (nameless j s)).state
-judged_stays k j p es (refused f) s table named is = failing_stays k j f s
-judged_stays k j p es (admitted x) s table named is =
-    let t : State = accepted j x (nameless j s) in
-    stays_on k s t _ (accepted_stays k j p x s table named (exports_stay j p s.world es x is))
-    (finished_stays k [] t)
+admitted_stays : (k j : ℕ) (p : PortsState) (t : TurnRecord) (s : State) (d : Admitted) → IsTable s.world.table
+    → IsNamed j p s → admission j (speaking t.dialect p) s.world t.events ≡ d
+    → Stays k s (judged j d (nameless j s)).state
+admitted_stays k j p t s (refused f) table named is = failing_stays k j f s
+admitted_stays k j p t s (admitted x) table named is =
+    let after : State = accepted j x (nameless j s) in
+    stays_on k s after _
+    (accepted_stays k j p x s table named (exports_stay j (speaking t.dialect p) s.world t.events x is))
+    (finished_stays k [] after)
 
-pub packet_stays : (k j : ℕ) (o : Option PortsState) (es : List TurnEvent) (s : State) → IsTable s.world.table
-    → ports_of j s ≡ o → Stays k s (packet_at j o es s).state
-packet_stays k j None es s table is = stays_not k s
-packet_stays k j (Some p) es s table is =
-    judged_stays k j p es (admission j p s.world es) s table (named_of j p s is) refl
+pub packet_stays : (k j : ℕ) (o : Option PortsState) (t : TurnRecord) (s : State) → IsTable s.world.table
+    → ports_of j s ≡ o → Stays k s (packet_at j o t s).state
+packet_stays k j None t s table is = stays_not k s
+packet_stays k j (Some p) t s table is =
+    let named = named_of j p s is in
+    by_dialect (λ d. Stays k s (judged j d (nameless j s)).state) j p s.world t (failing_stays k j BadPacket s)
+    (admitted_stays k j p t s (admission j (speaking t.dialect p) s.world t.events) table named refl)
 
 -- ---- a watcher begins
 

@@ -19,7 +19,7 @@ use Rattle.ac_world.specs.Worlds.{watching, resident_of}
 use Rattle.ac_world.specs.declared.turns.Turned.{Turned}
 use Rattle.ac_world.specs.declared.turns.Turned.TheVariants as turned
 use Rattle.ac_world.specs.Behaviours.{Behaviour, gatekeeper}
-use Rattle.rl_packet.specs.declared.packets.TurnEvent.{TurnEvent}
+use Rattle.rl_packet.specs.declared.packets.Turn.{Turn as TurnRecord}
 use Rattle.rl_ports.specs.Ports.{PortsState}
 use Rattle.hub_machine.specs.declared.faults.Fault.{Fault}
 use Rattle.hub_machine.specs.declared.steps.Reply.{Reply}
@@ -27,7 +27,7 @@ use Rattle.hub_machine.specs.declared.steps.Reply.TheVariants.{Worn, Halted, Idl
 use Rattle.hub_machine.specs.declared.steps.Step.{Step}
 use Rattle.hub_machine.specs.declared.steps.Step.TheVariants.{Bind, Watch, Arrive, Packet, Bad, Close, Turn, Work, Stop}
 use Rattle.hub_machine.specs.State.{State, ports_of}
-use Rattle.hub_machine.specs.Admission.{Admitted, refused, admitted, admission}
+use Rattle.hub_machine.specs.Admission.{Admitted, refused, admitted, turn_admission}
 use Rattle.hub_machine.specs.Endings.{nameless, departed_for, closed, failed, finished}
 use Rattle.hub_machine.specs.Machine.{unchanged, opened, refusal, arrive_unless, judged, packet_at, bad_at, bind_unless}
 use Rattle.hub_machine.specs.Machine.{is_barred, is_unwatchable, watch_unless}
@@ -176,10 +176,10 @@ judged_hub : (k : ℕ) (p : PortsState) (d : Admitted) (s : State) → IsHub [] 
 judged_hub k p (refused f) s h n = ended_well (departed_for k f (nameless k s)) (failed_hub endings [] k f s h)
 judged_hub k p (admitted x) s h n = ended_well _ (accepted_hub still_met k x s (come_of k p s h n) n.live h)
 
-packet_hub : (k : ℕ) (o : Option PortsState) (es : List TurnEvent) (s : State) → IsHub [] s → ports_of k s ≡ o
-    → IsHub [] (packet_at k o es s).state
-packet_hub k None es s h is = h
-packet_hub k (Some p) es s h is = judged_hub k p (admission k p s.world es) s h (named_of k p s is)
+packet_hub : (k : ℕ) (o : Option PortsState) (t : TurnRecord) (s : State) → IsHub [] s → ports_of k s ≡ o
+    → IsHub [] (packet_at k o t s).state
+packet_hub k None t s h is = h
+packet_hub k (Some p) t s h is = judged_hub k p (turn_admission k p s.world t) s h (named_of k p s is)
 
 bad_hub : (k : ℕ) (o : Option PortsState) (f : Fault) (s : State) → IsHub [] s → IsHub [] (bad_at k o f s).state
 bad_hub k None f s h = h
@@ -249,7 +249,7 @@ done_hub : (s : State) (e : Step) → IsAllowed s e → IsValid s → IsHub [] s
 done_hub s (Bind b) may valid h = bind_hub (is_barred b s) b s refl h
 done_hub s (Watch x) may valid h = watch_hub (is_unwatchable x s) x s refl valid h
 done_hub s (Arrive space) may valid h = arrive_hub (refusal space s) space s valid h
-done_hub s (Packet k es) may valid h = packet_hub k (ports_of k s) es s h refl
+done_hub s (Packet k t) may valid h = packet_hub k (ports_of k s) t s h refl
 done_hub s (Bad k f) may valid h = bad_hub k (ports_of k s) f s h
 done_hub s (Close k) may valid h = close_hub k (ports_of k s) s h
 done_hub s (Turn a) may valid h = turn_hub a s h

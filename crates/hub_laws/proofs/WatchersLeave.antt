@@ -11,12 +11,12 @@ use Rattle.ac_world.specs.declared.watched.Watched.{Watched}
 use Rattle.ac_world.specs.Turns.{turn}
 use Rattle.ac_world.specs.Worlds.{actor_of, entry_of, without_entry, is_system, binding, watching}
 use Rattle.ac_world.specs.Lemmas.Entries.{put_other, out_other}
-use Rattle.rl_packet.specs.declared.packets.TurnEvent.{TurnEvent}
+use Rattle.rl_packet.specs.declared.packets.Turn.{Turn as TurnRecord}
 use Rattle.rl_ports.specs.Ports.{PortsState}
 use Rattle.hub_machine.specs.declared.faults.Fault.{Fault}
 use Rattle.hub_machine.specs.declared.faults.Fault.TheVariants.{Spread}
 use Rattle.hub_machine.specs.State.{State, ports_of, is_there}
-use Rattle.hub_machine.specs.Admission.{Admitted, refused, admitted, admission}
+use Rattle.hub_machine.specs.Admission.{Admitted, refused, admitted, turn_admission}
 use Rattle.hub_machine.specs.Endings.{nameless, closed, failed, dismissed, finished}
 use Rattle.hub_machine.specs.Machine.{unchanged, bind_unless, is_barred, watch_unless, is_unwatchable, opened, refusal}
 use Rattle.hub_machine.specs.Machine.{arrive_unless, accepted, judged, packet_at, bad_at, close_at, telling_fault}
@@ -147,10 +147,10 @@ module _ (a : ℕ) (low : a < 17) where
         (put_other k 0 x.ports (without_entry k s.connections) ne ∙ out_other k 0 s.connections ne ∙ first)
         ((lasts_sent (actor_of k) x.acts s.world).live a ∙ live))
 
-    packet_due : (k : ℕ) (o : Option PortsState) (es : List TurnEvent) → ports_of k s ≡ o
-        → IsDue [] (packet_at k o es s).state
-    packet_due k None es is = stays []
-    packet_due k (Some p) es is = judged_due k p (admission k p s.world es) is
+    packet_due : (k : ℕ) (o : Option PortsState) (t : TurnRecord) → ports_of k s ≡ o
+        → IsDue [] (packet_at k o t s).state
+    packet_due k None t is = stays []
+    packet_due k (Some p) t is = judged_due k p (turn_admission k p s.world t) is
 
     bad_due : (k : ℕ) (o : Option PortsState) (f : Fault) → ports_of k s ≡ o → IsDue [] (bad_at k o f s).state
     bad_due k None f is = stays []
@@ -214,7 +214,7 @@ module _ (a : ℕ) (low : a < 17) where
   done_due s (Bind b) first live = bind_due s first live (is_barred b s) b
   done_due s (Watch x) first live = watch_due s first live (is_unwatchable x s) x
   done_due s (Arrive space) first live = arrive_due s first live (refusal space s) space
-  done_due s (Packet k es) first live = packet_due s first live k (ports_of k s) es refl
+  done_due s (Packet k t) first live = packet_due s first live k (ports_of k s) t refl
   done_due s (Bad k f) first live = bad_due s first live k (ports_of k s) f refl
   done_due s (Close k) first live = close_due s first live k (ports_of k s) refl
   done_due s (Turn c) first live = turn_due c s first live

@@ -18,13 +18,13 @@ use Rattle.ac_world.specs.Turns.{turn}
 use Rattle.ac_world.specs.declared.watched.Watched.{Watched}
 use Rattle.ac_world.specs.Worlds.{actor_of, entry_of, without_entry, is_system, binding, watching}
 use Rattle.ac_world.specs.Lemmas.Entries.{put_found, put_other}
-use Rattle.rl_packet.specs.declared.packets.TurnEvent.{TurnEvent}
+use Rattle.rl_packet.specs.declared.packets.Turn.{Turn as TurnRecord}
 use Rattle.rl_ports.specs.Ports.{PortsState}
 use Rattle.hub_machine.specs.Limits.{most_deliveries, most_deliveries_weight}
 use Rattle.hub_machine.specs.declared.faults.Fault.{Fault}
 use Rattle.hub_machine.specs.declared.faults.Fault.TheVariants.{Overrun, Spread}
 use Rattle.hub_machine.specs.State.{State, ports_of, is_there}
-use Rattle.hub_machine.specs.Admission.{Admitted, refused, admitted, admission}
+use Rattle.hub_machine.specs.Admission.{Admitted, refused, admitted, turn_admission}
 use Rattle.hub_machine.specs.Endings.{nameless, closed, failed, dismissed, overrun_by, finished}
 use Rattle.hub_machine.specs.Machine.{After, unchanged, opened, refusal, arrive_unless, accepted, judged, packet_at}
 use Rattle.hub_machine.specs.Machine.{bind_unless, is_barred, watch_unless, is_unwatchable}
@@ -178,10 +178,10 @@ module _ (k : ℕ) (since : 1 ≤ k) where
       ends_left e [] (accepted j x (nameless j s)) reply.Taken
       ((lasts_sent (actor_of j) x.acts s.world).live (actor_of k) ∙ live)
 
-  packet_left : (e : Step) (j : ℕ) (o : Option PortsState) (es : List TurnEvent) (s : State)
-      → is_live (actor_of k) s.world.table ≡ true → whose e ≡ Some j → HasLeft e [] (packet_at j o es s)
-  packet_left e j None es s live own = stays e [] s reply.Gone live
-  packet_left e j (Some ports) es s live own = judged_left e j (admission j ports s.world es) s live own
+  packet_left : (e : Step) (j : ℕ) (o : Option PortsState) (t : TurnRecord) (s : State)
+      → is_live (actor_of k) s.world.table ≡ true → whose e ≡ Some j → HasLeft e [] (packet_at j o t s)
+  packet_left e j None t s live own = stays e [] s reply.Gone live
+  packet_left e j (Some ports) t s live own = judged_left e j (turn_admission j ports s.world t) s live own
 
   bad_left : (e : Step) (j : ℕ) (o : Option PortsState) (f : Fault) (s : State)
       → is_live (actor_of k) s.world.table ≡ true → whose e ≡ Some j → HasLeft e [] (bad_at j o f s)
@@ -263,7 +263,7 @@ module _ (k : ℕ) (since : 1 ≤ k) where
   done_left s (Bind b) live = bind_left (is_barred b s) b s live
   done_left s (Watch x) live = watch_left (is_unwatchable x s) x s live
   done_left s (Arrive space) live = arrive_left (Arrive space) (refusal space s) space s live
-  done_left s (Packet j es) live = packet_left (Packet j es) j (ports_of j s) es s live refl
+  done_left s (Packet j t) live = packet_left (Packet j t) j (ports_of j s) t s live refl
   done_left s (Bad j f) live = bad_left (Bad j f) j (ports_of j s) f s live refl
   done_left s (Close j) live = close_left j (ports_of j s) s live
   done_left s (Turn a) live =

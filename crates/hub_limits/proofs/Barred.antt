@@ -1,5 +1,5 @@
 -- A step is barred exactly where one of its causes holds.
-use Rattle.std.proofs.Common.{◌≡◌, ℕ, ◌-◌, ◌^◌, ◌<◌, ◌||◌, List, Bool, true, false, cond, Option, Some}
+use Rattle.std.proofs.Common.{◌≡◌, ℕ, ◌-◌, ◌^◌, ◌<◌, ◌||◌, Bool, true, false, cond, Option, Some}
 use Rattle.std.proofs.Common.{None, refl, ap, ◌∙◌, arith, nat_lt, nat_le, length}
 use Rattle.std.proofs.lemmas.Bool.Decides.{nat_tests}
 use Rattle.gk_sturdy.specs.declared.bound.Binding.{Binding}
@@ -10,11 +10,11 @@ use Rattle.ac_world.specs.declared.turns.Turned.TheVariants as turned
 use Rattle.ac_world.specs.Turns.{turn}
 use Rattle.ac_world.specs.declared.watched.Watched.{Watched}
 use Rattle.ac_world.specs.Worlds.{is_system}
-use Rattle.rl_packet.specs.declared.packets.TurnEvent.{TurnEvent}
+use Rattle.rl_packet.specs.declared.packets.Turn.{Turn as TurnRecord}
 use Rattle.rl_ports.specs.Ports.{PortsState}
 use Rattle.hub_machine.specs.declared.faults.Fault.{Fault}
 use Rattle.hub_machine.specs.State.{State, ports_of}
-use Rattle.hub_machine.specs.Admission.{Admitted, refused, admitted, admission}
+use Rattle.hub_machine.specs.Admission.{Admitted, refused, admitted, turn_admission}
 use Rattle.hub_machine.specs.Endings.{nameless}
 use Rattle.hub_machine.specs.Machine.{After, unchanged, is_barred, bind_unless, is_unwatchable, watch_unless, refusal}
 use Rattle.hub_machine.specs.Machine.{arrive_unless, judged, packet_at, bad_at, close_at, telling_fault, told_unless}
@@ -56,7 +56,7 @@ has_numbers : (s : State) (e : Step) → is_worn s e ≡ false → HasNumbers s 
 has_numbers s (Arrive space) is = both_fresh (2 ^ 62) s.world.table.next (2 ^ 31) s.world.opened is
 has_numbers s (Bind b) is = fresh (2 ^ 62) s.world.table.next is
 has_numbers s (Watch x) is = fresh (2 ^ 62) s.world.table.next is
-has_numbers s (Packet k es) is = fresh (2 ^ 62) s.world.table.next is
+has_numbers s (Packet k t) is = fresh (2 ^ 62) s.world.table.next is
 has_numbers s (Bad k f) is = fresh (2 ^ 62) s.world.table.next is
 has_numbers s (Close k) is = fresh (2 ^ 62) s.world.table.next is
 has_numbers s (Turn a) is = fresh (2 ^ 62) s.world.table.next is
@@ -68,7 +68,7 @@ pub is_unworn : (s : State) (e : Step) → HasNumbers s e → is_worn s e ≡ fa
 is_unworn s (Arrive space) n = neither_worn (2 ^ 62) s.world.table.next (2 ^ 31) s.world.opened n.0 n.1
 is_unworn s (Bind b) n = not_worn (2 ^ 62) s.world.table.next n
 is_unworn s (Watch x) n = not_worn (2 ^ 62) s.world.table.next n
-is_unworn s (Packet k es) n = not_worn (2 ^ 62) s.world.table.next n
+is_unworn s (Packet k t) n = not_worn (2 ^ 62) s.world.table.next n
 is_unworn s (Bad k f) n = not_worn (2 ^ 62) s.world.table.next n
 is_unworn s (Close k) n = not_worn (2 ^ 62) s.world.table.next n
 is_unworn s (Turn a) n = not_worn (2 ^ 62) s.world.table.next n
@@ -118,9 +118,9 @@ judged_free k (refused f) s is = absurd cc
 judged_free k (admitted x) s is = absurd cc
 
 -- a packet
-packet_free : (k : ℕ) (o : Option PortsState) (es : List TurnEvent) (s : State) → IsFree (packet_at k o es s)
-packet_free k None es s is = absurd cc
-packet_free k (Some ports) es s is = judged_free k (admission k ports s.world es) (nameless k s) is
+packet_free : (k : ℕ) (o : Option PortsState) (t : TurnRecord) (s : State) → IsFree (packet_at k o t s)
+packet_free k None t s is = absurd cc
+packet_free k (Some ports) t s is = judged_free k (turn_admission k ports s.world t) (nameless k s) is
 
 -- bytes that are no packet
 bad_free : (k : ℕ) (o : Option PortsState) (f : Fault) (s : State) → IsFree (bad_at k o f s)
@@ -183,7 +183,7 @@ cause_of : (s : State) (e : Step) → (done s e).reply ≡ reply.Barred → HasC
 cause_of s (Bind b) is = bind_cause (is_barred b s) b s refl is
 cause_of s (Watch x) is = watch_cause (is_unwatchable x s) x s refl is
 cause_of s (Arrive space) is = arrive_cause space s is
-cause_of s (Packet k es) is = packet_free k (ports_of k s) es s is
+cause_of s (Packet k t) is = packet_free k (ports_of k s) t s is
 cause_of s (Bad k f) is = bad_free k (ports_of k s) f s is
 cause_of s (Close k) is = close_free k (ports_of k s) s is
 cause_of s (Turn a) is = turn_free a s is
@@ -197,7 +197,7 @@ barred_by s (Watch x) cause = ap (λ c. (watch_unless c x s).reply) (is_unwatcha
 barred_by s (Arrive space) far =
     let is : nat_lt 8 space ≡ true = grind (arith, nat_tests, far) in
     ap (λ b. (arrive_unless (refused_by b s.stopped (nat_le 32 (length s.connections))) space s).reply) is
-barred_by s (Packet k es) cause = absurd cause
+barred_by s (Packet k t) cause = absurd cause
 barred_by s (Bad k f) cause = absurd cause
 barred_by s (Close k) cause = absurd cause
 barred_by s (Turn a) cause = absurd cause

@@ -13,8 +13,9 @@ use Rattle.ac_world.specs.Turns.{system_turn, connection_turn, turn_with, turn_f
 use Rattle.ac_world.specs.Worlds.{WorldState, actor_of, is_system, entry_of, with_entry, without_entry, gone, ended_of}
 use Rattle.ac_world.specs.Lemmas.Entries.{KeysAscend, ascend_none, ascend_with, put_found, put_other}
 use Rattle.ac_world.specs.Lemmas.Entries.{out_other, out_gone}
+use Rattle.rl_packet.specs.declared.packets.Dialect.{Dialect}
 use Rattle.rl_ports.specs.declared.ports.Inbound.TheVariants.{Row}
-use Rattle.rl_ports.specs.Ports.{PortsState, inbound_of, ports_to, with_exports}
+use Rattle.rl_ports.specs.Ports.{PortsState, speaking, inbound_of, ports_to, with_exports}
 use Rattle.hub_machine.specs.Admission.{Admitting, before_all, weight_of_row}
 use Rattle.hub_valid.specs.Lemmas.Lives.{rows_posted}
 use Rattle.hub_laws.proofs.EndingActors.{others_found, others_keep}
@@ -54,6 +55,12 @@ still_entered k old new ports s t keeps e = record {
 pub exports_entered : (k : ℕ) (rows : List TableRow) (exports : List Plain) (ports : PortsState)
     → IsEntered k rows ports → IsEntered k rows (with_exports exports ports)
 exports_entered k rows exports ports e =
+    record { come = e.come; ascend = e.ascend; stand = e.stand; apart = e.apart; light = e.light }
+
+-- nor is a dialect one
+pub speaking_entered : (k : ℕ) (rows : List TableRow) (d : Option Dialect) (ports : PortsState)
+    → IsEntered k rows ports → IsEntered k rows (speaking d ports)
+speaking_entered k rows d ports e =
     record { come = e.come; ascend = e.ascend; stand = e.stand; apart = e.apart; light = e.light }
 
 -- before the first event of a packet what is summed is what the rows weigh

@@ -15,11 +15,11 @@ use Rattle.ac_world.specs.Turns.{turn}
 use Rattle.ac_world.specs.declared.watched.Watched.{Watched}
 use Rattle.ac_world.specs.Worlds.{entry_of, with_entry, without_entry, is_system, binding, watching}
 use Rattle.ac_world.specs.Lemmas.Entries.{KeysAscend, ascend_none, ascend_with, ascend_without, put_back}
-use Rattle.rl_packet.specs.declared.packets.TurnEvent.{TurnEvent}
+use Rattle.rl_packet.specs.declared.packets.Turn.{Turn as TurnRecord}
 use Rattle.rl_ports.specs.Ports.{PortsState, ports_to, with_exports}
 use Rattle.hub_machine.specs.declared.faults.Fault.{Fault}
 use Rattle.hub_machine.specs.State.{State, opening, ports_of}
-use Rattle.hub_machine.specs.Admission.{Admitted, refused, admitted, admission}
+use Rattle.hub_machine.specs.Admission.{Admitted, refused, admitted, turn_admission}
 use Rattle.hub_machine.specs.Endings.{nameless, closed, failed, finished}
 use Rattle.hub_machine.specs.Machine.{opened, refusal, arrive_unless, accepted, judged, packet_at, bind_unless}
 use Rattle.hub_machine.specs.Machine.{is_barred, is_unwatchable, watch_unless, bad_at, close_at, telling_fault}
@@ -138,10 +138,10 @@ judged_few k p (refused fault) s found f = ends_few [] (failed k fault s) (few_w
 judged_few k p (admitted x) s found f =
     ends_few [] (accepted k x (nameless k s)) (few_taken k x.ports p s.connections found f)
 
-packet_few : (k : ℕ) (o : Option PortsState) (es : List TurnEvent) (s : State) → ports_of k s ≡ o → IsFew s
-    → IsFew (packet_at k o es s).state
-packet_few k None es s is f = f
-packet_few k (Some p) es s is f = judged_few k p (admission k p s.world es) s (named_of k p s is).kept f
+packet_few : (k : ℕ) (o : Option PortsState) (t : TurnRecord) (s : State) → ports_of k s ≡ o → IsFew s
+    → IsFew (packet_at k o t s).state
+packet_few k None t s is f = f
+packet_few k (Some p) t s is f = judged_few k p (turn_admission k p s.world t) s (named_of k p s is).kept f
 
 bad_few : (k : ℕ) (o : Option PortsState) (fault : Fault) (s : State) → IsFew s → IsFew (bad_at k o fault s).state
 bad_few k None fault s f = f
@@ -195,7 +195,7 @@ done_few : (s : State) (e : Step) → IsFew s → IsFew (done s e).state
 done_few s (Bind b) f = bind_few (is_barred b s) b s f
 done_few s (Watch x) f = watch_few (is_unwatchable x s) x s f
 done_few s (Arrive space) f = arrive_few space s f
-done_few s (Packet k es) f = packet_few k (ports_of k s) es s refl f
+done_few s (Packet k t) f = packet_few k (ports_of k s) t s refl f
 done_few s (Bad k fault) f = bad_few k (ports_of k s) fault s f
 done_few s (Close k) f = close_few k (ports_of k s) s f
 done_few s (Turn a) f = turn_few a s f

@@ -14,10 +14,13 @@ use Rattle.ac_world.specs.Outboxes.{Plan, plan_over}
 use Rattle.ac_world.specs.Turns.{turn}
 use Rattle.ac_world.specs.Worlds.{actor_of, is_system, without_entry, binding, watching}
 use Rattle.ac_world.specs.Lemmas.Entries.{ascend_none, ascend_without, each_found}
+use Rattle.rl_packet.specs.declared.packets.Dialect.{Dialect}
+use Rattle.rl_packet.specs.declared.packets.Turn.{Turn as TurnRecord}
 use Rattle.rl_packet.specs.declared.packets.TurnEvent.{TurnEvent}
-use Rattle.rl_ports.specs.Ports.{PortsState, ports_to, with_exports}
+use Rattle.rl_ports.specs.Ports.{PortsState, speaking, ports_to, with_exports}
 use Rattle.hub_machine.specs.Limits.{most_events}
 use Rattle.hub_machine.specs.declared.faults.Fault.{Fault}
+use Rattle.hub_machine.specs.declared.faults.Fault.TheVariants.{BadPacket}
 use Rattle.hub_machine.specs.declared.steps.Reply.{Reply}
 use Rattle.hub_machine.specs.declared.steps.Reply.TheVariants.{Worn, Halted, Idle}
 use Rattle.hub_machine.specs.declared.steps.Step.{Step}
@@ -28,6 +31,7 @@ use Rattle.hub_machine.specs.Admission.{Admitting, Admitted, refused, admitted, 
 use Rattle.hub_machine.specs.Admission.{all_admitted}
 use Rattle.hub_machine.specs.Causes.{after_all}
 use Rattle.hub_machine.specs.Endings.{nameless, closed, failed, dismissed, finished}
+use Rattle.hub_machine.specs.Lemmas.Dialects.{by_dialect}
 use Rattle.hub_machine.specs.Machine.{unchanged, opened, refusal, arrive_unless, accepted, judged, packet_at, bad_at}
 use Rattle.hub_machine.specs.Machine.{bind_unless, is_barred, is_unwatchable, watch_unless, actor_reference}
 use Rattle.hub_machine.specs.Machine.{close_at, exports_after, exporting, telling_fault, told_unless, tell, fault_for}
@@ -51,7 +55,7 @@ use Rattle.hub_laws.proofs.Turns.{still_met}
 use Rattle.hub_limits.specs.Weighing.{RowsAreWeighed}
 use Rattle.hub_limits.proofs.Entered.{AreEntered, IsEntered, still_all, one_named, were_named, moved_keeps}
 use Rattle.hub_limits.proofs.Entered.{start_so_far, entered_then, ended_entered, come_entered, exports_entered}
-use Rattle.hub_limits.proofs.Entered.{turn_keeps}
+use Rattle.hub_limits.proofs.Entered.{speaking_entered, turn_keeps}
 use Rattle.hub_limits.proofs.Weights.{weighs}
 use Rattle.hub_limits.proofs.Within.{plan_of, IsSoFar, all_so_far, admitted_free}
 
@@ -116,6 +120,12 @@ one_of : (k : ℕ) (ports : PortsState) (s : State) → AreNamed s → ports_of 
 one_of k ports s e is =
     let n = named_of k ports s is in record { live = n.live; entered = e.each k ports n.kept }
 
+-- whatever its dialect
+speaking_one : (k : ℕ) (d : Option Dialect) (ports : PortsState) (s : State) → IsOne k ports s
+    → IsOne k (speaking d ports) s
+speaking_one k d ports s one =
+    record { live = one.live; entered = speaking_entered k s.world.table.rows d ports one.entered }
+
 -- a packet is taken
 accepted_named : (k : ℕ) (ports : PortsState) (x : Admitting) (s : State) → IsHub [] s → IsOne k ports s
     → IsSoFar k s.world x → AreNamed s → AreNamed (accepted k x (nameless k s))
@@ -150,9 +160,13 @@ start_one : (k : ℕ) (ports : PortsState) (s : State) → IsHub [] s → IsOne 
 start_one k ports s h one = start_so_far k ports s.world h.sound.table one.live one.entered
 
 -- or it is refused
+refused_named : (k : ℕ) (f : Fault) (s : State) → AreNamed s → AreNamed (judged k (refused f) (nameless k s)).state
+refused_named k f s e = finished_named [] (failed k f s) (failed_named k f s e)
+
+-- as its events are judged
 judged_named : (k : ℕ) (ports : PortsState) (es : List TurnEvent) (d : Admitted) (s : State) → IsHub [] s
     → IsOne k ports s → AreNamed s → admission k ports s.world es ≡ d → AreNamed (judged k d (nameless k s)).state
-judged_named k ports es (refused f) s h one e is = finished_named [] (failed k f s) (failed_named k f s e)
+judged_named k ports es (refused f) s h one e is = refused_named k f s e
 judged_named k ports es (admitted x) s h one e is =
     finished_named [] (accepted k x (nameless k s)) (by (over most_events 3 (length es)) is)
   where
@@ -168,11 +182,14 @@ judged_named k ports es (admitted x) s h one e is =
     by (Some f) is = absurd cc
 
 -- of whoever it is
-packet_named : (k : ℕ) (o : Option PortsState) (es : List TurnEvent) (s : State) → IsHub [] s → AreNamed s
-    → ports_of k s ≡ o → AreNamed (packet_at k o es s).state
-packet_named k None es s h e is = e
-packet_named k (Some ports) es s h e is =
-    judged_named k ports es (admission k ports s.world es) s h (one_of k ports s e is) e refl
+packet_named : (k : ℕ) (o : Option PortsState) (t : TurnRecord) (s : State) → IsHub [] s → AreNamed s
+    → ports_of k s ≡ o → AreNamed (packet_at k o t s).state
+packet_named k None t s h e is = e
+packet_named k (Some ports) t s h e is =
+    let now : PortsState = speaking t.dialect ports in
+    by_dialect (λ d. AreNamed (judged k d (nameless k s)).state) k ports s.world t (refused_named k BadPacket s e)
+    (judged_named k now t.events (admission k now s.world t.events) s h
+    (speaking_one k t.dialect ports s (one_of k ports s e is)) e refl)
 
 -- bytes that are no packet
 bad_named : (k : ℕ) (o : Option PortsState) (f : Fault) (s : State) → AreNamed s → AreNamed (bad_at k o f s).state
@@ -265,7 +282,7 @@ done_named : (s : State) (a : Step) → IsValid s → IsHub [] s → AreNamed s 
 done_named s (does.Bind b) valid h e = bind_named (is_barred b s) b s e
 done_named s (does.Watch x) valid h e = watch_named (is_unwatchable x s) x s refl valid h e
 done_named s (does.Arrive space) valid h e = arrive_named (refusal space s) space s h e
-done_named s (does.Packet k es) valid h e = packet_named k (ports_of k s) es s h e refl
+done_named s (does.Packet k t) valid h e = packet_named k (ports_of k s) t s h e refl
 done_named s (does.Bad k f) valid h e = bad_named k (ports_of k s) f s e
 done_named s (does.Close k) valid h e = close_named k (ports_of k s) s e
 done_named s (does.Turn a) valid h e = turn_named a s h e
@@ -300,14 +317,15 @@ opening_named ds = record {
 
 -- the law of the limits within a packet
 pub are_weighed : RowsAreWeighed
-are_weighed ds steps may k ports es there free =
+are_weighed ds steps may k ports d es there free =
     let s : State = replay ds steps in
+    let start : Admitting = before_all k (speaking d ports) s.world in
     let h : IsHub [] s = replay_hub ds steps may in
     let e : AreNamed s =
     run_named (opening ds) steps may (stays_valid.0 ds) (replay_hub ds [] tt) (opening_named ds) in
-    let i = all_so_far k s.world es (before_all k ports s.world) free
-    (start_one k ports s h (one_of k ports s e there)) in
-    let p : Plan = plan_of k s.world (after_all k s.world es (before_all k ports s.world)) in
+    let i = all_so_far k s.world es start free
+    (start_one k (speaking d ports) s h (speaking_one k d ports s (one_of k ports s e there))) in
+    let p : Plan = plan_of k s.world (after_all k s.world es start) in
     record {
       rows = i.rows ∙ sym (ap (weighs (actor_of k)) (rows_posted (actor_of k) p.out p.table));
       few = i.few;

@@ -69,7 +69,7 @@ abbrev pub HasCause : State → Step → Type 0
 HasCause s (Bind b) = BarsBinding b s
 HasCause s (Watch x) = BarsWatcher x s
 HasCause s (Arrive space) = 8 < space
-HasCause s (Packet k es) = ⊥
+HasCause s (Packet k t) = ⊥
 HasCause s (Bad k f) = ⊥
 HasCause s (Close k) = ⊥
 HasCause s (Turn a) = ⊥

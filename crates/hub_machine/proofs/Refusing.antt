@@ -6,13 +6,14 @@ use Rattle.std.proofs.Common.{inl, inr}
 use Rattle.std.proofs.lemmas.Bool.Decides.{nat_tests}
 use Rattle.ac_world.specs.Worlds.{WorldState}
 use Rattle.rl_packet.specs.declared.packets.TurnEvent.{TurnEvent}
+use Rattle.rl_packet.specs.declared.packets.Turn.{Turn}
 use Rattle.hub_machine.specs.Limits.{most_events}
-use Rattle.hub_machine.specs.Faults.{Fault, Limit}
-use Rattle.rl_ports.specs.Ports.{PortsState}
+use Rattle.hub_machine.specs.Faults.{Fault, BadPacket, Limit, where_it_is}
+use Rattle.rl_ports.specs.Ports.{PortsState, speaking}
 use Rattle.hub_machine.specs.State.{State, ports_of}
 use Rattle.hub_machine.specs.Admission.{Admitting, Admitted, refused, admitted, before_all, cause_of, after, unless}
-use Rattle.hub_machine.specs.Admission.{all_admitted, admission}
-use Rattle.hub_machine.specs.Causes.{after_all, NoneAgainst, IsFirstCause, IsCause, RefusedForItsCause}
+use Rattle.hub_machine.specs.Admission.{all_admitted, admission, differ, turn_admission}
+use Rattle.hub_machine.specs.Causes.{after_all, NoneAgainst, IsFirstCause, IsCauseWithin, IsCause, RefusedForItsCause}
 use Rattle.hub_machine.specs.Endings.{nameless}
 use Rattle.hub_machine.specs.Machine.{step, is_worn, unchanged, packet_at, judged}
 use Rattle.hub_machine.specs.declared.steps.Step.TheVariants.{Packet}
@@ -60,17 +61,17 @@ is_refused k w (d ∷ ds) e later x f free is =
 -- ---- the packet
 
 is_cause : (k : ℕ) (ports : PortsState) (w : WorldState) (es : List TurnEvent) (f : Fault)
-    → admission k ports w es ≡ refused f → IsCause k ports w es f
+    → admission k ports w es ≡ refused f → IsCauseWithin k ports w es f
 is_cause k ports w es f is = by (nat_lt most_events (length es)) refl is
   where
     by : (b : Bool) → nat_lt most_events (length es) ≡ b
         → unless (cond b (Some (Limit 3 (length es))) None) (all_admitted k w es (before_all k ports w)) ≡ refused f
-        → IsCause k ports w es f
+        → IsCauseWithin k ports w es f
     by true many is = let same : f ≡ Limit 3 (length es) = cc in inl (grind (arith, nat_tests, many), same)
     by false few is = inr (grind (arith, nat_tests, few), has_cause k w es (before_all k ports w) f is)
 
 cause_refuses : (k : ℕ) (ports : PortsState) (w : WorldState) (es : List TurnEvent) (f : Fault)
-    → IsCause k ports w es f → admission k ports w es ≡ refused f
+    → IsCauseWithin k ports w es f → admission k ports w es ≡ refused f
 cause_refuses k ports w es f (inl c) =
     let many : nat_lt most_events (length es) ≡ true = grind (arith, nat_tests, c.0) in
     ap (λ b. unless (cond b (Some (Limit 3 (length es))) None) (all_admitted k w es (before_all k ports w))) many
@@ -86,18 +87,38 @@ judged_refused : (k : ℕ) (d : Admitted) (s : State) (f : Fault) → (judged k 
 judged_refused k (refused g) s f is = let same : g ≡ f = cc in ap refused same
 judged_refused k (admitted x) s f is = absurd cc
 
-reply_is : (s : State) (k : ℕ) (es : List TurnEvent) (ports : PortsState) → is_worn s (Packet k es) ≡ false
-    → ports_of k s ≡ Some ports → (step s (Packet k es)).reply
-    ≡ (judged k (admission k ports s.world es) (nameless k s)).reply
-reply_is s k es ports fresh there =
-    ap (λ b. (cond b (unchanged s Worn) (packet_at k (ports_of k s) es s)).reply) fresh
-    ∙ ap (λ o. (packet_at k o es s).reply) there
+reply_is : (s : State) (k : ℕ) (t : Turn) (ports : PortsState) → is_worn s (Packet k t) ≡ false
+    → ports_of k s ≡ Some ports → (step s (Packet k t)).reply
+    ≡ (judged k (turn_admission k ports s.world t) (nameless k s)).reply
+reply_is s k t ports fresh there =
+    ap (λ b. (cond b (unchanged s Worn) (packet_at k (ports_of k s) t s)).reply) fresh
+    ∙ ap (λ o. (packet_at k o t s).reply) there
+
+-- the dialect first, and then what is among the events
+turn_cause : (k : ℕ) (ports : PortsState) (w : WorldState) (t : Turn) (f : Fault)
+    → turn_admission k ports w t ≡ refused f → IsCause k ports w t f
+turn_cause k ports w t f is = by (differ t.dialect ports.dialect) refl is
+  where
+    by : (b : Bool) → differ t.dialect ports.dialect ≡ b
+        → unless (where_it_is b BadPacket) (admission k (speaking t.dialect ports) w t.events) ≡ refused f
+        → IsCause k ports w t f
+    by true other is = let same : f ≡ BadPacket = cc in inl (other, same)
+    by false alike is = inr (alike, is_cause k (speaking t.dialect ports) w t.events f is)
+
+turn_refused : (k : ℕ) (ports : PortsState) (w : WorldState) (t : Turn) (f : Fault) → IsCause k ports w t f
+    → turn_admission k ports w t ≡ refused f
+turn_refused k ports w t f (inl c) =
+    ap (λ b. unless (where_it_is b BadPacket) (admission k (speaking t.dialect ports) w t.events)) c.0
+    ∙ ap refused (sym c.1)
+turn_refused k ports w t f (inr c) =
+    ap (λ b. unless (where_it_is b BadPacket) (admission k (speaking t.dialect ports) w t.events)) c.0
+    ∙ cause_refuses k (speaking t.dialect ports) w t.events f c.1
 
 pub for_its_cause : RefusedForItsCause
-for_its_cause s k es ports f fresh there = (
-  λ is. is_cause k ports s.world es f
-      (judged_refused k (admission k ports s.world es) (nameless k s) f
-      (sym (reply_is s k es ports fresh there) ∙ is)),
-  λ c. reply_is s k es ports fresh there
-      ∙ ap (λ d. (judged k d (nameless k s)).reply) (cause_refuses k ports s.world es f c),
+for_its_cause s k t ports f fresh there = (
+  λ is. turn_cause k ports s.world t f
+      (judged_refused k (turn_admission k ports s.world t) (nameless k s) f
+      (sym (reply_is s k t ports fresh there) ∙ is)),
+  λ c. reply_is s k t ports fresh there
+      ∙ ap (λ d. (judged k d (nameless k s)).reply) (turn_refused k ports s.world t f c),
 )

@@ -1,16 +1,16 @@
 -- Where a step is refused, or has nothing to do, nothing changes.
-use Rattle.std.proofs.Common.{◌≡◌, ℕ, ◌-◌, Bool, true, false, cond, List, Option, Some, None, refl}
+use Rattle.std.proofs.Common.{◌≡◌, ℕ, ◌-◌, Bool, true, false, cond, Option, Some, None, refl}
 use Rattle.ac_table.specs.declared.batches.Batch.{Batch}
 use Rattle.ac_table.specs.Tables.{is_live, first_batch, lowest}
 use Rattle.gk_sturdy.specs.declared.bound.Binding.{Binding}
 use Rattle.ac_world.specs.declared.watched.Watched.{Watched}
 use Rattle.ac_world.specs.Worlds.{WorldState, is_system}
 use Rattle.ac_world.specs.Turns.{After as TurnOf, turn_first, turn_with}
-use Rattle.rl_packet.specs.declared.packets.TurnEvent.{TurnEvent}
+use Rattle.rl_packet.specs.declared.packets.Turn.{Turn as TurnRecord}
 use Rattle.rl_ports.specs.Ports.{PortsState}
 use Rattle.hub_machine.specs.Faults.{Fault}
 use Rattle.hub_machine.specs.State.{State, ports_of}
-use Rattle.hub_machine.specs.Admission.{Admitted, refused, admitted, admission}
+use Rattle.hub_machine.specs.Admission.{Admitted, refused, admitted, turn_admission}
 use Rattle.hub_machine.specs.Endings.{nameless}
 use Rattle.hub_machine.specs.Laws.{IsRefusal, RefusalChangesNothing}
 use Rattle.hub_machine.specs.Machine.{After, done, is_worn, unchanged, is_barred, bind_unless, is_unwatchable}
@@ -42,9 +42,9 @@ judgement : (k : ℕ) (d : Admitted) (s t : State) → Keeps t (judged k d s)
 judgement k (refused f) s t is = absurd is
 judgement k (admitted x) s t is = absurd is
 
-packet : (k : ℕ) (o : Option PortsState) (es : List TurnEvent) (s : State) → Keeps s (packet_at k o es s)
-packet k None es s is = refl
-packet k (Some ports) es s is = judgement k (admission k ports s.world es) (nameless k s) s is
+packet : (k : ℕ) (o : Option PortsState) (t : TurnRecord) (s : State) → Keeps s (packet_at k o t s)
+packet k None t s is = refl
+packet k (Some ports) t s is = judgement k (turn_admission k ports s.world t) (nameless k s) s is
 
 bad : (k : ℕ) (o : Option PortsState) (f : Fault) (s : State) → Keeps s (bad_at k o f s)
 bad k None f s is = refl

@@ -1,7 +1,8 @@
--- The admission of a packet: its events are checked in order, each as those before it would leave what is counted, and
--- the first cause against one of them refuses all. Syndicate Protocol, "turns"; the limits are this server's own.
+-- The admission of a packet: its dialect is looked at first, then the number of its events, and then they are checked in
+-- order, each as those before it would leave what is counted; the first cause against one of them refuses all. Syndicate
+-- Protocol, "turns"; the limits are this server's own.
 use Rattle.std.specs.Prelude.{ℕ, ◌+◌, ◌-◌, ◌^◌, min, List, [], ◌∷◌, ◌++◌, length, not, Option, Some, None}
-use Rattle.std.specs.Prelude.{Bool, ◌&&◌, unwrap_or, option_and_then, if◌then◌else◌}
+use Rattle.std.specs.Prelude.{Bool, true, false, ◌&&◌, unwrap_or, option_and_then, if◌then◌else◌}
 use Rattle.pv_value.specs.Plain.{Plain, embedded}
 use Rattle.pv_value.specs.Weight.{weight}
 use Rattle.pv_value.specs.Depth.{depth}
@@ -17,6 +18,9 @@ use Rattle.ac_world.specs.Worlds.{WorldState, entry_of, with_entry, actor_of, is
 use Rattle.rl_packet.specs.declared.packets.Event.{Event}
 use Rattle.rl_packet.specs.declared.packets.Event.TheVariants.{Assert, Retract, Message, Sync}
 use Rattle.rl_packet.specs.declared.packets.TurnEvent.{TurnEvent}
+use Rattle.rl_packet.specs.declared.packets.Turn.{Turn}
+use Rattle.rl_packet.specs.declared.packets.Dialect.{Dialect}
+use Rattle.rl_packet.specs.declared.packets.Dialect.TheVariants.{Newer, Older}
 use Rattle.sr_caveat.specs.declared.caps.Cap.{Cap}
 use Rattle.sr_caveat.specs.Caps.{cap_of}
 use Rattle.sr_pass.specs.Passing.{passed}
@@ -24,10 +28,10 @@ use Rattle.rl_wire.specs.Crossing.{crossed_in, fault_in}
 use Rattle.rl_wire.specs.declared.faults.WireFault.{WireFault}
 use Rattle.rl_wire.specs.declared.faults.WireFault.TheVariants as wire
 use Rattle.hub_machine.specs.Limits.{most_events, most_handles, most_rows_weight, most_backlog, most_backlog_weight}
-use Rattle.hub_machine.specs.Faults.{Fault, UnknownOid, HandleInUse, UnknownHandle, Limit, ◌<|>◌, where_it_is, over}
+use Rattle.hub_machine.specs.Faults.{Fault, BadPacket, UnknownOid, HandleInUse, UnknownHandle, Limit, ◌<|>◌, where_it_is, over}
 use Rattle.rl_ports.specs.declared.ports.Inbound.{Inbound}
 use Rattle.rl_ports.specs.declared.ports.Inbound.TheVariants.{Row, Refused}
-use Rattle.rl_ports.specs.Ports.{PortsState, inbound_of, is_in_use, taken_into_use, freed, export_of}
+use Rattle.rl_ports.specs.Ports.{PortsState, speaking, inbound_of, is_in_use, taken_into_use, freed, export_of}
 
 -- What the events so far do, the weight of each row that they make, what the connection names after them, how much its
 -- rows weigh and how much of it waits for the system's actors, and the handle that is drawn next. Counts and sums of
@@ -217,6 +221,18 @@ abbrev pub all_admitted : ℕ → WorldState → List TurnEvent → Admitting �
 all_admitted k w [] x = admitted x
 all_admitted k w (e ∷ es) x = unless (cause_of k w e x) (all_admitted k w es (after k w e x))
 
--- the number of events is looked at first
+-- the number of events is looked at before them
 abbrev pub admission : ℕ → PortsState → WorldState → List TurnEvent → Admitted
 admission k ports w es = unless (over most_events 3 (length es)) (all_admitted k w es (before_all k ports w))
+
+-- a turn's dialect and a connection's differ
+abbrev pub differ : Option Dialect → Option Dialect → Bool
+differ (Some Newer) (Some Older) = true
+differ (Some Older) (Some Newer) = true
+differ d e = false
+
+-- the dialect is looked at before all else; a connection that has none gets that of the turn
+abbrev pub turn_admission : ℕ → PortsState → WorldState → Turn → Admitted
+turn_admission k ports w t =
+    unless (where_it_is (differ t.dialect ports.dialect) BadPacket)
+    (admission k (speaking t.dialect ports) w t.events)

@@ -11,13 +11,14 @@ use Rattle.ac_world.specs.Worlds.{WorldState, is_system}
 use Rattle.rl_packet.specs.declared.packets.Event.{Event}
 use Rattle.rl_packet.specs.declared.packets.Event.TheVariants.{Assert, Retract, Message, Sync}
 use Rattle.rl_packet.specs.declared.packets.TurnEvent.{TurnEvent}
-use Rattle.rl_ports.specs.Ports.{PortsState, is_in_use}
+use Rattle.rl_packet.specs.declared.packets.Turn.{Turn as TurnRecord}
+use Rattle.rl_ports.specs.Ports.{PortsState, speaking, is_in_use}
 use Rattle.rl_wire.specs.Crossing.{held_in, first_fault, nested}
 use Rattle.hub_machine.specs.Limits.{most_events, most_handles, most_rows_weight, most_backlog, most_backlog_weight}
 use Rattle.hub_machine.specs.Faults.{Fault}
 use Rattle.hub_machine.specs.State.{State, ports_of}
 use Rattle.hub_machine.specs.Admission.{Admitting, before_all, after, kept, weighed, rows_with, load_with, inside}
-use Rattle.hub_machine.specs.Admission.{let_through, cap_at}
+use Rattle.hub_machine.specs.Admission.{let_through, cap_at, differ}
 use Rattle.hub_machine.specs.Machine.{is_worn, packet_to, telling_fault, exports_after}
 use Rattle.hub_machine.specs.declared.steps.Step.{Step}
 use Rattle.hub_machine.specs.declared.steps.Step.TheVariants.{Bind, Watch, Arrive, Packet, Bad, Close, Turn, Work, Stop}
@@ -69,18 +70,24 @@ abbrev pub AreFine : ℕ → WorldState → List TurnEvent → Admitting → Typ
 AreFine k w [] x = Unit {0}
 AreFine k w (e ∷ es) x = IsFineAt k w (cap_at e.oid x.ports) e.event x × AreFine k w es (after k w e x)
 
-abbrev pub IsFineFor : ℕ → Option PortsState → List TurnEvent → State → Type 0
-IsFineFor k None es s = ⊥
-IsFineFor k (Some ports) es s = (length es ≤ most_events) × AreFine k s.world es (before_all k ports s.world)
+-- the turn is in the connection's dialect, where both have one, and has no more events than it may, each of them fine
+pub record IsFineTurn (k : ℕ) (ports : PortsState) (t : TurnRecord) (w : WorldState) : Type 0 where
+  pub dialect : differ t.dialect ports.dialect ≡ false
+  pub few : length t.events ≤ most_events
+  pub fine : AreFine k w t.events (before_all k (speaking t.dialect ports) w)
 
-abbrev pub IsFinePacket : ℕ → List TurnEvent → State → Type 0
-IsFinePacket k es s = IsFineFor k (ports_of k s) es s
+abbrev pub IsFineFor : ℕ → Option PortsState → TurnRecord → State → Type 0
+IsFineFor k None t s = ⊥
+IsFineFor k (Some ports) t s = IsFineTurn k ports t s.world
+
+abbrev pub IsFinePacket : ℕ → TurnRecord → State → Type 0
+IsFinePacket k t s = IsFineFor k (ports_of k s) t s
 
 -- ---- turns
 
 -- the reply to a connection's turn that takes this batch: the packet, or that too much would be exported
 abbrev pub told_reply : Option Fault → ℕ → Batch → PortsState → Reply
-told_reply None k b ports = packet_to (exports_after k b ports) k b
+told_reply None k b ports = packet_to (exports_after k b ports) ports.dialect k b
 told_reply (Some f) k b ports = Refused f
 
 -- a live connection has names: it doesn't come about that it has none
@@ -96,7 +103,7 @@ IsTurnReply false a b s r = IsToldTo (a - 16) (ports_of (a - 16) s) b r
 -- ---- steps
 
 abbrev pub IsComplete : State → Step → Reply → Type 0
-IsComplete s (Packet k es) r = is_worn s (Packet k es) ≡ false → IsFinePacket k es s → r ≡ Taken
+IsComplete s (Packet k t) r = is_worn s (Packet k t) ≡ false → IsFinePacket k t s → r ≡ Taken
 IsComplete s (Turn a) r =
     is_worn s (Turn a) ≡ false → (b : Batch) → first_batch a s.world.table ≡ Some b → IsTurnReply (is_system a) a b s r
 IsComplete s (Bind b) r = Unit {0}

@@ -1,6 +1,6 @@
 -- Laws of the machine.
-use Rattle.std.specs.Prelude.{◌≡◌, ℕ, List}
-use Rattle.rl_packet.specs.declared.packets.TurnEvent.{TurnEvent}
+use Rattle.std.specs.Prelude.{◌≡◌, ℕ}
+use Rattle.rl_packet.specs.declared.packets.Turn.{Turn as TurnRecord}
 use Rattle.hub_machine.specs.Faults.{Fault}
 use Rattle.hub_machine.specs.State.{State}
 use Rattle.hub_machine.specs.Machine.{step}
@@ -30,5 +30,5 @@ RefusalChangesNothing = (s : State) (e : Step) → IsRefusal (step s e).reply �
 -- a packet that is refused leaves what its fault alone would leave
 abbrev pub RefusedLeavesNothing : Type 0
 RefusedLeavesNothing =
-    (s : State) (k : ℕ) (es : List TurnEvent) (f : Fault) → (step s (Packet k es)).reply ≡ Refused f
-    → step s (Packet k es) ≡ step s (Bad k f)
+    (s : State) (k : ℕ) (t : TurnRecord) (f : Fault) → (step s (Packet k t)).reply ≡ Refused f
+    → step s (Packet k t) ≡ step s (Bad k f)

@@ -1,6 +1,6 @@
 -- The machine: what a step makes of the state, and its reply. What actors do is the world's (`ac_world`).
 use Rattle.std.specs.Prelude.{ℕ, ◌+◌, ◌-◌, List, [], Bool, true, false, ◌||◌, ◌&&◌, not, ◌==◌, nat_lt, nat_le, map}
-use Rattle.std.specs.Prelude.{◌∷◌, Option, Some, None, is_none, option_and_then, length, if◌then◌else◌}
+use Rattle.std.specs.Prelude.{◌∷◌, Option, Some, None, is_none, option_and_then, unwrap_or, length, if◌then◌else◌}
 use Rattle.std.specs.List.{flat_map, list_any}
 use Rattle.pv_value.specs.Plain.{Plain, embedded}
 use Rattle.ac_table.specs.declared.batches.Event.{Event as Told}
@@ -23,6 +23,10 @@ use Rattle.ac_world.specs.Worlds.{without_entry}
 use Rattle.ac_world.specs.Turns.{turn}
 use Rattle.rl_packet.specs.declared.packets.Event.TheVariants.{Assert, Retract, Message, Sync}
 use Rattle.rl_packet.specs.declared.packets.TurnEvent.{TurnEvent}
+use Rattle.rl_packet.specs.declared.packets.Turn.{Turn as TurnRecord}
+use Rattle.rl_packet.specs.declared.packets.Dialect.{Dialect}
+use Rattle.rl_packet.specs.declared.packets.Dialect.TheVariants.{Newer}
+use Rattle.rl_packet.specs.Packets.{spoken}
 use Rattle.rl_packet.specs.declared.packets.Packet.TheVariants as packet
 use Rattle.ds_space.specs.References.{reference_value}
 use Rattle.rl_ports.specs.declared.ports.PortsFault.{PortsFault}
@@ -34,7 +38,7 @@ use Rattle.hub_machine.specs.Faults.{Fault, Overrun, error_of}
 use Rattle.rl_packet.specs.Wired.{IsTurnEvent}
 use Rattle.std.specs.List.{AllByRecursion}
 use Rattle.hub_machine.specs.State.{State, ports_of}
-use Rattle.hub_machine.specs.Admission.{Admitted, refused, admitted, Admitting, admission}
+use Rattle.hub_machine.specs.Admission.{Admitted, refused, admitted, Admitting, turn_admission}
 use Rattle.hub_machine.specs.Endings.{nameless, departed_for, closed, failed, finished}
 use Rattle.hub_machine.specs.declared.steps.Step.{Step}
 use Rattle.hub_machine.specs.declared.steps.Step.TheVariants.{Bind, Watch, Arrive, Packet, Bad, Close, Turn, Work, Stop}
@@ -127,9 +131,9 @@ abbrev pub judged : ℕ → Admitted → State → After
 judged k (refused f) s = ends [] (departed_for k f s) (Refused f)
 judged k (admitted x) s = ends [] (accepted k x s) Taken
 
-abbrev pub packet_at : ℕ → Option PortsState → List TurnEvent → State → After
-packet_at k None es s = unchanged s Gone
-packet_at k (Some ports) es s = judged k (admission k ports s.world es) (nameless k s)
+abbrev pub packet_at : ℕ → Option PortsState → TurnRecord → State → After
+packet_at k None t s = unchanged s Gone
+packet_at k (Some ports) t s = judged k (turn_admission k ports s.world t) (nameless k s)
 
 -- ---- an end that its peer brings about
 
@@ -168,8 +172,10 @@ sent_event exports k (told.Message entity v) =
 sent_event exports k (told.Sync entity peer) =
     record { oid = entity; event = Sync (crossed_out exports k (embedded peer)) }
 
-abbrev pub packet_to : List Plain → ℕ → Batch → Reply
-packet_to exports k b = Sent (packet.Turn (map (sent_event exports k) b.events))
+-- a connection without a dialect is told in the newer one
+abbrev pub packet_to : List Plain → Option Dialect → ℕ → Batch → Reply
+packet_to exports d k b =
+    Sent (packet.Turn (spoken (unwrap_or d Newer) (map (sent_event exports k) b.events)))
 
 -- more would be exported than may be
 abbrev pub overrun_by : PortsFault → Option Fault
@@ -191,7 +197,7 @@ exporting k b ports s =
 -- the packet is sent, and what it tells of is exported; or the connection ends
 abbrev pub told_unless : Option Fault → ℕ → PortsState → Batch → State → After
 told_unless (Some f) k ports b s = ends [] (failed k f s) (Refused f)
-told_unless None k ports b s = ends [] (exporting k b ports s) (packet_to (exports_after k b ports) k b)
+told_unless None k ports b s = ends [] (exporting k b ports s) (packet_to (exports_after k b ports) ports.dialect k b)
 
 -- a connection that takes a batch is live, and has names: it doesn't come about that it has none
 abbrev pub tell : ℕ → Option PortsState → Batch → State → After
@@ -237,7 +243,7 @@ abbrev pub done : State → Step → After
 done s (Bind b) = bind_unless (is_barred b s) b s
 done s (Watch x) = watch_unless (is_unwatchable x s) x s
 done s (Arrive space) = arrive_unless (refusal space s) space s
-done s (Packet k es) = packet_at k (ports_of k s) es s
+done s (Packet k t) = packet_at k (ports_of k s) t s
 done s (Bad k f) = bad_at k (ports_of k s) f s
 done s (Close k) = close_at k (ports_of k s) s
 done s (Turn a) = turn_of a s
@@ -253,7 +259,7 @@ abbrev pub IsAllowed : State → Step → Type 0
 IsAllowed s (Bind b) = IsSound b.cap
 IsAllowed s (Watch x) = Unit {0}
 IsAllowed s (Arrive space) = Unit {0}
-IsAllowed s (Packet k es) = AllByRecursion IsTurnEvent es
+IsAllowed s (Packet k t) = AllByRecursion IsTurnEvent t.events
 IsAllowed s (Bad k f) = Unit {0}
 IsAllowed s (Close k) = Unit {0}
 IsAllowed s (Turn a) = Unit {0}

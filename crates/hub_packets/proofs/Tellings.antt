@@ -48,11 +48,12 @@ pub record AreTold (k : ℕ) (old : PortsState) (all : List Told) (ports : Ports
   pub exports : all_exported ports.exports (foreign_among k rest) ≡ all_exported old.exports (foreign_among k all)
   pub faults : fault_out ports.exports (foreign_among k rest) ≡ fault_out old.exports (foreign_among k all)
   pub handles : ports.handles ≡ old.handles
+  pub dialect : ports.dialect ≡ old.dialect
   pub events : sent ++ map (sent_event (all_exported old.exports (foreign_among k all)) k) rest
       ≡ map (sent_event (all_exported old.exports (foreign_among k all)) k) all
 
 pub none_told : (k : ℕ) (old : PortsState) (all : List Told) → AreTold k old all old [] all
-none_told k old all = record { exports = refl; faults = refl; handles = refl; events = refl }
+none_told k old all = record { exports = refl; faults = refl; handles = refl; dialect = refl; events = refl }
 
 pub one_told : (k : ℕ) (old : PortsState) (all : List Told) (ports ports1 : PortsState) (sent : List TurnEvent)
     (e : Told) (rest : List Told) (t : TurnEvent) → AreTold k old all ports sent (e ∷ rest)
@@ -77,6 +78,7 @@ one_told k old all ports ports1 sent e rest t told now free is =
           ∙ ap (λ (o : Option PortsFault). option_or o (fault_out (all_exported ports.exports here) later)) free)
           ∙ told.faults;
       handles = ap (λ (p : PortsState). p.handles) now ∙ told.handles;
+      dialect = ap (λ (p : PortsState). p.dialect) now ∙ told.dialect;
       events = append_assoc sent (t ∷ []) _
           ∙ ap (λ (x : TurnEvent). sent ++ x
           ∷ map (sent_event (all_exported old.exports (foreign_among k all)) k) rest) same
@@ -107,6 +109,6 @@ pub all_told : (k : ℕ) (old : PortsState) (all : List Told) (ports : PortsStat
     × (fault_out old.exports (foreign_among k all) ≡ None)
 all_told k old all ports sent told = (
   sym (append-nil sent) ∙ told.events ∙ ap (λ (xs : List Plain). map (sent_event xs k) all) (sym told.exports),
-  λ i. record { exports = told.exports i; handles = told.handles i },
+  λ i. record { exports = told.exports i; handles = told.handles i; dialect = told.dialect i },
   sym told.faults,
 )

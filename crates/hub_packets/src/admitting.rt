@@ -20,7 +20,7 @@ use ds_space::Space;
 use hub_machine::{BACKLOG, BACKLOG_WEIGHT, Fault, HANDLES, ROWS_WEIGHT, TURN_EVENTS, over};
 use lc_watch::Behaves;
 use pv_value::{NoMemory, Node, Value, weight};
-use rl_packet::{Event, Turn, TurnEvent};
+use rl_packet::{Event, TurnEvent, TurnEvents};
 use rl_ports::{Inbound, Ports};
 use rl_wire::wire_in;
 use sr_caveat::Cap;
@@ -497,18 +497,18 @@ pub fn admission<S: Space + Drop, J: Judge + Drop, B: Behaves + Drop>(
     alloc: Global,
     connection: u32,
     ports: Ports,
-    turn: &Turn,
+    events: &TurnEvents,
     world: &World<S, J, B>,
 ) -> Result<Admitting, Refusal>
     requires small { connection ≤ 2 ^ 31 }
     requires next { world.now.table.next < worn_handle }
     ensures admitted { IfOk result
-        (λ x. admission connection ports world.now turn.now ≡ admitted x) }
+        (λ x. admission connection ports world.now events.now ≡ admitted x) }
     ensures refused { IfErr result
-        (IsRefusedFor (admission connection ports world.now turn.now)) }
+        (IsRefusedFor (admission connection ports world.now events.now)) }
 {
-    refuse_for(over(TURN_EVENTS, 3, turn.len() as u64))?;
+    refuse_for(over(TURN_EVENTS, 3, events.len() as u64))?;
     let mut admitting = Admitting::new(alloc, connection, ports, world);
-    admitting.admit_all(alloc, connection, turn.as_slice(), world)?;
+    admitting.admit_all(alloc, connection, events.as_slice(), world)?;
     Ok(admitting)
 }

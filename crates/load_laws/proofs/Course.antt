@@ -102,9 +102,9 @@ module _ (k : ℕ) where
     -- a packet, what is none, and what is next of either kind
     packet_fine : (p : Packet) (st : StreamState) (more : Running → Course) (r : Running) → IsOpen k (state_of r)
         → ((t : Running) → IsOpen k (state_of t) → IsFine k (more t)) → IsFine k (with_packet j p st more r)
-    packet_fine (packet.Turn es) st more r o later =
-        on_fine k k (read_where j st more) (stepped (step.Packet j es) r)
-        (stepped_fine (step.Packet j es) r (packet_keeps k j es) o) (λ t q. where_fine st more t q later)
+    packet_fine (packet.Turn t) st more r o later =
+        on_fine k k (read_where j st more) (stepped (step.Packet j t) r)
+        (stepped_fine (step.Packet j t) r (packet_keeps k j t) o) (λ u q. where_fine st more u q later)
     packet_fine (packet.Error message detail) st more r o later =
         stepped_fine (step.Close j) (with_stream j st r) (close_keeps k j) o
     packet_fine packet.Nop st more r o later = later r o

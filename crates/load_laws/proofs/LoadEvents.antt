@@ -7,12 +7,11 @@ use Rattle.std.specs.Prelude.{IsSomeAnd}
 use Rattle.std.specs.List.{AllByRecursion}
 use Rattle.pv_binary.specs.Written.{written}
 use Rattle.rl_packet.specs.Packets.{packet_value}
-use Rattle.rl_packet.specs.declared.packets.Packet.TheVariants as packet
 use Rattle.rl_packet.specs.declared.packets.TurnEvent.{TurnEvent}
 use Rattle.sc_events.specs.Events.{event_of}
 use Rattle.sc_events.specs.declared.events.ScriptEvent.TheVariants.{Bytes}
 use Rattle.sc_load.specs.Limits.{most_items}
-use Rattle.sc_load.specs.Loads.{rounded_up, observes, loads, bytes_event, sent_by, connection_of, turn_of}
+use Rattle.sc_load.specs.Loads.{rounded_up, observes, loads, newer_packet, bytes_event, sent_by, connection_of, turn_of}
 use Rattle.sc_load.specs.Loads.{turns_of, all_turns, opens}
 use Rattle.load_laws.specs.LoadEvents.{connections_of, IsArrival, IsSending, WriteEvents, LoadsAreOfEvents}
 
@@ -28,10 +27,10 @@ arrivals (suc k) = both (λ v. IsSomeAnd (event_of v) IsArrival) (opens k) _ (ar
 -- ---- a turn
 
 pub bytes_written : (j : ℕ) (es : List TurnEvent) → j < 2 ^ 32
-    → event_of (bytes_event j es) ≡ Some (Bytes j (written (packet_value (packet.Turn es))))
+    → event_of (bytes_event j es) ≡ Some (Bytes j (written (packet_value (newer_packet es))))
 bytes_written j es small =
     let is : nat_lt j (2 ^ 32) ≡ true = grind (arith, nat_tests, small) in
-    ap (λ b. option_map (λ k. Bytes k (written (packet_value (packet.Turn es)))) (if b then Some j else None)) is
+    ap (λ b. option_map (λ k. Bytes k (written (packet_value (newer_packet es)))) (if b then Some j else None)) is
 
 sends : (k j : ℕ) (es : List TurnEvent) → k ≤ 10 → 1 ≤ j → j ≤ k → WriteEvents (IsSending k) (sent_by j es)
 sends k j es few some own =

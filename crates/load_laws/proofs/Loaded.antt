@@ -1,6 +1,7 @@
 -- A server in which nothing but a load goes on, and what its steps send: no more than what may come of the world.
 use Rattle.std.proofs.Common.{◌≡◌, ℕ, ◌+◌, ◌*◌, ◌-◌, ◌≤◌, List, [], length}
 use Rattle.std.proofs.Common.{Option, Some, None, refl, ◌∙◌, arith}
+use Rattle.std.specs.Prelude.{unwrap_or}
 use Rattle.std.specs.List.{AllByRecursion}
 use Rattle.pv_value.specs.Plain.{Plain}
 use Rattle.pv_binary.specs.Written.{written}
@@ -12,12 +13,14 @@ use Rattle.ac_world.specs.declared.turns.Turned.TheVariants as turned
 use Rattle.ac_world.specs.Turns.{turn}
 use Rattle.ac_world.specs.Worlds.{without_entry, actor_of}
 use Rattle.ac_world.specs.Lemmas.Entries.{each_with, each_without, each_found}
+use Rattle.rl_packet.specs.declared.packets.Dialect.TheVariants.{Newer}
 use Rattle.rl_packet.specs.declared.packets.TurnEvent.{TurnEvent}
+use Rattle.rl_packet.specs.declared.packets.Turn.{Turn as TurnRecord}
 use Rattle.rl_packet.specs.Packets.{packet_value}
 use Rattle.rl_ports.specs.Ports.{PortsState, ports_to, with_exports}
 use Rattle.hub_machine.specs.declared.faults.Fault.{Fault}
 use Rattle.hub_machine.specs.State.{State, opening, ports_of}
-use Rattle.hub_machine.specs.Admission.{Admitted, refused, admitted, admission}
+use Rattle.hub_machine.specs.Admission.{Admitted, refused, admitted, turn_admission}
 use Rattle.hub_machine.specs.Endings.{nameless, failed, dismissed, finished}
 use Rattle.hub_machine.specs.Machine.{After, actor_reference, opened, accepted, judged, packet_at, exporting}
 use Rattle.hub_machine.specs.Machine.{exports_after, telling_fault, told_unless, tell, fault_for, tell_fault}
@@ -114,13 +117,13 @@ module _ (start n : ℕ) (few : n ≤ 20000) where
       } in
       quiet c (judged j (admitted x) (nameless j s)) refl (ends_within c [] (accepted j x (nameless j s)) w)
 
-  pub packet_pays : (j : ℕ) (o : Option PortsState) (es : List TurnEvent) (s : State) → ports_of j s ≡ o
-      → AllByRecursion (IsEvent start n few j) es → IsLoaded s
-      → Pays (may_come s + 4 * length es) (packet_at j o es s)
-  packet_pays j None es s is all l = record { loaded = l; cost = omega arith }
-  packet_pays j (Some ports) es s is all l =
-      judged_pays j es (admission j ports s.world es) s
-      (packet_admits start n few j ports s.world es
+  pub packet_pays : (j : ℕ) (o : Option PortsState) (t : TurnRecord) (s : State) → ports_of j s ≡ o
+      → AllByRecursion (IsEvent start n few j) t.events → IsLoaded s
+      → Pays (may_come s + 4 * length t.events) (packet_at j o t s)
+  packet_pays j None t s is all l = record { loaded = l; cost = omega arith }
+  packet_pays j (Some ports) t s is all l =
+      judged_pays j t.events (turn_admission j ports s.world t) s
+      (packet_admits start n few j ports s.world t
       (each_found IsNamed j ports s.connections l.names (kept_of j ports s is)) all) l
 
   -- ---- turns
@@ -142,7 +145,7 @@ module _ (start n : ℕ) (few : n ≤ 20000) where
         cost = omega arith;
       } in
       let ended = ends_within (may_come s) [] (exporting k b ports s) w in
-      let short = packet_short start n a far exports k b fit in
+      let short = packet_short start n a far exports (unwrap_or ports.dialect Newer) k b fit in
       record {
         loaded = ended.loaded;
         cost = let x = ended.cost in omega (arith, x, short, less);

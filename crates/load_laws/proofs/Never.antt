@@ -7,7 +7,6 @@ use Rattle.pv_value.specs.Plain.{Plain}
 use Rattle.pv_words.specs.Words.{labelled, number}
 use Rattle.pv_binary.specs.Written.{written}
 use Rattle.rl_packet.specs.Packets.{packet_value}
-use Rattle.rl_packet.specs.declared.packets.Packet.TheVariants as packet
 use Rattle.rl_packet.specs.declared.packets.TurnEvent.{TurnEvent}
 use Rattle.rl_stream.specs.Nexts.{OneNext, Decider, Decides}
 use Rattle.sc_events.specs.Events.{event_of}
@@ -17,8 +16,8 @@ use Rattle.sc_events.specs.declared.inputs.Form.TheVariants.{Binary}
 use Rattle.sc_schema.specs.Courses.{after_value, after_values, ended, course_of, IsCourseOfValues}
 use Rattle.sc_schema.specs.Firsts.{first_text, IsVerdict}
 use Rattle.sc_schema.specs.Lemmas.Courses.{in_parts, IsOneReading}
-use Rattle.sc_load.specs.Loads.{rounded_up, observes, loads, bytes_event, sent_by, events_of, connection_of, turn_of}
-use Rattle.sc_load.specs.Loads.{turns_of, all_turns, opens, load_events, load_bytes}
+use Rattle.sc_load.specs.Loads.{rounded_up, observes, loads, newer_packet, bytes_event, sent_by, events_of}
+use Rattle.sc_load.specs.Loads.{connection_of, turn_of, turns_of, all_turns, opens, load_events, load_bytes}
 use Rattle.sc_script.specs.Limits.{most_sent}
 use Rattle.sc_script.specs.Runs.{Running, Cause, Course, goes, stops, bad, beginning, doing, after_event, bytes_come}
 use Rattle.load_laws.specs.LoadEvents.{connections_of, IsArrival, WriteEvents}
@@ -39,7 +38,7 @@ use Rattle.load_laws.proofs.Whole.{no_text, in_order, opens_counted, sent_in}
 
 -- the bytes of a turn that connection j sends
 abbrev IsTurnOf : ℕ → List TurnEvent → ScriptEvent → Type 0
-IsTurnOf j es e = e ≡ Bytes j (written (packet_value (packet.Turn es)))
+IsTurnOf j es e = e ≡ Bytes j (written (packet_value (newer_packet es)))
 
 -- a drain of 10,000 turns at most
 abbrev IsDrain : ScriptEvent → Type 0
@@ -84,12 +83,12 @@ module _ (start n : ℕ) (few : n ≤ 20000) (one : OneNext) (N : Decider) (deci
 
   turn_kept : (k c j m : ℕ) (es : List TurnEvent) (o : Option ScriptEvent) (r : Running) → 1 ≤ j → j ≤ k
       → AllByRecursion (IsEvent start n few j) es → AllByRecursion IsSent es
-      → length (written (packet_value (packet.Turn es))) ≤ 125002 → length es ≤ 500 → c + 200200 ≤ most_sent
+      → length (written (packet_value (newer_packet es))) ≤ 125002 → length es ≤ 500 → c + 200200 ≤ most_sent
       → IsSomeAnd o (IsTurnOf j es) → IsKept start n few k c r
       → Goes start n few k (c + 200200) (after_value (doing N) m o r)
   turn_kept k c j m es None r some own events sent short count most is p = absurd is
   turn_kept k c j m es (Some e) r some own events sent short count most is p =
-      let b : List ℕ = written (packet_value (packet.Turn es)) in
+      let b : List ℕ = written (packet_value (newer_packet es)) in
       let less : c + (400 * length es + 200) ≤ c + 200200 = omega (arith, count) in
       let all = bytes_kept start n few one N decides j k c es events sent short (omega (arith, less, most)) r p in
       subst (λ x. Goes start n few k (c + 200200) (after_event N m x r)) (sym is)
@@ -105,7 +104,7 @@ module _ (start n : ℕ) (few : n ≤ 20000) (one : OneNext) (N : Decider) (deci
 
   pair_kept : (k c m j : ℕ) (es : List TurnEvent) (r : Running) → 1 ≤ j → j ≤ k → k ≤ 10
       → AllByRecursion (IsEvent start n few j) es → AllByRecursion IsSent es
-      → length (written (packet_value (packet.Turn es))) ≤ 125002 → length es ≤ 500 → c + 2200200 ≤ most_sent
+      → length (written (packet_value (newer_packet es))) ≤ 125002 → length es ≤ 500 → c + 2200200 ≤ most_sent
       → IsKept start n few k c r → Goes start n few k (c + 2200200) (after_values (doing N) m (sent_by j es) r)
   pair_kept k c m j es r some own low events sent short count most p =
       let drain : Plain = labelled (codes "drain") (number 10000 ∷ []) in

@@ -17,12 +17,12 @@ use Rattle.ac_world.specs.Lemmas.Entries.{KeysAscend, AreAbove, ascend_none, asc
 use Rattle.ac_world.specs.Lemmas.Entries.{each_without, each_found}
 use Rattle.ac_world.specs.Turns.{turn}
 use Rattle.ac_world.specs.Worlds.{with_entry, without_entry, entry_of, actor_of}
-use Rattle.rl_packet.specs.declared.packets.TurnEvent.{TurnEvent}
+use Rattle.rl_packet.specs.declared.packets.Turn.{Turn as TurnRecord}
 use Rattle.rl_ports.specs.Ports.{PortsState, ports_to, with_exports}
 use Rattle.hub_machine.specs.declared.faults.Fault.{Fault}
 use Rattle.hub_machine.specs.Limits.{most_connections}
 use Rattle.hub_machine.specs.State.{State, opening, ports_of}
-use Rattle.hub_machine.specs.Admission.{Admitted, refused, admitted, admission}
+use Rattle.hub_machine.specs.Admission.{Admitted, refused, admitted, turn_admission}
 use Rattle.hub_machine.specs.Endings.{nameless, closed, failed, dismissed, finished}
 use Rattle.hub_machine.specs.Machine.{unchanged, opened, refusal, arrive_unless, accepted, judged, packet_at, bad_at}
 use Rattle.hub_machine.specs.Machine.{close_at, telling_fault, exporting, exports_after, told_unless, tell, fault_for}
@@ -183,10 +183,10 @@ module _ (k : ℕ) where
     done = tt;
   }
 
-  pub packet_open : (j : ℕ) (o : Option PortsState) (es : List TurnEvent) (s : State) → ports_of j s ≡ o → IsOpen k s
-      → Does k (packet_at j o es s)
-  packet_open j None es s is p = record { state = p; done = tt }
-  packet_open j (Some ports) es s is p = judged_open j ports (admission j ports s.world es) s is p
+  pub packet_open : (j : ℕ) (o : Option PortsState) (t : TurnRecord) (s : State) → ports_of j s ≡ o → IsOpen k s
+      → Does k (packet_at j o t s)
+  packet_open j None t s is p = record { state = p; done = tt }
+  packet_open j (Some ports) t s is p = judged_open j ports (turn_admission j ports s.world t) s is p
 
   bad_open : (j : ℕ) (o : Option PortsState) (f : Fault) (s : State) → IsOpen k s → Does k (bad_at j o f s)
   bad_open j None f s p = record { state = p; done = tt }
@@ -294,8 +294,8 @@ module _ (k : ℕ) where
       by true d = record { state = p; room = tt }
       by false d = record { state = d.state; room = has_room (done s e).reply d.done }
 
-  pub packet_keeps : (j : ℕ) (es : List TurnEvent) → KeepsOpen k (Packet j es)
-  packet_keeps j es = keeps (Packet j es) (λ s p. packet_open k j (ports_of j s) es s refl p)
+  pub packet_keeps : (j : ℕ) (t : TurnRecord) → KeepsOpen k (Packet j t)
+  packet_keeps j t = keeps (Packet j t) (λ s p. packet_open k j (ports_of j s) t s refl p)
 
   pub bad_keeps : (j : ℕ) (f : Fault) → KeepsOpen k (Bad j f)
   bad_keeps j f = keeps (Bad j f) (λ s p. bad_open k j (ports_of j s) f s p)

@@ -12,14 +12,16 @@ use Rattle.ac_world.specs.declared.acts.Act.TheVariants as act
 use Rattle.ac_world.specs.Worlds.{WorldState}
 use Rattle.rl_packet.specs.declared.packets.Event.TheVariants.{Assert}
 use Rattle.rl_packet.specs.declared.packets.TurnEvent.{TurnEvent}
-use Rattle.rl_ports.specs.Ports.{PortsState}
+use Rattle.rl_packet.specs.declared.packets.Turn.{Turn as TurnRecord}
+use Rattle.rl_ports.specs.Ports.{PortsState, speaking, with_exports}
 use Rattle.rl_wire.specs.Crossing.{crossed_in, reference_in, wire_where}
 use Rattle.rl_wire.specs.declared.wires.Wire.TheVariants.{Own}
 use Rattle.hub_machine.specs.declared.faults.Fault.{Fault}
 use Rattle.hub_machine.specs.Limits.{most_events}
 use Rattle.hub_machine.specs.Faults.{over}
 use Rattle.hub_machine.specs.Admission.{Admitting, Admitted, refused, admitted, before_all, unless, all_admitted}
-use Rattle.hub_machine.specs.Admission.{admission, cause_of, after, after_at, cap_at}
+use Rattle.hub_machine.specs.Admission.{admission, turn_admission, cause_of, after, after_at, cap_at}
+use Rattle.hub_machine.specs.Lemmas.Dialects.{by_dialect}
 use Rattle.hub_machine.specs.Machine.{actor_reference}
 use Rattle.sc_load.specs.Loads.{pattern_of, observation, loading, connection_of, observes, loads}
 use Rattle.load_laws.proofs.Captures.{IsItem, observed}
@@ -74,7 +76,7 @@ module _ (start n : ℕ) (few : n ≤ 20000) (j : ℕ) where
   at_space : (x : Admitting) → x.ports.exports ≡ first_export
       → cap_at 0 x.ports ≡ Some (record { actor = 1; entity = 0; caveats = [] })
   at_space x is =
-      ap (λ es. cap_at 0 (record { exports = es; handles = x.ports.handles })) is
+      ap (λ es. cap_at 0 (with_exports es x.ports)) is
       ∙ cap_back (record { actor = 1; entity = 0; caveats = [] }) (omega arith, omega arith, tt)
 
   event_admits : (m : ℕ) (w : WorldState) (e : TurnEvent) (x : Admitting) → IsEvent e → Admits m x
@@ -105,9 +107,9 @@ module _ (start n : ℕ) (few : n ≤ 20000) (j : ℕ) where
       by None later = subst (λ k. IsGood k (all_admitted j w es (after j w e x))) (omega arith) later
       by (Some f) later = tt
 
-  pub packet_admits : (ports : PortsState) (w : WorldState) (es : List TurnEvent) → ports.exports ≡ first_export
+  admission_good : (ports : PortsState) (w : WorldState) (es : List TurnEvent) → ports.exports ≡ first_export
       → AllByRecursion IsEvent es → IsGood (length es) (admission j ports w es)
-  packet_admits ports w es own all =
+  admission_good ports w es own all =
       by (over most_events 3 (length es))
       (events_admit 0 w es (before_all j ports w) all (record { exports = own; acts = tt; count = omega arith }))
     where
@@ -115,3 +117,9 @@ module _ (start n : ℕ) (few : n ≤ 20000) (j : ℕ) where
           → IsGood (length es) (unless o (all_admitted j w es (before_all j ports w)))
       by None good = subst (λ k. IsGood k (all_admitted j w es (before_all j ports w))) (omega arith) good
       by (Some f) good = tt
+
+  -- so it is in whichever dialect the packet is
+  pub packet_admits : (ports : PortsState) (w : WorldState) (t : TurnRecord) → ports.exports ≡ first_export
+      → AllByRecursion IsEvent t.events → IsGood (length t.events) (turn_admission j ports w t)
+  packet_admits ports w t own all =
+      by_dialect (IsGood (length t.events)) j ports w t tt (admission_good (speaking t.dialect ports) w t.events own all)

@@ -13,13 +13,12 @@ use Rattle.pv_binary.specs.Spells.{Spells}
 use Rattle.pv_binary.specs.Reads.{Leads}
 use Rattle.pv_binary.proofs.Written.{spelled}
 use Rattle.rl_packet.specs.Packets.{packet_value}
-use Rattle.rl_packet.specs.declared.packets.Packet.TheVariants.{Turn}
 use Rattle.rl_packet.specs.declared.packets.TurnEvent.{TurnEvent}
 use Rattle.sc_events.specs.Inputs.{AreRead}
 use Rattle.sc_events.specs.Limits.{most_input}
 use Rattle.sc_load.specs.Limits.{most_items}
-use Rattle.sc_load.specs.Loads.{rounded_up, observes, loads, sent_by, connection_of, turn_of, turns_of, all_turns}
-use Rattle.sc_load.specs.Loads.{opens, load_events, load_bytes}
+use Rattle.sc_load.specs.Loads.{rounded_up, observes, loads, newer_packet, sent_by, connection_of, turn_of}
+use Rattle.sc_load.specs.Loads.{turns_of, all_turns, opens, load_events, load_bytes}
 use Rattle.load_laws.specs.LoadEvents.{connections_of}
 use Rattle.load_laws.proofs.LoadEvents.{both, few_connections, own_turn}
 use Rattle.load_laws.proofs.Spelled.{all_small, small_text}
@@ -110,7 +109,7 @@ opens_readable (suc k) =
 
 turn_readable : (j : ℕ) (es : List TurnEvent) → j < 2 ^ 32 → AllByRecursion IsReadable (sent_by j es)
 turn_readable j es own = (
-  sending_readable (codes "bytes") refl (omega arith) j (written (packet_value (Turn es))) own,
+  sending_readable (codes "bytes") refl (omega arith) j (written (packet_value (newer_packet es))) own,
   (number_readable (codes "drain") refl (omega arith) 10000 (omega arith), tt),
 )
 

@@ -1,5 +1,5 @@
 -- The run of a load, where packets are told as they stand: no step of it passes a limit.
-use Rattle.std.proofs.Common.{◌≡◌, ℕ, zero, suc, ◌+◌, ◌*◌, ◌-◌, ◌^◌, ◌<◌, ◌≤◌, List, [], ◌∷◌, ◌++◌, length, drop, Bool}
+use Rattle.std.proofs.Common.{◌≡◌, ℕ, zero, suc, ◌+◌, ◌*◌, ◌^◌, ◌<◌, ◌≤◌, List, [], ◌∷◌, ◌++◌, length, drop, Bool}
 use Rattle.std.proofs.Common.{true, false, cond, nat_le, nat_lt, Option, Some, None, refl, sym, subst, ap, ◌∙◌, arith}
 use Rattle.std.proofs.Common.{length-append, append-nil, append_assoc}
 use Rattle.std.specs.Prelude.{unwrap_or}
@@ -8,9 +8,10 @@ use Rattle.std.proofs.lemmas.Bool.Decides.{nat_tests}
 use Rattle.pv_binary.specs.Written.{written}
 use Rattle.ac_world.specs.Worlds.{entry_of}
 use Rattle.ac_world.specs.Lemmas.Entries.{each_with, each_without, each_found}
-use Rattle.rl_packet.specs.Packets.{packet_value}
+use Rattle.rl_packet.specs.Packets.{packet_value, spoken}
 use Rattle.rl_packet.specs.declared.packets.Packet.{Packet}
-use Rattle.rl_packet.specs.declared.packets.Packet.TheVariants as packet
+use Rattle.rl_packet.specs.declared.packets.Dialect.TheVariants.{Newer}
+use Rattle.rl_packet.specs.declared.packets.Turn.{Turn as TurnRecord}
 use Rattle.rl_packet.specs.declared.packets.TurnEvent.{TurnEvent}
 use Rattle.rl_stream.specs.declared.nexts.Next.TheVariants as next
 use Rattle.rl_stream.specs.Nexts.{OneNext, Decider, Decides}
@@ -29,6 +30,7 @@ use Rattle.sc_script.specs.Limits.{most_sent}
 use Rattle.sc_script.specs.Runs.{Running, Course, goes, stops, goes_on, limit, state_of, sent_size, with_step}
 use Rattle.sc_script.specs.Runs.{all_sent_from, spelled, by_reply, stepped, turned_where, drained}
 use Rattle.sc_script.specs.Runs.{stream_of, with_stream, read_where, with_next, all_read, without_stream, bytes_come}
+use Rattle.sc_load.specs.Loads.{newer_packet}
 use Rattle.load_laws.proofs.Costs.{rows_cost, actors_cost}
 use Rattle.load_laws.proofs.Loaded.{IsLoaded, Pays, may_come, reply_size, packet_pays, turn_pays, arrival_pays}
 use Rattle.load_laws.proofs.Opened.{IsOpen, IsDone, Does, packet_open, turn_open, arrives, may_come_in}
@@ -258,20 +260,24 @@ module _ (start n : ℕ) (few : n ≤ 20000) where
 
     -- one turn comes
     module _ (k c : ℕ) (es : List TurnEvent) (events : AllByRecursion (IsEvent start n few j) es)
-        (sent : AllByRecursion IsSent es) (short : length (written (packet_value (packet.Turn es))) ≤ 125002)
+        (sent : AllByRecursion IsSent es) (short : length (written (packet_value (newer_packet es))) ≤ 125002)
         (most : c + (400 * length es + 200) ≤ most_sent) where
       abbrev bytes : List ℕ
-      bytes = written (packet_value (packet.Turn es))
+      bytes = written (packet_value (newer_packet es))
+
+      abbrev turn : TurnRecord
+      turn = spoken Newer es
 
       abbrev end : ℕ
       end = c + (400 * length es + 200)
 
-      packet_kept : (r : Running) → IsKept k c r → Goes k end (stepped (step.Packet j es) r)
+      packet_kept : (r : Running) → IsKept k c r → Goes k end (stepped (step.Packet j turn) r)
       packet_kept r p =
           let s : State = state_of r in
-          step_kept k k c (may_come s + 4 * length es) (400 * length es + 200) (step.Packet j es) r
-          (handles_left k c r (omega (arith, most)) p) (packet_open k j (ports_of j s) es s refl p.opened)
-          (packet_pays start n few j (ports_of j s) es s refl events p.loaded) (four_more (may_come s) (length es)) most p
+          step_kept k k c (may_come s + 4 * length es) (400 * length es + 200) (step.Packet j turn) r
+          (handles_left k c r (omega (arith, most)) p) (packet_open k j (ports_of j s) turn s refl p.opened)
+          (packet_pays start n few j (ports_of j s) turn s refl events p.loaded) (four_more (may_come s) (length es))
+          most p
 
       turn_read : (m place : ℕ) (r : Running) → IsKept k c r
           → Goes k end (all_read N j (suc m) (record { rest = bytes; place = place }) r)
@@ -280,8 +286,8 @@ module _ (start n : ℕ) (few : n ≤ 20000) where
           let whole = turn_next one N decides es place sent (omega (arith, short)) in
           let left : StreamState = read_off (length bytes) st in
           subst (λ y. Goes k end (with_next j y st (λ size. all_read N j m (read_off size st)) r)) (sym whole)
-          (on_kept k end k end (read_where j left (all_read N j m left)) (stepped (step.Packet j es) r) (packet_kept r p)
-          (λ t q. where_kept k end m left t (nothing_left bytes) q))
+          (on_kept k end k end (read_where j left (all_read N j m left)) (stepped (step.Packet j turn) r)
+          (packet_kept r p) (λ t q. where_kept k end m left t (nothing_left bytes) q))
 
       pub bytes_kept : (r : Running) → IsKept k c r → Goes k end (bytes_come N j bytes r)
       bytes_kept r p = by (is_there j (state_of r))

@@ -1,12 +1,16 @@
 -- How many bytes what a load says and is told takes at most.
 use Rattle.std.proofs.Common.{◌≡◌, ℕ, zero, suc, ◌+◌, ◌*◌, ◌<◌, ◌≤◌, List, [], ◌∷◌, ◌++◌, length, Bool, true, cond}
-use Rattle.std.proofs.Common.{refl, arith, length-append, nat_lt, pos, codes, ◌%◌, ◌/◌, ◌-◌, false, map, min}
+use Rattle.std.proofs.Common.{refl, sym, subst, arith, length-append, nat_lt, pos, codes, ◌%◌, ◌/◌, ◌-◌, false, map}
+use Rattle.std.proofs.Common.{min}
 use Rattle.std.specs.List.{AllByRecursion, flat_map}
 use Rattle.std.proofs.lemmas.Grind.{div_ceil_times}
 use Rattle.std.proofs.lemmas.Bool.Decides.{nat_tests}
 use Rattle.pv_value.specs.Plain.{Plain, sequence, byte_string, plains}
-use Rattle.rl_packet.specs.Packets.{packet_value, aimed_value}
+use Rattle.rl_packet.specs.Packets.{packet_value, aimed_value, spoken}
 use Rattle.rl_packet.specs.declared.packets.Packet.TheVariants.{Turn}
+use Rattle.rl_packet.specs.declared.packets.Dialect.{Dialect}
+use Rattle.rl_packet.specs.declared.packets.Dialect.TheVariants.{Newer, Older}
+use Rattle.rl_packet.specs.declared.packets.Event.TheVariants.{Assert, Retract}
 use Rattle.rl_packet.specs.declared.packets.TurnEvent.{TurnEvent}
 use Rattle.hub_machine.specs.declared.faults.Fault.{Fault}
 use Rattle.hub_machine.specs.declared.faults.Fault.TheVariants.{BadBytes, BadPacket, UnknownOid, HandleInUse}
@@ -14,8 +18,9 @@ use Rattle.hub_machine.specs.declared.faults.Fault.TheVariants.{UnknownHandle, L
 use Rattle.hub_machine.specs.Faults.{error_of}
 use Rattle.sc_events.specs.Limits.{most_input}
 use Rattle.sc_load.specs.Limits.{most_items}
-use Rattle.sc_load.specs.Loads.{observation, loading, drawn, rounded_up, observes, loads, bytes_event, sent_by, events_of}
-use Rattle.sc_load.specs.Loads.{connection_of, turn_of, turns_of, all_turns, opens, load_events, load_bytes}
+use Rattle.sc_load.specs.Loads.{observation, loading, drawn, rounded_up, observes, loads, newer_packet, bytes_event}
+use Rattle.sc_load.specs.Loads.{sent_by, events_of, connection_of, turn_of, turns_of, all_turns, opens, load_events}
+use Rattle.sc_load.specs.Loads.{load_bytes}
 use Rattle.pv_words.specs.Words.{labelled, number}
 use Rattle.pv_binary.specs.Written.{written, written_all}
 use Rattle.pv_binary.specs.Numbers.{varint, varint_in, int_bytes}
@@ -62,27 +67,34 @@ bytes_parts s = let few = varint_few (length s) (length s) in omega (arith, few)
 
 -- ---- events, as values
 
--- `[oid <A v h>]`
-abbrev pub asserting : ℕ → Plain → ℕ → Plain
-asserting oid v h = sequence (plains (number oid ∷ labelled (codes "A") (v ∷ number h ∷ []) ∷ []))
+-- `[oid <A v h>]`, or `[oid <assert v h>]`
+abbrev pub asserting : Dialect → ℕ → Plain → ℕ → Plain
+asserting d oid v h = aimed_value d (record { oid = oid; event = Assert v h })
 
--- it takes 42 bytes more than what it asserts, at most
-pub asserting_short : (oid : ℕ) (v : Plain) (h : ℕ) → length (written (asserting oid v h)) ≤ length (written v) + 45
-asserting_short oid v h =
+-- it takes 50 bytes more than what it asserts, at most
+pub asserting_short : (d : Dialect) (oid : ℕ) (v : Plain) (h : ℕ)
+    → length (written (asserting d oid v h)) ≤ length (written v) + 50
+asserting_short Newer oid v h =
     let a = number_parts oid in
     let b = number_parts h in
     let c = varint_one 1 (omega arith) in
     simp length-append (omega (arith, a, b, c))
+asserting_short Older oid v h =
+    let a = number_parts oid in
+    let b = number_parts h in
+    let c = varint_one 6 (omega arith) in
+    simp length-append (omega (arith, a, b, c))
 
--- `[d]`
-pub told_short : (oid d h : ℕ) → length (written (asserting oid (sequence (plains (number d ∷ []))) h)) ≤ 100
-told_short oid d h =
-    let a = number_parts d in
-    let b = asserting_short oid (sequence (plains (number d ∷ []))) h in
-    let c : length (written (sequence (plains (number d ∷ [])))) ≤ 20 = simp length-append (omega (arith, a)) in
+-- `[n]`
+pub told_short : (d : Dialect) (oid n h : ℕ)
+    → length (written (asserting d oid (sequence (plains (number n ∷ []))) h)) ≤ 100
+told_short d oid n h =
+    let a = number_parts n in
+    let b = asserting_short d oid (sequence (plains (number n ∷ []))) h in
+    let c : length (written (sequence (plains (number n ∷ [])))) ≤ 20 = simp length-append (omega (arith, a)) in
     omega (arith, b, c)
 
-pub observation_short : (i h : ℕ) → length (written (asserting 0 (observation i) h)) ≤ 250
+pub observation_short : (i h : ℕ) → length (written (asserting Newer 0 (observation i) h)) ≤ 250
 observation_short i h =
     let a = number_parts i in
     let b = number_parts (i + 1) in
@@ -93,50 +105,66 @@ observation_short i h =
     let v4 = varint_one 4 (omega arith) in
     let v5 = varint_one 5 (omega arith) in
     let v7 = varint_one 7 (omega arith) in
-    let all = asserting_short 0 (observation i) h in
+    let all = asserting_short Newer 0 (observation i) h in
     let own : length (written (observation i)) ≤ 200 =
     simp length-append (omega (arith, a, b, c, d, v1, v3, v4, v5, v7)) in
     omega (arith, all, own)
 
-pub loading_short : (start i h : ℕ) → length (written (asserting 0 (loading start i) h)) ≤ 250
+pub loading_short : (start i h : ℕ) → length (written (asserting Newer 0 (loading start i) h)) ≤ 250
 loading_short start i h =
     let a = number_parts i in
     let b = number_parts (drawn start i) in
     let v4 = varint_one 4 (omega arith) in
-    let all = asserting_short 0 (loading start i) h in
+    let all = asserting_short Newer 0 (loading start i) h in
     let own : length (written (loading start i)) ≤ 200 = simp length-append (omega (arith, a, b, v4)) in
     omega (arith, all, own)
 
--- `[oid <R h>]`
-pub retracting_short : (oid h : ℕ)
-    → length (written (sequence (plains (number oid ∷ labelled (codes "R") (number h ∷ []) ∷ [])))) ≤ 100
-retracting_short oid h =
+-- `[oid <R h>]`, or `[oid <retract h>]`
+pub retracting_short : (d : Dialect) (oid h : ℕ)
+    → length (written (aimed_value d (record { oid = oid; event = Retract h }))) ≤ 100
+retracting_short Newer oid h =
     let a = number_parts oid in
     let b = number_parts h in
     let c = varint_one 1 (omega arith) in
     simp length-append (omega (arith, a, b, c))
+retracting_short Older oid h =
+    let a = number_parts oid in
+    let b = number_parts h in
+    let c = varint_one 7 (omega arith) in
+    simp length-append (omega (arith, a, b, c))
 
 -- ---- packets
 
-all_short : (c : ℕ) (es : List TurnEvent) → AllByRecursion (λ e. length (written (aimed_value e)) ≤ c) es
-    → length (written_all (plains (map aimed_value es))) ≤ c * length es
-all_short c [] all = omega arith
-all_short c (e ∷ es) all =
-    let later = all_short c es all.1 in
-    let first = all.0 in
-    omega (
-      arith,
-      first,
-      later,
-      length-append (written (aimed_value e)) (written_all (plains (map aimed_value es))),
-    )
+-- the value of a turn in a dialect
+pub spoken_value : (d : Dialect) (es : List TurnEvent)
+    → packet_value (Turn (spoken d es)) ≡ sequence (plains (map (aimed_value d) es))
+spoken_value d [] = refl
+spoken_value d (e ∷ es) = refl
 
--- a turn takes two bytes more than its events
-pub turn_short : (c : ℕ) (es : List TurnEvent) → AllByRecursion (λ e. length (written (aimed_value e)) ≤ c) es
-    → length (written (packet_value (Turn es))) ≤ 2 + c * length es
-turn_short c es all =
-    let few = all_short c es all in
-    omega (arith, few, length-append (written_all (plains (map aimed_value es))) (0x84 ∷ []))
+module _ (d : Dialect) (c : ℕ) where
+  abbrev AreNoLonger : List TurnEvent → Type 0
+  AreNoLonger es = AllByRecursion (λ e. length (written (aimed_value d e)) ≤ c) es
+
+  all_short : (es : List TurnEvent) → AreNoLonger es
+      → length (written_all (plains (map (aimed_value d) es))) ≤ c * length es
+  all_short [] all = omega arith
+  all_short (e ∷ es) all =
+      let later = all_short es all.1 in
+      let first = all.0 in
+      omega (
+        arith,
+        first,
+        later,
+        length-append (written (aimed_value d e)) (written_all (plains (map (aimed_value d) es))),
+      )
+
+  -- a turn takes two bytes more than its events
+  pub turn_short : (es : List TurnEvent) → AreNoLonger es
+      → length (written (packet_value (Turn (spoken d es)))) ≤ 2 + c * length es
+  turn_short es all =
+      let few = all_short es all in
+      subst (λ v. length (written v) ≤ 2 + c * length es) (sym (spoken_value d es))
+      (omega (arith, few, length-append (written_all (plains (map (aimed_value d) es))) (0x84 ∷ [])))
 
 -- so does an error
 pub error_short : (f : Fault) → length (written (packet_value (error_of f))) ≤ 200
@@ -246,13 +274,13 @@ events_all P event i (suc k) holds =
 
 -- each takes 250 bytes at most
 abbrev pub AreShort : (ℕ → TurnEvent) → Type 0
-AreShort event = (m : ℕ) → length (written (aimed_value (event m))) ≤ 250
+AreShort event = (m : ℕ) → length (written (aimed_value Newer (event m))) ≤ 250
 
 pub packet_of_turn : (event : ℕ → TurnEvent) (i k : ℕ) → AreShort event → k ≤ 500
-    → length (written (packet_value (Turn (events_of event i k)))) ≤ 125002
+    → length (written (packet_value (newer_packet (events_of event i k)))) ≤ 125002
 packet_of_turn event i k short few =
-    let all = events_all (λ e. length (written (aimed_value e)) ≤ 250) event i k (λ m low high. short m) in
-    let turn = turn_short 250 (events_of event i k) all in
+    let all = events_all (λ e. length (written (aimed_value Newer e)) ≤ 250) event i k (λ m low high. short m) in
+    let turn = turn_short Newer 250 (events_of event i k) all in
     let count = events_count event i k in
     omega (arith, turn, count, few)
 
@@ -275,11 +303,11 @@ pair_size : (v w : Plain) → size (v ∷ w ∷ []) ≡ length (written v) + len
 pair_size v w =
     omega (arith, length-append (written v) (written w ++ []), length-append (written w) [])
 
-sent_short : (j : ℕ) (es : List TurnEvent) → length (written (packet_value (Turn es))) ≤ 125002
+sent_short : (j : ℕ) (es : List TurnEvent) → length (written (packet_value (newer_packet es))) ≤ 125002
     → size (sent_by j es) ≤ 250200
 sent_short j es few =
     sums (length (written (bytes_event j es))) (length (written (labelled (codes "drain") (number 10000 ∷ []))))
-    (size (sent_by j es)) (sent_bytes j (written (packet_value (Turn es))) few) drain_short
+    (size (sent_by j es)) (sent_bytes j (written (packet_value (newer_packet es))) few) drain_short
     (pair_size (bytes_event j es) (labelled (codes "drain") (number 10000 ∷ [])))
   where
     sums : (a b c : ℕ) → a ≤ 250100 → b ≤ 50 → c ≡ a + b → c ≤ 250200

@@ -25,6 +25,7 @@ use Rattle.pv_binary.specs.Spells.{Spells}
 use Rattle.pv_binary.specs.Written.{written, written_all, written_pairs}
 use Rattle.pv_binary.proofs.Varints.{IsBytes}
 use Rattle.pv_binary.proofs.Written.{spelled}
+use Rattle.rl_packet.specs.declared.packets.Dialect.TheVariants.{Newer}
 use Rattle.sc_load.specs.Loads.{observation, loading, drawn}
 use Rattle.load_laws.proofs.Sizes.{asserting}
 
@@ -229,24 +230,24 @@ loading_small start i few = (
   (number_small i (omega (arith, few)), (number_small (drawn start i) (omega arith), tt)),
 )
 
-asserting_small : (oid h : ℕ) (v : Plain) → oid < 2 ^ 99 → h < 2 ^ 99 → IsSmall v → IsSmall (asserting oid v h)
+asserting_small : (oid h : ℕ) (v : Plain) → oid < 2 ^ 99 → h < 2 ^ 99 → IsSmall v → IsSmall (asserting Newer oid v h)
 asserting_small oid h v low few own = (
   number_small oid (omega (arith, low)),
   (((refl, omega arith), (own, (number_small h (omega (arith, few)), tt))), tt),
 )
 
-pub observation_event_small : (i : ℕ) → i < 2 ^ 64 → IsSmall (asserting 0 (observation i) (2 * i))
+pub observation_event_small : (i : ℕ) → i < 2 ^ 64 → IsSmall (asserting Newer 0 (observation i) (2 * i))
 observation_event_small i few =
     asserting_small 0 (2 * i) (observation i) (omega arith) (omega (arith, few))
     (observation_small i (omega (arith, few)))
 
-pub loading_event_small : (start i : ℕ) → i < 2 ^ 64 → IsSmall (asserting 0 (loading start i) (2 * i + 1))
+pub loading_event_small : (start i : ℕ) → i < 2 ^ 64 → IsSmall (asserting Newer 0 (loading start i) (2 * i + 1))
 loading_event_small start i few =
     asserting_small 0 (2 * i + 1) (loading start i) (omega arith) (omega (arith, few))
     (loading_small start i (omega (arith, few)))
 
-pub observation_shallow : (i h : ℕ) → depth (asserting 0 (observation i) h) ≤ 20
+pub observation_shallow : (i h : ℕ) → depth (asserting Newer 0 (observation i) h) ≤ 20
 observation_shallow i h = omega arith
 
-pub loading_shallow : (start i h : ℕ) → depth (asserting 0 (loading start i) h) ≤ 20
+pub loading_shallow : (start i h : ℕ) → depth (asserting Newer 0 (loading start i) h) ≤ 20
 loading_shallow start i h = omega arith

@@ -1,4 +1,4 @@
--- What a connection is told in the run of a load: no reference, and few bytes.
+-- What a connection is told in the run of a load, in either dialect: no reference, and few bytes.
 use Rattle.std.proofs.Common.{◌≡◌, ℕ, ◌+◌, ◌*◌, ◌≤◌, inl, inr, List, [], ◌∷◌, ◌++◌, ◌==◌, length, map}
 use Rattle.std.proofs.Common.{false, cond, Some, None, refl, sym, ap, subst, arith}
 use Rattle.std.specs.Prelude.{option_and_then}
@@ -10,8 +10,9 @@ use Rattle.ac_table.specs.declared.batches.Event.{Event}
 use Rattle.ac_table.specs.declared.batches.Event.TheVariants.{Assert, Retract, Message, Sync}
 use Rattle.ac_table.specs.declared.batches.Batch.{Batch}
 use Rattle.rl_packet.specs.declared.packets.Packet.TheVariants.{Turn}
+use Rattle.rl_packet.specs.declared.packets.Dialect.{Dialect}
 use Rattle.rl_packet.specs.declared.packets.TurnEvent.{TurnEvent}
-use Rattle.rl_packet.specs.Packets.{packet_value, aimed_value}
+use Rattle.rl_packet.specs.Packets.{packet_value, aimed_value, spoken}
 use Rattle.rl_ports.specs.Ports.{PortsState}
 use Rattle.hub_machine.specs.declared.faults.Fault.{Fault}
 use Rattle.hub_machine.specs.Faults.{error_of}
@@ -51,21 +52,22 @@ module _ (start n a : ℕ) (far : 17 ≤ a) where
 
   -- ---- few bytes
 
-  abbrev IsShort : TurnEvent → Type 0
-  IsShort e = length (written (aimed_value e)) ≤ 100
+  abbrev IsShort : Dialect → TurnEvent → Type 0
+  IsShort d e = length (written (aimed_value d e)) ≤ 100
 
-  event_short : (exports : List Plain) (k : ℕ) (e : Event) → IsOut start n e → IsShort (sent_event exports k e)
-  event_short exports k (Assert h entity v) own =
-      subst (λ x. IsShort (sent_event exports k (Assert h entity x))) (sym own.1) (told_short entity own.0 h)
-  event_short exports k (Retract h entity) own = retracting_short entity h
-  event_short exports k (Message entity v) own = absurd own
-  event_short exports k (Sync entity peer) own = absurd own
+  event_short : (exports : List Plain) (d : Dialect) (k : ℕ) (e : Event) → IsOut start n e
+      → IsShort d (sent_event exports k e)
+  event_short exports d k (Assert h entity v) own =
+      subst (λ x. IsShort d (sent_event exports k (Assert h entity x))) (sym own.1) (told_short d entity own.0 h)
+  event_short exports d k (Retract h entity) own = retracting_short d entity h
+  event_short exports d k (Message entity v) own = absurd own
+  event_short exports d k (Sync entity peer) own = absurd own
 
-  events_short : (exports : List Plain) (k : ℕ) (es : List Event) → AllByRecursion (Fits start n a) es
-      → AllByRecursion IsShort (map (sent_event exports k) es)
-  events_short exports k [] all = tt
-  events_short exports k (e ∷ es) all =
-      (event_short exports k e (is_out e all.0), events_short exports k es all.1)
+  events_short : (exports : List Plain) (d : Dialect) (k : ℕ) (es : List Event) → AllByRecursion (Fits start n a) es
+      → AllByRecursion (IsShort d) (map (sent_event exports k) es)
+  events_short exports d k [] all = tt
+  events_short exports d k (e ∷ es) all =
+      (event_short exports d k e (is_out e all.0), events_short exports d k es all.1)
 
   -- each costs one
   not_space : (a == 1) ≡ false
@@ -83,10 +85,11 @@ module _ (start n a : ℕ) (far : 17 ≤ a) where
   events_count exports k (e ∷ es) =
       let one = event_costs e in let later = events_count exports k es in omega (arith, one, later)
 
-  pub packet_short : (exports : List Plain) (k : ℕ) (b : Batch) → AllByRecursion (Fits start n a) b.events
-      → length (written (packet_value (Turn (map (sent_event exports k) b.events)))) ≤ 2 + 100 * events_cost a b.events
-  packet_short exports k b all =
-      let short = turn_short 100 (map (sent_event exports k) b.events) (events_short exports k b.events all) in
+  pub packet_short : (exports : List Plain) (d : Dialect) (k : ℕ) (b : Batch) → AllByRecursion (Fits start n a) b.events
+      → length (written (packet_value (Turn (spoken d (map (sent_event exports k) b.events)))))
+      ≤ 2 + 100 * events_cost a b.events
+  packet_short exports d k b all =
+      let short = turn_short d 100 (map (sent_event exports k) b.events) (events_short exports d k b.events all) in
       let count = events_count exports k b.events in
       omega (arith, short, count)
 

@@ -4,13 +4,12 @@ use Rattle.std.specs.List.{AllByRecursion}
 use Rattle.pv_value.specs.Plain.{Plain}
 use Rattle.pv_binary.specs.Written.{written}
 use Rattle.rl_packet.specs.Packets.{packet_value}
-use Rattle.rl_packet.specs.declared.packets.Packet.TheVariants as packet
 use Rattle.rl_packet.specs.declared.packets.TurnEvent.{TurnEvent}
 use Rattle.sc_events.specs.Events.{event_of}
 use Rattle.sc_events.specs.declared.events.ScriptEvent.{ScriptEvent}
 use Rattle.sc_events.specs.declared.events.ScriptEvent.TheVariants.{Open, Bytes, Drain}
 use Rattle.sc_load.specs.Limits.{most_items}
-use Rattle.sc_load.specs.Loads.{rounded_up, observes, loads, all_turns, opens}
+use Rattle.sc_load.specs.Loads.{rounded_up, observes, loads, newer_packet, all_turns, opens}
 
 -- so many connections come in a load of n items
 abbrev pub connections_of : ℕ → ℕ
@@ -20,9 +19,9 @@ connections_of n = rounded_up n 2000
 abbrev pub IsArrival : ScriptEvent → Type 0
 IsArrival e = e ≡ Open 1
 
--- the bytes are those of a packet, a turn
+-- the bytes are those of a packet, a turn in the newer dialect
 abbrev pub IsTurn : List ℕ → Type 0
-IsTurn bytes = (es : List TurnEvent) × (bytes ≡ written (packet_value (packet.Turn es)))
+IsTurn bytes = (es : List TurnEvent) × (bytes ≡ written (packet_value (newer_packet es)))
 
 -- one of the first k connections sends a turn, or the system's work is done
 abbrev pub IsSending : ℕ → ScriptEvent → Type 0

@@ -1,9 +1,10 @@
 -- What bytes begin with: numbers, values one behind another, events and turns.
-use Rattle.std.proofs.Common.{◌≡◌, ℕ, suc, ◌-◌, ◌≤◌, ℤ, pos, List, [], ◌∷◌, ◌++◌, length, take, map, Ok, refl, sym, ap}
-use Rattle.std.proofs.Common.{◌∙◌, subst, append_assoc, length-append, arith}
+use Rattle.std.proofs.Common.{◌≡◌, ℕ, suc, ◌-◌, ◌<◌, ◌≤◌, ℤ, pos, true, false, List, [], ◌∷◌, ◌++◌, length, take}
+use Rattle.std.proofs.Common.{map, Ok, refl, sym, ap, ◌∙◌, subst, append_assoc, length-append, arith}
 use Rattle.std.proofs.Math.Seq.{take-append_seam}
 use Rattle.std.proofs.lemmas.List.{take-append-drop, append-nil, map-append}
-use Rattle.std.specs.Str.{IsUtf8}
+use Rattle.std.specs.Str.{IsUtf8, bytes_eq}
+use Rattle.std.proofs.lemmas.Slice.Eq.{bytes_eq-Decides}
 use Rattle.std.specs.List.{concat, AllByRecursion}
 use Rattle.pv_value.specs.Plain.{Plain, integer, sequence, plains}
 use Rattle.pv_words.specs.Words.{labelled, number}
@@ -13,10 +14,10 @@ use Rattle.pv_binary.specs.Reads.{BeginsWith, LeadsWithin}
 use Rattle.pv_binary.specs.Spells.{Spells}
 use Rattle.pv_binary.proofs.Varints.{IsBytes, varint_last}
 use Rattle.pv_binary.proofs.Ints.{int_sound}
-use Rattle.rl_packet.specs.Packets.{Assert, Retract, Message, Sync, TurnEvent, event_value, aimed_value}
-use Rattle.rl_packet.specs.Packets.{turn_value}
+use Rattle.rl_packet.specs.Packets.{Dialect, Event, TurnEvent, event_value, aimed_value}
 use Rattle.rl_packet.specs.Wired.{IsTurnEvent}
 use Rattle.rl_packet.specs.Spelled.{Begins, BeginsAll, opened}
+use Rattle.rl_packet.proofs.Words.{word, fields, value_is, word_text, word_short}
 
 -- ---- one value
 
@@ -95,82 +96,71 @@ sequence_begins d bytes more xs rest e b = record {
   shallow = let s = b.shallow in omega arith;
 }
 
-pub record_begins : (d letter : ℕ) (bytes : List ℕ) (xs : List Plain) (rest : List ℕ) → IsUtf8 (letter ∷ [])
-    → BeginsAll d bytes xs rest → Begins (suc d) (opened letter bytes) (labelled (letter ∷ []) xs) rest
-record_begins d letter bytes xs rest text b =
-    let label : 0xb3 ∷ 1 ∷ letter ∷ [] ≡ 0xb3 ∷ counted (letter ∷ []) =
-    ap (λ (c : List ℕ). 0xb3 ∷ (c ++ letter ∷ [])) (sym (varint_last 1 (omega arith))) in
+pub record_begins : (d : ℕ) (label bytes : List ℕ) (xs : List Plain) (rest : List ℕ) → IsUtf8 label
+    → length label < 128 → BeginsAll d bytes xs rest → Begins (suc d) (opened label bytes) (labelled label xs) rest
+record_begins d label bytes xs rest text short b =
+    let n : ℕ = length label in
+    let symbol : 0xb3 ∷ n ∷ label ≡ 0xb3 ∷ counted label =
+    ap (λ (c : List ℕ). 0xb3 ∷ (c ++ label)) (sym (varint_last n short)) in
+    let fs : List ℕ = concat b.pieces ++ 0x84 ∷ [] in
     record {
-      front = 0xb4 ∷ ((0xb3 ∷ 1 ∷ letter ∷ []) ++ (concat b.pieces ++ 0x84 ∷ []));
-      is = ap (λ (r : List ℕ). opened letter r) (closed b.pieces bytes rest b.is);
-      spells = (0xb3 ∷ 1 ∷ letter ∷ [], b.pieces, (text, omega arith, label), b.spells, refl);
+      front = 0xb4 ∷ ((0xb3 ∷ n ∷ label) ++ fs);
+      is = ap (λ (r : List ℕ). opened label r) (closed b.pieces bytes rest b.is)
+          ∙ ap (λ (r : List ℕ). 0xb4 ∷ 0xb3 ∷ n ∷ r) (sym (append_assoc label fs rest));
+      spells = (0xb3 ∷ n ∷ label, b.pieces, (text, omega arith, symbol), b.spells, refl);
       shallow = let s = b.shallow in omega arith;
     }
 
 -- ---- events
 
--- the letters are texts
-pub assert_text : IsUtf8 (65 ∷ [])
-unfolding lib.Utf8.encode
-assert_text = (65 ∷ [], (refl, refl))
+-- the bytes of a record, by the label that its word is
+pub opened_by : (bytes found seen label more : List ℕ) → bytes ≡ opened found more → bytes_eq found seen ≡ true
+    → seen ≡ label → bytes ≡ opened label more
+opened_by bytes found seen label more is same e =
+    is ∙ ap (λ (w : List ℕ). opened w more) ((bytes_eq-Decides found seen).0 same ∙ e)
 
-pub retract_text : IsUtf8 (82 ∷ [])
-unfolding lib.Utf8.encode
-retract_text = (82 ∷ [], (refl, refl))
+pub other_word : (found seen label : List ℕ) → bytes_eq found seen ≡ false → seen ≡ label → found ≡ label → ⊥
+other_word found seen label other e is = let same = (bytes_eq-Decides found seen).1 (is ∙ sym e) in cc
 
-pub message_text : IsUtf8 (77 ∷ [])
-unfolding lib.Utf8.encode
-message_text = (77 ∷ [], (refl, refl))
+-- an event's fields, behind its label
+pub event_begins : (d : Dialect) (e : Event) (bytes rest : List ℕ) → BeginsAll 61 bytes (fields e) rest
+    → Begins 62 (opened (word d e) bytes) (event_value d e) rest
+event_begins d e bytes rest b =
+    subst (λ (v : Plain). Begins 62 (opened (word d e) bytes) v rest) (sym (value_is d e))
+    (record_begins 61 (word d e) bytes (fields e) rest (word_text d e) (word_short d e) b)
 
-pub sync_text : IsUtf8 (83 ∷ [])
-unfolding lib.Utf8.encode
-sync_text = (83 ∷ [], (refl, refl))
+pub one_field : (bytes : List ℕ) (v : Plain) (end rest : List ℕ) → LeadsWithin 61 bytes v end → end ≡ 0x84 ∷ rest
+    → BeginsAll 61 bytes (v ∷ []) rest
+one_field bytes v end rest b e =
+    all_more 61 bytes v end [] rest (within_begins 61 bytes v end b) (all_none 61 end rest e)
 
-one_begins : (letter : ℕ) (bytes : List ℕ) (v : Plain) (end rest : List ℕ) → IsUtf8 (letter ∷ [])
-    → Begins 61 bytes v end → end ≡ 0x84 ∷ rest
-    → Begins 62 (opened letter bytes) (labelled (letter ∷ []) (v ∷ [])) rest
-one_begins letter bytes v end rest text b e =
-    record_begins 61 letter bytes (v ∷ []) rest text (all_more 61 bytes v end [] rest b (all_none 61 end rest e))
+pub handle_field : (bytes : List ℕ) (h : ℕ) (end rest : List ℕ) → Begins 0 bytes (number h) end → end ≡ 0x84 ∷ rest
+    → BeginsAll 61 bytes (number h ∷ []) rest
+handle_field bytes h end rest n e =
+    all_more 61 bytes (number h) end [] rest (deeper 0 61 bytes (number h) end (omega arith) n)
+    (all_none 61 end rest e)
 
-pub asserted : (bytes : List ℕ) (v : Plain) (count : List ℕ) (h : ℕ) (end rest : List ℕ)
+pub assertion_fields : (bytes : List ℕ) (v : Plain) (count : List ℕ) (h : ℕ) (end rest : List ℕ)
     → LeadsWithin 61 bytes v count → Begins 0 count (number h) end → end ≡ 0x84 ∷ rest
-    → Begins 62 (opened 65 bytes) (event_value (Assert v h)) rest
-asserted bytes v count h end rest b n e =
-    record_begins 61 65 bytes (v ∷ number h ∷ []) rest assert_text
-    (all_more 61 bytes v count (number h ∷ []) rest (within_begins 61 bytes v count b)
-    (all_more 61 count (number h) end [] rest (deeper 0 61 count (number h) end (omega arith) n)
-    (all_none 61 end rest e)))
+    → BeginsAll 61 bytes (v ∷ number h ∷ []) rest
+assertion_fields bytes v count h end rest b n e =
+    all_more 61 bytes v count (number h ∷ []) rest (within_begins 61 bytes v count b)
+    (handle_field count h end rest n e)
 
-pub retracted : (bytes : List ℕ) (h : ℕ) (end rest : List ℕ) → Begins 0 bytes (number h) end → end ≡ 0x84 ∷ rest
-    → Begins 62 (opened 82 bytes) (event_value (Retract h)) rest
-retracted bytes h end rest n e =
-    one_begins 82 bytes (number h) end rest retract_text
-    (deeper 0 61 bytes (number h) end (omega arith) n) e
-
-pub said : (bytes : List ℕ) (v : Plain) (end rest : List ℕ) → LeadsWithin 61 bytes v end → end ≡ 0x84 ∷ rest
-    → Begins 62 (opened 77 bytes) (event_value (Message v)) rest
-said bytes v end rest b e =
-    one_begins 77 bytes v end rest message_text (within_begins 61 bytes v end b) e
-
-pub synced : (bytes : List ℕ) (v : Plain) (end rest : List ℕ) → LeadsWithin 61 bytes v end → end ≡ 0x84 ∷ rest
-    → Begins 62 (opened 83 bytes) (event_value (Sync v)) rest
-synced bytes v end rest b e =
-    one_begins 83 bytes v end rest sync_text (within_begins 61 bytes v end b) e
-
-pub aimed_begins : (bytes aim more end rest : List ℕ) (e : TurnEvent) → bytes ≡ 0xb5 ∷ aim
-    → Begins 0 aim (number e.oid) more → Begins 62 more (event_value e.event) end → end ≡ 0x84 ∷ rest
-    → Begins 63 bytes (aimed_value e) rest
-aimed_begins bytes aim more end rest e is o v z =
-    sequence_begins 62 bytes aim (number e.oid ∷ event_value e.event ∷ []) rest is
-    (all_more 62 aim (number e.oid) more (event_value e.event ∷ []) rest
+pub aimed_begins : (d : Dialect) (bytes aim more end rest : List ℕ) (e : TurnEvent) → bytes ≡ 0xb5 ∷ aim
+    → Begins 0 aim (number e.oid) more → Begins 62 more (event_value d e.event) end → end ≡ 0x84 ∷ rest
+    → Begins 63 bytes (aimed_value d e) rest
+aimed_begins d bytes aim more end rest e is o v z =
+    sequence_begins 62 bytes aim (number e.oid ∷ event_value d e.event ∷ []) rest is
+    (all_more 62 aim (number e.oid) more (event_value d e.event ∷ []) rest
     (deeper 0 62 aim (number e.oid) more (omega arith) o)
-    (all_more 62 more (event_value e.event) end [] rest v (all_none 62 end rest z)))
+    (all_more 62 more (event_value d e.event) end [] rest v (all_none 62 end rest z)))
 
 -- ---- turns
 
-abbrev pub AreBehind : List ℕ → List ℕ → List TurnEvent → Type 0
-AreBehind bytes rest es = (xs : List Plain) (r : List ℕ) → BeginsAll 63 rest xs r
-    → BeginsAll 63 bytes (map aimed_value es ++ xs) r
+abbrev pub AreBehind : Dialect → List ℕ → List ℕ → List TurnEvent → Type 0
+AreBehind d bytes rest es = (xs : List Plain) (r : List ℕ) → BeginsAll 63 rest xs r
+    → BeginsAll 63 bytes (map (aimed_value d) es ++ xs) r
 
 appended_good : (es : List TurnEvent) (e : TurnEvent) → AllByRecursion IsTurnEvent es → IsTurnEvent e
     → AllByRecursion IsTurnEvent (es ++ e ∷ [])
@@ -182,22 +172,26 @@ pub all_good : (es new : List TurnEvent) (e : TurnEvent) → new ≡ es ++ e ∷
 all_good es new e is all good = subst (AllByRecursion IsTurnEvent) (sym is) (appended_good es e all good)
 
 -- one event more
-pub all_step : (bytes rest after : List ℕ) (es new : List TurnEvent) (e : TurnEvent) → new ≡ es ++ e ∷ []
-    → Begins 63 rest (aimed_value e) after → AreBehind bytes rest es → AreBehind bytes after new
-all_step bytes rest after es new e is one behind xs r all =
-    let same : map aimed_value new ++ xs ≡ map aimed_value es ++ aimed_value e ∷ xs =
-    ap (λ (ds : List TurnEvent). map aimed_value ds ++ xs) is
-    ∙ ap (λ (ys : List Plain). ys ++ xs) (map-append aimed_value es (e ∷ []))
-    ∙ append_assoc (map aimed_value es) (aimed_value e ∷ []) xs in
+pub all_step : (d : Dialect) (bytes rest after : List ℕ) (es new : List TurnEvent) (e : TurnEvent) → new ≡ es ++ e ∷ []
+    → Begins 63 rest (aimed_value d e) after → AreBehind d bytes rest es → AreBehind d bytes after new
+all_step d bytes rest after es new e is one behind xs r all =
+    let value : TurnEvent → Plain = aimed_value d in
+    let same : map value new ++ xs ≡ map value es ++ value e ∷ xs =
+    ap (λ (ds : List TurnEvent). map value ds ++ xs) is
+    ∙ ap (λ (ys : List Plain). ys ++ xs) (map-append value es (e ∷ []))
+    ∙ append_assoc (map value es) (value e ∷ []) xs in
     subst (λ (ys : List Plain). BeginsAll 63 bytes ys r) (sym same)
-    (behind (aimed_value e ∷ xs) r (all_more 63 rest (aimed_value e) after xs r one all))
+    (behind (value e ∷ xs) r (all_more 63 rest (value e) after xs r one all))
 
-pub all_ended : (bytes rest after : List ℕ) (es : List TurnEvent) → rest ≡ 0x84 ∷ after → AreBehind bytes rest es
-    → BeginsAll 63 bytes (map aimed_value es) after
-all_ended bytes rest after es e behind =
-    subst (λ (ys : List Plain). BeginsAll 63 bytes ys after) (append-nil (map aimed_value es))
+pub all_ended : (d : Dialect) (bytes rest after : List ℕ) (es : List TurnEvent) → rest ≡ 0x84 ∷ after
+    → AreBehind d bytes rest es → BeginsAll 63 bytes (map (aimed_value d) es) after
+all_ended d bytes rest after es e behind =
+    subst (λ (ys : List Plain). BeginsAll 63 bytes ys after) (append-nil (map (aimed_value d) es))
     (behind [] after (all_none 63 rest after e))
 
-pub turn_begins : (bytes more : List ℕ) (es : List TurnEvent) (rest : List ℕ) → bytes ≡ 0xb5 ∷ more
-    → BeginsAll 63 more (map aimed_value es) rest → Begins 64 bytes (turn_value es) rest
-turn_begins bytes more es rest e all = sequence_begins 63 bytes more (map aimed_value es) rest e all
+pub turn_begins : (d : Dialect) (bytes more : List ℕ) (es : List TurnEvent) (rest : List ℕ) → bytes ≡ 0xb5 ∷ more
+    → BeginsAll 63 more (map (aimed_value d) es) rest
+    → BeginsWith bytes (length bytes - length rest) (sequence (plains (map (aimed_value d) es)))
+turn_begins d bytes more es rest e all =
+    begins_with bytes (sequence (plains (map (aimed_value d) es))) rest
+    (sequence_begins 63 bytes more (map (aimed_value d) es) rest e all)

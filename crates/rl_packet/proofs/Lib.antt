@@ -6,4 +6,6 @@ pub mod Putting
 pub mod Refusals
 pub mod Sizes
 pub mod Sound
+pub mod Spoken
 pub mod Wires
+pub mod Words

@@ -17,10 +17,11 @@ use Rattle.pv_read.specs.Lemmas.Binds.{parts}
 use Rattle.pv_binary.proofs.Varints.{varint_last}
 use Rattle.pv_binary.proofs.Ints.{int_again}
 use Rattle.pv_binary.proofs.Whole.{unique_law}
-use Rattle.rl_packet.specs.Packets.{Assert, Retract, Message, Sync, TurnEvent, event_value, aimed_value}
-use Rattle.rl_packet.specs.Packets.{turn_value}
-use Rattle.rl_packet.specs.Wired.{is_wired, is_peer, IsTurnEvent}
-use Rattle.rl_packet.specs.Spelled.{Begins, BeginsAll, opened, NoNumber, NoEvent, NoAimed, NoEvents}
+use Rattle.rl_packet.specs.Packets.{Dialect, Event, Assert, Retract, Message, Sync, TurnEvent}
+use Rattle.rl_packet.specs.Packets.{event_value, aimed_value, assert_word, retract_word, message_word, sync_word}
+use Rattle.rl_packet.specs.Wired.{is_wired, is_peer, IsEvent, IsTurnEvent}
+use Rattle.rl_packet.specs.Spelled.{Begins, BeginsAll, opened, NoNumber, NoEvent, NoAimed, NoEvents, NoTurn}
+use Rattle.rl_packet.proofs.Words.{word, fields, value_is, word_short, same_kind}
 use Rattle.rl_packet.proofs.Fronts.{within_begins}
 
 -- ---- one value
@@ -91,33 +92,46 @@ in_sequence d bytes xs rest b =
       record { pieces = ps; is = refl; spells = b.spells.1; shallow = omega arith },
     )
 
-in_record : (d letter : ℕ) (bytes : List ℕ) (xs : List Plain) (rest : List ℕ)
-    → Begins (suc d) bytes (labelled (letter ∷ []) xs) rest
-    → (more : List ℕ) × (bytes ≡ opened letter more) × BeginsAll d more xs rest
-in_record d letter bytes xs rest b =
+in_record : (d : ℕ) (label bytes : List ℕ) (xs : List Plain) (rest : List ℕ) → length label < 128
+    → Begins (suc d) bytes (labelled label xs) rest
+    → (more : List ℕ) × (bytes ≡ opened label more) × BeginsAll d more xs rest
+in_record d label bytes xs rest short b =
     let c = b.spells.0 in
     let ps = b.spells.1 in
     let s = b.shallow in
-    let label : c ≡ 0xb3 ∷ 1 ∷ letter ∷ [] =
-    b.spells.2.2 ∙ ap (λ (t : List ℕ). 0xb3 ∷ (t ++ letter ∷ [])) (varint_last 1 (omega arith)) in (
+    let fs : List ℕ = concat ps ++ 0x84 ∷ [] in
+    let symbol : c ≡ 0xb3 ∷ length label ∷ label =
+    b.spells.2.2 ∙ ap (λ (t : List ℕ). 0xb3 ∷ (t ++ label)) (varint_last (length label) short) in (
       concat ps ++ 0x84 ∷ rest,
       b.is ∙ ap (λ (r : List ℕ). r ++ rest) b.spells.4
-          ∙ ap (λ (q : List ℕ). 0xb4 ∷ ((q ++ (concat ps ++ 0x84 ∷ [])) ++ rest)) label
-          ∙ ap (λ (r : List ℕ). opened letter r) (append_assoc (concat ps) (0x84 ∷ []) rest),
+          ∙ ap (λ (q : List ℕ). 0xb4 ∷ ((q ++ fs) ++ rest)) symbol
+          ∙ ap (λ (r : List ℕ). 0xb4 ∷ 0xb3 ∷ length label ∷ r) (append_assoc label fs rest)
+          ∙ ap (λ (r : List ℕ). opened label r) (append_assoc (concat ps) (0x84 ∷ []) rest),
       record { pieces = ps; is = refl; spells = b.spells.3; shallow = omega arith },
     )
 
-same_letter : (m l : ℕ) (bytes more : List ℕ) → opened m bytes ≡ opened l more → m ≡ l
-same_letter m l bytes more e = cc
+same_front : (s t xs ys : List ℕ) → length s ≡ length t → s ++ xs ≡ t ++ ys → (s ≡ t) × (xs ≡ ys)
+same_front [] [] xs ys l e = (refl, e)
+same_front [] (b ∷ t) xs ys l e = absurd (omega arith)
+same_front (a ∷ s) [] xs ys l e = absurd (omega arith)
+same_front (a ∷ s) (b ∷ t) xs ys l e =
+    let head : a ≡ b = cc in
+    let tail : s ++ xs ≡ t ++ ys = cc in
+    let r = same_front s t xs ys (omega arith) tail in
+    (λ i. head i ∷ r.0 i, r.1)
 
-same_fields : (m l : ℕ) (bytes more : List ℕ) → opened m bytes ≡ opened l more → more ≡ bytes
-same_fields m l bytes more e = cc
+same_opened : (s t xs ys : List ℕ) → opened s xs ≡ opened t ys → (s ≡ t) × (xs ≡ ys)
+same_opened s t xs ys e =
+    let l : length s ≡ length t = cc in
+    let f : s ++ xs ≡ t ++ ys = cc in
+    same_front s t xs ys l f
 
-in_opened : (d m l : ℕ) (bytes : List ℕ) (xs : List Plain) (rest : List ℕ)
-    → Begins (suc d) (opened m bytes) (labelled (l ∷ []) xs) rest → (m ≡ l) × BeginsAll d bytes xs rest
-in_opened d m l bytes xs rest b =
-    let r = in_record d l (opened m bytes) xs rest b in
-    (same_letter m l bytes r.0 r.1, subst (λ x. BeginsAll d x xs rest) (same_fields m l bytes r.0 r.1) r.2)
+in_opened : (d : ℕ) (s t bytes : List ℕ) (xs : List Plain) (rest : List ℕ) → length t < 128
+    → Begins (suc d) (opened s bytes) (labelled t xs) rest → (s ≡ t) × BeginsAll d bytes xs rest
+in_opened d s t bytes xs rest short b =
+    let r = in_record d t (opened s bytes) xs rest short b in
+    let e = same_opened s t bytes r.0 r.1 in
+    (e.0, subst (λ x. BeginsAll d x xs rest) (sym e.1) r.2)
 
 -- ---- numbers
 
@@ -162,30 +176,38 @@ two_fields d bytes v w rest b =
 abbrev pub NoOne : List ℕ → (Plain → Type 0) → Type 0
 NoOne bytes P = (v : Plain) (rest : List ℕ) → P v → BeginsAll 61 bytes (v ∷ []) rest → ⊥
 
-module _ (bytes : List ℕ) (P : Plain → Type 0) where
-  pub one_missing : ((v : Plain) (more : List ℕ) → LeadsWithin 61 bytes v more → ⊥) → NoOne bytes P
-  one_missing none v rest p b =
-      let f = first 61 bytes v [] rest b in
-      none v f.0 (begins_within 61 bytes v f.0 f.1)
+pub one_missing : (bytes : List ℕ) → ((v : Plain) (more : List ℕ) → LeadsWithin 61 bytes v more → ⊥)
+    → (v : Plain) (rest : List ℕ) → BeginsAll 61 bytes (v ∷ []) rest → ⊥
+one_missing bytes none v rest b =
+    let f = first 61 bytes v [] rest b in
+    none v f.0 (begins_within 61 bytes v f.0 f.1)
 
-  pub one_unended : (w : Plain) (end : List ℕ) → LeadsWithin 61 bytes w end
-      → ((rest : List ℕ) → end ≡ 0x84 ∷ rest → ⊥) → NoOne bytes P
-  one_unended w end found none v rest p b =
-      let f = first 61 bytes v [] rest b in
-      let same = same_begins 61 61 bytes w v end f.0 (within_begins 61 bytes w end found) f.1 in
-      none rest (same.1 ∙ ended 61 f.0 rest f.2)
+pub one_unended : (bytes : List ℕ) (w : Plain) (end : List ℕ) → LeadsWithin 61 bytes w end
+    → ((rest : List ℕ) → end ≡ 0x84 ∷ rest → ⊥) → (v : Plain) (rest : List ℕ) → BeginsAll 61 bytes (v ∷ []) rest → ⊥
+one_unended bytes w end found none v rest b =
+    let f = first 61 bytes v [] rest b in
+    let same = same_begins 61 61 bytes w v end f.0 (within_begins 61 bytes w end found) f.1 in
+    none rest (same.1 ∙ ended 61 f.0 rest f.2)
 
-  pub one_unfit : (w : Plain) (end : List ℕ) → LeadsWithin 61 bytes w end → (P w → ⊥) → NoOne bytes P
-  one_unfit w end found none v rest p b =
-      let f = first 61 bytes v [] rest b in
-      let same = same_begins 61 61 bytes w v end f.0 (within_begins 61 bytes w end found) f.1 in
-      none (subst P (sym same.0) p)
+pub one_unfit : (bytes : List ℕ) (P : Plain → Type 0) (w : Plain) (end : List ℕ) → BeginsAll 61 bytes (w ∷ []) end
+    → (P w → ⊥) → NoOne bytes P
+one_unfit bytes P w end found none v rest p b =
+    let f = first 61 bytes w [] end found in
+    let g = first 61 bytes v [] rest b in
+    let same = same_begins 61 61 bytes w v f.0 g.0 f.1 g.1 in
+    none (subst P (sym same.0) p)
 
 -- ---- events
 
-other : (m l : ℕ) (bytes : List ℕ) (xs : List Plain) (rest : List ℕ) → (m ≡ l → ⊥)
-    → Begins 62 (opened m bytes) (labelled (l ∷ []) xs) rest → ⊥
-other m l bytes xs rest differ b = differ (in_opened 61 m l bytes xs rest b).0
+-- where the fields of no event with this label stand behind it
+pub no_fields : (d : Dialect) (label bytes : List ℕ)
+    → ((e : Event) (rest : List ℕ) → IsEvent e → label ≡ word d e → BeginsAll 61 bytes (fields e) rest → ⊥)
+    → NoEvent d (opened label bytes)
+no_fields d label bytes none e rest good b =
+    let c : Begins 62 (opened label bytes) (labelled (word d e) (fields e)) rest =
+    subst (λ v. Begins 62 (opened label bytes) v rest) (value_is d e) b in
+    let r = in_opened 61 label (word d e) bytes (fields e) rest (word_short d e) c in
+    none e rest good r.0 r.1
 
 -- no value and no number are the only fields
 abbrev pub NoTwo : List ℕ → Type 0
@@ -193,51 +215,60 @@ NoTwo bytes =
     (v : Plain) (h : ℕ) (rest : List ℕ) → (is_wired v ≡ true) × (h < 2 ^ 63)
     → BeginsAll 61 bytes (v ∷ number h ∷ []) rest → ⊥
 
-pub no_assertion : (bytes : List ℕ) → NoTwo bytes → NoEvent (opened 65 bytes)
-no_assertion bytes none (Assert v h) rest good b =
-    none v h rest good (in_opened 61 65 65 bytes (v ∷ number h ∷ []) rest b).1
-no_assertion bytes none (Retract h) rest good b =
-    other 65 82 bytes (number h ∷ []) rest (λ e. absurd (omega (arith, e))) b
-no_assertion bytes none (Message v) rest good b = other 65 77 bytes (v ∷ []) rest (λ e. absurd (omega (arith, e))) b
-no_assertion bytes none (Sync v) rest good b = other 65 83 bytes (v ∷ []) rest (λ e. absurd (omega (arith, e))) b
+module _ (d : Dialect) (bytes : List ℕ) where
+  pub no_assertion : NoTwo bytes → NoEvent d (opened (assert_word d) bytes)
+  no_assertion none = no_fields d (assert_word d) bytes by
+    where
+      by : (e : Event) (rest : List ℕ) → IsEvent e → assert_word d ≡ word d e → BeginsAll 61 bytes (fields e) rest → ⊥
+      by (Assert v h) rest good is b = none v h rest good b
+      by (Retract h) rest good is b = absurd (omega (arith, same_kind d d (Assert (number 0) 0) (Retract h) is))
+      by (Message v) rest good is b = absurd (omega (arith, same_kind d d (Assert (number 0) 0) (Message v) is))
+      by (Sync v) rest good is b = absurd (omega (arith, same_kind d d (Assert (number 0) 0) (Sync v) is))
 
-pub no_retraction : (bytes : List ℕ)
-    → ((h : ℕ) (rest : List ℕ) → h < 2 ^ 63 → BeginsAll 61 bytes (number h ∷ []) rest → ⊥) → NoEvent (opened 82 bytes)
-no_retraction bytes none (Assert v h) rest good b =
-    other 82 65 bytes (v ∷ number h ∷ []) rest (λ e. absurd (omega (arith, e))) b
-no_retraction bytes none (Retract h) rest good b =
-    none h rest good (in_opened 61 82 82 bytes (number h ∷ []) rest b).1
-no_retraction bytes none (Message v) rest good b = other 82 77 bytes (v ∷ []) rest (λ e. absurd (omega (arith, e))) b
-no_retraction bytes none (Sync v) rest good b = other 82 83 bytes (v ∷ []) rest (λ e. absurd (omega (arith, e))) b
+  pub no_retraction : ((h : ℕ) (rest : List ℕ) → h < 2 ^ 63 → BeginsAll 61 bytes (number h ∷ []) rest → ⊥)
+      → NoEvent d (opened (retract_word d) bytes)
+  no_retraction none = no_fields d (retract_word d) bytes by
+    where
+      by : (e : Event) (rest : List ℕ) → IsEvent e → retract_word d ≡ word d e → BeginsAll 61 bytes (fields e) rest → ⊥
+      by (Assert v h) rest good is b = absurd (omega (arith, same_kind d d (Retract 0) (Assert v h) is))
+      by (Retract h) rest good is b = none h rest good b
+      by (Message v) rest good is b = absurd (omega (arith, same_kind d d (Retract 0) (Message v) is))
+      by (Sync v) rest good is b = absurd (omega (arith, same_kind d d (Retract 0) (Sync v) is))
 
-pub no_message : (bytes : List ℕ) → NoOne bytes (λ v. is_wired v ≡ true) → NoEvent (opened 77 bytes)
-no_message bytes none (Assert v h) rest good b =
-    other 77 65 bytes (v ∷ number h ∷ []) rest (λ e. absurd (omega (arith, e))) b
-no_message bytes none (Retract h) rest good b =
-    other 77 82 bytes (number h ∷ []) rest (λ e. absurd (omega (arith, e))) b
-no_message bytes none (Message v) rest good b = none v rest good (in_opened 61 77 77 bytes (v ∷ []) rest b).1
-no_message bytes none (Sync v) rest good b = other 77 83 bytes (v ∷ []) rest (λ e. absurd (omega (arith, e))) b
+  pub no_message : NoOne bytes (λ v. is_wired v ≡ true) → NoEvent d (opened (message_word d) bytes)
+  no_message none = no_fields d (message_word d) bytes by
+    where
+      by : (e : Event) (rest : List ℕ) → IsEvent e → message_word d ≡ word d e → BeginsAll 61 bytes (fields e) rest → ⊥
+      by (Assert v h) rest good is b = absurd (omega (arith, same_kind d d (Message v) (Assert v h) is))
+      by (Retract h) rest good is b = absurd (omega (arith, same_kind d d (Message (number 0)) (Retract h) is))
+      by (Message v) rest good is b = none v rest good b
+      by (Sync v) rest good is b = absurd (omega (arith, same_kind d d (Message v) (Sync v) is))
 
-pub no_sync : (bytes : List ℕ) → NoOne bytes (λ v. is_peer v ≡ true) → NoEvent (opened 83 bytes)
-no_sync bytes none (Assert v h) rest good b =
-    other 83 65 bytes (v ∷ number h ∷ []) rest (λ e. absurd (omega (arith, e))) b
-no_sync bytes none (Retract h) rest good b = other 83 82 bytes (number h ∷ []) rest (λ e. absurd (omega (arith, e))) b
-no_sync bytes none (Message v) rest good b = other 83 77 bytes (v ∷ []) rest (λ e. absurd (omega (arith, e))) b
-no_sync bytes none (Sync v) rest good b = none v rest good (in_opened 61 83 83 bytes (v ∷ []) rest b).1
+  pub no_sync : NoOne bytes (λ v. is_peer v ≡ true) → NoEvent d (opened (sync_word d) bytes)
+  no_sync none = no_fields d (sync_word d) bytes by
+    where
+      by : (e : Event) (rest : List ℕ) → IsEvent e → sync_word d ≡ word d e → BeginsAll 61 bytes (fields e) rest → ⊥
+      by (Assert v h) rest good is b = absurd (omega (arith, same_kind d d (Sync v) (Assert v h) is))
+      by (Retract h) rest good is b = absurd (omega (arith, same_kind d d (Sync (number 0)) (Retract h) is))
+      by (Message v) rest good is b = absurd (omega (arith, same_kind d d (Sync v) (Message v) is))
+      by (Sync v) rest good is b = none v rest good b
 
-pub no_letter : (bytes : List ℕ) → ((letter : ℕ) (fields : List ℕ) → bytes ≡ opened letter fields → ⊥) → NoEvent bytes
-no_letter bytes none (Assert v h) rest good b =
-    let r = in_record 61 65 bytes (v ∷ number h ∷ []) rest b in none 65 r.0 r.1
-no_letter bytes none (Retract h) rest good b = let r = in_record 61 82 bytes (number h ∷ []) rest b in none 82 r.0 r.1
-no_letter bytes none (Message v) rest good b = let r = in_record 61 77 bytes (v ∷ []) rest b in none 77 r.0 r.1
-no_letter bytes none (Sync v) rest good b = let r = in_record 61 83 bytes (v ∷ []) rest b in none 83 r.0 r.1
+  pub no_word : ((label more : List ℕ) → bytes ≡ opened label more → ⊥) → NoEvent d bytes
+  no_word none e rest good b =
+      let c : Begins 62 bytes (labelled (word d e) (fields e)) rest =
+      subst (λ v. Begins 62 bytes v rest) (value_is d e) b in
+      let r = in_record 61 (word d e) bytes (fields e) rest (word_short d e) c in
+      none (word d e) r.0 r.1
 
-pub no_such_letter : (letter : ℕ) (bytes : List ℕ) → (letter ≡ 65 → ⊥) → (letter ≡ 82 → ⊥) → (letter ≡ 77 → ⊥)
-    → (letter ≡ 83 → ⊥) → NoEvent (opened letter bytes)
-no_such_letter letter bytes a r m s (Assert v h) rest good b = other letter 65 bytes (v ∷ number h ∷ []) rest a b
-no_such_letter letter bytes a r m s (Retract h) rest good b = other letter 82 bytes (number h ∷ []) rest r b
-no_such_letter letter bytes a r m s (Message v) rest good b = other letter 77 bytes (v ∷ []) rest m b
-no_such_letter letter bytes a r m s (Sync v) rest good b = other letter 83 bytes (v ∷ []) rest s b
+  pub no_such_word : (label : List ℕ) → (label ≡ assert_word d → ⊥) → (label ≡ retract_word d → ⊥)
+      → (label ≡ message_word d → ⊥) → (label ≡ sync_word d → ⊥) → NoEvent d (opened label bytes)
+  no_such_word label a r m s = no_fields d label bytes by
+    where
+      by : (e : Event) (rest : List ℕ) → IsEvent e → label ≡ word d e → BeginsAll 61 bytes (fields e) rest → ⊥
+      by (Assert v h) rest good is b = a is
+      by (Retract h) rest good is b = r is
+      by (Message v) rest good is b = m is
+      by (Sync v) rest good is b = s is
 
 -- an assertion's fields: no value, no number behind it, no end, an unwired value
 module _ (bytes : List ℕ) where
@@ -288,8 +319,8 @@ no_tag : (bytes : List ℕ) → ((more : List ℕ) → bytes ≡ 0xb5 ∷ more �
     → Begins (suc d) bytes (sequence (plains xs)) rest → ⊥
 no_tag bytes none d xs rest b = let f = in_sequence d bytes xs rest b in none f.0 f.1
 
-pub no_aim : (bytes : List ℕ) → ((more : List ℕ) → bytes ≡ 0xb5 ∷ more → ⊥) → NoAimed bytes
-no_aim bytes none e rest good b = no_tag bytes none 62 (number e.oid ∷ event_value e.event ∷ []) rest b
+pub no_aim : (d : Dialect) (bytes : List ℕ) → ((more : List ℕ) → bytes ≡ 0xb5 ∷ more → ⊥) → NoAimed d bytes
+no_aim d bytes none e rest good b = no_tag bytes none 62 (number e.oid ∷ event_value d e.event ∷ []) rest b
 
 -- what a sequence holds, behind its first byte
 behind_tag : (d : ℕ) (bytes more : List ℕ) (xs : List Plain) (rest : List ℕ) → bytes ≡ 0xb5 ∷ more
@@ -300,62 +331,62 @@ behind_tag d bytes more xs rest e b =
     let same : f.0 ≡ more = cc in
     subst (λ m. BeginsAll d m xs rest) same f.2
 
-module _ (bytes aim : List ℕ) (is : bytes ≡ 0xb5 ∷ aim) where
-  pub no_oid : NoNumber aim → NoAimed bytes
+module _ (d : Dialect) (bytes aim : List ℕ) (is : bytes ≡ 0xb5 ∷ aim) where
+  pub no_oid : NoNumber aim → NoAimed d bytes
   no_oid none e rest good b =
-      let f = two_fields 62 aim (number e.oid) (event_value e.event) rest (behind_tag 62 bytes aim _ rest is b) in
+      let f = two_fields 62 aim (number e.oid) (event_value d e.event) rest (behind_tag 62 bytes aim _ rest is b) in
       none e.oid f.0 good.0 (flat 62 aim e.oid f.0 f.2)
 
   module _ (n : ℕ) (more : List ℕ) (found : Begins 0 aim (number n) more) where
-    event_behind : (e : TurnEvent) (rest : List ℕ) → Begins 63 bytes (aimed_value e) rest
-        → (end : List ℕ) × Begins 62 more (event_value e.event) end × (end ≡ 0x84 ∷ rest)
+    event_behind : (e : TurnEvent) (rest : List ℕ) → Begins 63 bytes (aimed_value d e) rest
+        → (end : List ℕ) × Begins 62 more (event_value d e.event) end × (end ≡ 0x84 ∷ rest)
     event_behind e rest b =
-        let f = two_fields 62 aim (number e.oid) (event_value e.event) rest (behind_tag 62 bytes aim _ rest is b) in
+        let f = two_fields 62 aim (number e.oid) (event_value d e.event) rest (behind_tag 62 bytes aim _ rest is b) in
         let same = same_begins 62 0 aim (number e.oid) (number n) f.0 more f.2 found in
-        (f.1, subst (λ m. Begins 62 m (event_value e.event) f.1) same.1 f.3, f.4)
+        (f.1, subst (λ m. Begins 62 m (event_value d e.event) f.1) same.1 f.3, f.4)
 
-    pub no_event : NoEvent more → NoAimed bytes
+    pub no_event : NoEvent d more → NoAimed d bytes
     no_event none e rest good b = let f = event_behind e rest b in none e.event f.0 good.1 f.1
 
     pub no_end : (v : Plain) (end : List ℕ) → Begins 62 more v end → ((rest : List ℕ) → end ≡ 0x84 ∷ rest → ⊥)
-        → NoAimed bytes
+        → NoAimed d bytes
     no_end v end event none e rest good b =
         let f = event_behind e rest b in
-        none rest ((same_begins 62 62 more v (event_value e.event) end f.0 event f.1).1 ∙ f.2)
+        none rest ((same_begins 62 62 more v (event_value d e.event) end f.0 event f.1).1 ∙ f.2)
 
 -- ---- turns
 
 -- what events begin the bytes, others begin what is left
-abbrev pub Leave : List ℕ → List ℕ → Type 0
-Leave bytes rest =
-    (es : List TurnEvent) (r : List ℕ) → AllByRecursion IsTurnEvent es → BeginsAll 63 bytes (map aimed_value es) r
-    → (fs : List TurnEvent) × AllByRecursion IsTurnEvent fs × BeginsAll 63 rest (map aimed_value fs) r
+abbrev pub Leave : Dialect → List ℕ → List ℕ → Type 0
+Leave d bytes rest =
+    (es : List TurnEvent) (r : List ℕ) → AllByRecursion IsTurnEvent es → BeginsAll 63 bytes (map (aimed_value d) es) r
+    → (fs : List TurnEvent) × AllByRecursion IsTurnEvent fs × BeginsAll 63 rest (map (aimed_value d) fs) r
 
-pub leave_all : (bytes : List ℕ) → Leave bytes bytes
-leave_all bytes es r good b = (es, good, b)
+pub leave_all : (d : Dialect) (bytes : List ℕ) → Leave d bytes bytes
+leave_all d bytes es r good b = (es, good, b)
 
-pub leave_step : (bytes rest after : List ℕ) (v : Plain) → ((r : List ℕ) → rest ≡ 0x84 ∷ r → ⊥) → Begins 63 rest v after
-    → Leave bytes rest → Leave bytes after
-leave_step bytes rest after v none found leave es r good b =
+pub leave_step : (d : Dialect) (bytes rest after : List ℕ) (v : Plain) → ((r : List ℕ) → rest ≡ 0x84 ∷ r → ⊥)
+    → Begins 63 rest v after → Leave d bytes rest → Leave d bytes after
+leave_step d bytes rest after v none found leave es r good b =
     let f = leave es r good b in by f.0 f.1 f.2
   where
-    by : (fs : List TurnEvent) → AllByRecursion IsTurnEvent fs → BeginsAll 63 rest (map aimed_value fs) r
-        → (gs : List TurnEvent) × AllByRecursion IsTurnEvent gs × BeginsAll 63 after (map aimed_value gs) r
+    by : (fs : List TurnEvent) → AllByRecursion IsTurnEvent fs → BeginsAll 63 rest (map (aimed_value d) fs) r
+        → (gs : List TurnEvent) × AllByRecursion IsTurnEvent gs × BeginsAll 63 after (map (aimed_value d) gs) r
     by [] all c = absurd (none r (ended 63 rest r c))
     by (g ∷ gs) all c =
-        let f = first 63 rest (aimed_value g) (map aimed_value gs) r c in
-        let same = same_begins 63 63 rest (aimed_value g) v f.0 after f.1 found in
-        (gs, all.1, subst (λ m. BeginsAll 63 m (map aimed_value gs) r) same.1 f.2)
+        let f = first 63 rest (aimed_value d g) (map (aimed_value d) gs) r c in
+        let same = same_begins 63 63 rest (aimed_value d g) v f.0 after f.1 found in
+        (gs, all.1, subst (λ m. BeginsAll 63 m (map (aimed_value d) gs) r) same.1 f.2)
 
-pub no_more_events : (bytes rest : List ℕ) → ((r : List ℕ) → rest ≡ 0x84 ∷ r → ⊥) → NoAimed rest → Leave bytes rest
-    → NoEvents bytes
-no_more_events bytes rest none no_next leave es r good b =
+pub no_more_events : (d : Dialect) (bytes rest : List ℕ) → ((r : List ℕ) → rest ≡ 0x84 ∷ r → ⊥) → NoAimed d rest
+    → Leave d bytes rest → NoEvents d bytes
+no_more_events d bytes rest none no_next leave es r good b =
     let f = leave es r good b in by f.0 f.1 f.2
   where
-    by : (fs : List TurnEvent) → AllByRecursion IsTurnEvent fs → BeginsAll 63 rest (map aimed_value fs) r → ⊥
+    by : (fs : List TurnEvent) → AllByRecursion IsTurnEvent fs → BeginsAll 63 rest (map (aimed_value d) fs) r → ⊥
     by [] all c = none r (ended 63 rest r c)
     by (g ∷ gs) all c =
-        let f = first 63 rest (aimed_value g) (map aimed_value gs) r c in
+        let f = first 63 rest (aimed_value d g) (map (aimed_value d) gs) r c in
         no_next g f.0 all.0 f.1
 
 nothing_begins : (d : ℕ) (xs : List Plain) (r : List ℕ) → BeginsAll d [] xs r → ⊥
@@ -363,26 +394,26 @@ nothing_begins d xs r b =
     let l = ap (λ (x : List ℕ). length x) b.is in
     absurd (omega (arith, length-append (concat b.pieces) (0x84 ∷ r)))
 
-pub nothing_left : (bytes rest : List ℕ) → length rest ≤ 0 → Leave bytes rest → NoEvents bytes
-nothing_left bytes [] l leave es r good b =
-    let f = leave es r good b in nothing_begins 63 (map aimed_value f.0) r f.2
-nothing_left bytes (x ∷ xs) l leave es r good b = absurd (omega arith)
+pub nothing_left : (d : Dialect) (bytes rest : List ℕ) → length rest ≤ 0 → Leave d bytes rest → NoEvents d bytes
+nothing_left d bytes [] l leave es r good b =
+    let f = leave es r good b in nothing_begins 63 (map (aimed_value d) f.0) r f.2
+nothing_left d bytes (x ∷ xs) l leave es r good b = absurd (omega arith)
 
-pub aimed_shorter : (bytes : List ℕ) (e : TurnEvent) (rest : List ℕ) → Begins 63 bytes (aimed_value e) rest
-    → length rest < length bytes
-aimed_shorter bytes e rest b =
+pub aimed_shorter : (d : Dialect) (bytes : List ℕ) (e : TurnEvent) (rest : List ℕ)
+    → Begins 63 bytes (aimed_value d e) rest → length rest < length bytes
+aimed_shorter d bytes e rest b =
     let l = ap (λ (x : List ℕ). length x) b.is in
     let k = length-append b.front rest in
     let f = ap (λ (x : List ℕ). length x) b.spells.2 in
     omega arith
 
-pub no_sequence : (bytes : List ℕ) → ((more : List ℕ) → bytes ≡ 0xb5 ∷ more → ⊥) → (es : List TurnEvent) (n : ℕ)
-    → AllByRecursion IsTurnEvent es → BeginsWith bytes n (turn_value es) → ⊥
-no_sequence bytes none es n good b =
-    no_tag bytes none 63 (map aimed_value es) (drop n bytes) (with_begins bytes n (turn_value es) b)
+pub no_sequence : (d : Dialect) (bytes : List ℕ) → ((more : List ℕ) → bytes ≡ 0xb5 ∷ more → ⊥) → NoTurn d bytes
+no_sequence d bytes none es n good b =
+    let xs : List Plain = map (aimed_value d) es in
+    no_tag bytes none 63 xs (drop n bytes) (with_begins bytes n (sequence (plains xs)) b)
 
-pub no_turn_begins : (bytes more : List ℕ) → bytes ≡ 0xb5 ∷ more → NoEvents more → (es : List TurnEvent) (n : ℕ)
-    → AllByRecursion IsTurnEvent es → BeginsWith bytes n (turn_value es) → ⊥
-no_turn_begins bytes more is none es n good b =
+pub no_turn_begins : (d : Dialect) (bytes more : List ℕ) → bytes ≡ 0xb5 ∷ more → NoEvents d more → NoTurn d bytes
+no_turn_begins d bytes more is none es n good b =
+    let xs : List Plain = map (aimed_value d) es in
     none es (drop n bytes) good
-    (behind_tag 63 bytes more (map aimed_value es) (drop n bytes) is (with_begins bytes n (turn_value es) b))
+    (behind_tag 63 bytes more xs (drop n bytes) is (with_begins bytes n (sequence (plains xs)) b))

@@ -6,22 +6,13 @@ use Rattle.std.specs.Str.{IsUtf8}
 use Rattle.pv_value.specs.Plain.{Plain, plains}
 use Rattle.pv_value.specs.WellFormed.{IsWellFormed, AreWellFormed}
 use Rattle.pv_words.specs.Words.{number}
-use Rattle.rl_packet.specs.Packets.{Event, Assert, Retract, Message, Sync, event_value, packet_value, Error}
-use Rattle.rl_packet.specs.Packets.{TurnEvent, aimed_value}
-use Rattle.rl_packet.proofs.Fronts.{assert_text, retract_text, message_text, sync_text}
+use Rattle.rl_packet.specs.Packets.{Dialect, Event, TurnEvent, event_value, aimed_value, packet_value, Error}
+use Rattle.rl_packet.proofs.Words.{fields, value_is, word_text, word_short}
 
-pub asserted_sound : (v : Plain) (h : ℕ) → IsWellFormed v → IsWellFormed (number h)
-    → IsWellFormed (event_value (Assert v h))
-asserted_sound v h value handle = ((assert_text, omega arith), (value, (handle, tt)))
-
-pub retracted_sound : (h : ℕ) → IsWellFormed (number h) → IsWellFormed (event_value (Retract h))
-retracted_sound h handle = ((retract_text, omega arith), (handle, tt))
-
-pub said_sound : (v : Plain) → IsWellFormed v → IsWellFormed (event_value (Message v))
-said_sound v value = ((message_text, omega arith), (value, tt))
-
-pub synced_sound : (v : Plain) → IsWellFormed v → IsWellFormed (event_value (Sync v))
-synced_sound v value = ((sync_text, omega arith), (value, tt))
+pub event_sound : (d : Dialect) (e : Event) → AreWellFormed (plains (fields e)) → IsWellFormed (event_value d e)
+event_sound d e sound =
+    subst IsWellFormed (sym (value_is d e))
+    ((word_text d e, let short = word_short d e in omega arith), sound)
 
 error_text : IsUtf8 (101 ∷ 114 ∷ 114 ∷ 111 ∷ 114 ∷ [])
 unfolding lib.Utf8.encode
@@ -31,10 +22,11 @@ pub error_sound : (m d : Plain) → IsWellFormed m → IsWellFormed d → IsWell
 error_sound m d message detail = ((error_text, omega arith), (message, (detail, tt)))
 
 -- one event more, in front of others
-pub one_more_sound : (es : List TurnEvent) (i : ℕ) (e : TurnEvent) → i < length es → e ≡ get_or es i e
-    → IsWellFormed (number e.oid) → IsWellFormed (event_value e.event)
-    → AreWellFormed (plains (map aimed_value (drop (i + 1) es))) → AreWellFormed (plains (map aimed_value (drop i es)))
-one_more_sound es i e l at oid event others =
-    subst (λ (ds : List TurnEvent). AreWellFormed (plains (map aimed_value ds)))
-    (sym (drop_more es i e l ∙ ap (λ (d : TurnEvent). d ∷ drop (i + 1) es) (sym at)))
+pub one_more_sound : (d : Dialect) (es : List TurnEvent) (i : ℕ) (e : TurnEvent) → i < length es → e ≡ get_or es i e
+    → IsWellFormed (number e.oid) → IsWellFormed (event_value d e.event)
+    → AreWellFormed (plains (map (aimed_value d) (drop (i + 1) es)))
+    → AreWellFormed (plains (map (aimed_value d) (drop i es)))
+one_more_sound d es i e l at oid event others =
+    subst (λ (ds : List TurnEvent). AreWellFormed (plains (map (aimed_value d) ds)))
+    (sym (drop_more es i e l ∙ ap (λ (f : TurnEvent). f ∷ drop (i + 1) es) (sym at)))
     ((oid, (event, tt)), others)

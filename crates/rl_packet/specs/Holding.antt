@@ -39,7 +39,7 @@ holdings_in_order [] = []
 holdings_in_order (x ∷ xs) = insert_holding x (holdings_in_order xs)
 
 abbrev pub events_in : Packet → List TurnEvent
-events_in (Turn es) = es
+events_in (Turn t) = t.events
 events_in (Error message detail) = []
 events_in Nop = []
 events_in (Extension v) = []

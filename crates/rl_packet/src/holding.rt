@@ -76,7 +76,7 @@ impl Kept {
             → IsKept (events_in packet.now ++ later) self.new) }
     {
         match packet {
-            Packet::Turn(turn) => self.turn_before(turn.as_slice()),
+            Packet::Turn(turn) => self.turn_before(turn.events.as_slice()),
             Packet::Error(_, _) | Packet::Nop | Packet::Extension(_) => Ok(()),
         }
     }

@@ -14,7 +14,7 @@ mod writing;
 
 pub use holding::{Holding, held};
 pub use laws::one_packet_a_value;
-pub use packets::{Event, Packet, Turn, TurnEvent, packet_value};
+pub use packets::{Dialect, Event, Packet, Turn, TurnEvent, TurnEvents, packet_value};
 pub use reading::{PacketFault, packet_of};
 pub use spelled::turn_in;
 pub use writing::{packet_size, write_packet_into};

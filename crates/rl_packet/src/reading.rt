@@ -1,5 +1,5 @@
 //! The packet that a value is.
-ghost use Rattle.std.specs.Prelude.{◌≡◌, IfOk, IfErr, IfSome, IfNone, MatchOption, map, codes};
+ghost use Rattle.std.specs.Prelude.{◌≡◌, IfOk, IfErr, IfSome, IfNone, MatchOption, map};
 ghost use Rattle.std.specs.Prelude.{true, false};
 ghost use Rattle.std.specs.List.{AllByRecursion};
 ghost use Rattle.pv_value.specs.Plain.{Plain, sequence, plains, pairs};
@@ -8,10 +8,13 @@ ghost use Rattle.pv_words.specs.Words.{labelled};
 ghost use Rattle.rl_packet.specs.Wired.{is_wire_reference, is_wired, all_wired, all_pairs_wired};
 ghost use Rattle.rl_packet.specs.Wired.{is_peer, IsEvent, IsTurnEvent};
 ghost use Rattle.rl_packet.specs.Grammar.{is_string, is_record, NoneIs, IsPacketOf};
-ghost use Rattle.rl_packet.specs.Grammar.{IsTurnOf, IsTurnEventOf, IsEventOf, IsErrorOf};
+ghost use Rattle.rl_packet.specs.Grammar.{IsTurnOf, AreEventsOf, IsTurnEventOf};
+ghost use Rattle.rl_packet.specs.Grammar.{IsEventOf, IsErrorOf};
+ghost use Rattle.rl_packet.specs.Packets.{Dialect};
+ghost use Rattle.rl_packet.specs.Packets.{assert_word, retract_word, message_word, sync_word};
 ghost use Rattle.rl_packet.specs.declared.reading.PacketFault.TheVariants as fault;
 
-use crate::packets::{Event, Packet, Turn, TurnEvent};
+use crate::packets::{Dialect, Event, Packet, Turn, TurnEvent, TurnEvents};
 use pv_value::{Entry, NoMemory, Node, Value};
 use pv_words::{is_word, number_in, worded};
 use std::alloc::{AllocFailed, Global};
@@ -152,14 +155,14 @@ fn are_turn_events(events: &[TurnEvent]) -> bool
     true
 }
 
-impl Turn {
-    /// The turn of these events, where each may stand in a packet.
-    pub fn of_events(events: Vec<TurnEvent>) -> Option<Turn>
+impl TurnEvents {
+    /// The list of these events, where each may stand in a packet.
+    pub fn of_events(events: Vec<TurnEvent>) -> Option<TurnEvents>
         ensures turn { IfSome result (λ turn. turn ≡ events.items) }
         ensures none { IfNone result (AllByRecursion IsTurnEvent events.items → ⊥) }
     {
         if are_turn_events(&events) {
-            Some(Turn::from_vec(events))
+            Some(TurnEvents::from_vec(events))
         } else {
             None
         }
@@ -209,22 +212,43 @@ fn error_parts(value: &Value) -> Option<(&Value, &Value)>
     }
 }
 
-/// The turn that a sequence of these items is.
+/// The turn that a sequence of these items is. The first event tells the dialect: in the other one
+/// it is refused, and no further event is looked at.
 fn turn_of(alloc: Global, items: &[Value]) -> Result<Turn, PacketFault>
     ensures turn { IfOk result (IsTurnOf (sequence (plains items.now))) }
     ensures bad { IfErr result (NoneIs (IsTurnOf (sequence (plains items.now)))) }
 {
+    match turn_in_dialect(alloc, Dialect::Newer, items) {
+        Err(PacketFault::BadPacket) => turn_in_dialect(alloc, Dialect::Older, items),
+        read => read,
+    }
+}
+
+/// The turn that a sequence of these items is in the dialect.
+fn turn_in_dialect(alloc: Global, dialect: Dialect, items: &[Value]) -> Result<Turn, PacketFault>
+    ensures turn { IfOk result (IsTurnOf (sequence (plains items.now))) }
+    ensures bad { IfErr result (NoneIs (AreEventsOf dialect items.now)) }
+{
+    let events = events_of(alloc, dialect, items)?;
+    Ok(Turn::of(dialect, events))
+}
+
+/// The events that these items are in the dialect.
+fn events_of(alloc: Global, dialect: Dialect, items: &[Value]) -> Result<TurnEvents, PacketFault>
+    ensures events { IfOk result (AreEventsOf dialect items.now) }
+    ensures bad { IfErr result (NoneIs (AreEventsOf dialect items.now)) }
+{
     let mut events = Vec::new(alloc);
     for item in items {
-        events.push(turn_event_of(item)?)?;
+        events.push(turn_event_of(dialect, item)?)?;
     }
-    Ok(Turn::from_vec(events))
+    Ok(TurnEvents::from_vec(events))
 }
 
 /// The event at an object that a value is: `[oid event]`.
-fn turn_event_of(value: &Value) -> Result<TurnEvent, PacketFault>
-    ensures event { IfOk result (IsTurnEventOf value.now) }
-    ensures bad { IfErr result (NoneIs (IsTurnEventOf value.now)) }
+fn turn_event_of(dialect: Dialect, value: &Value) -> Result<TurnEvent, PacketFault>
+    ensures event { IfOk result (IsTurnEventOf dialect value.now) }
+    ensures bad { IfErr result (NoneIs (IsTurnEventOf dialect value.now)) }
 {
     let Node::Seq(parts) = &value.node else {
         return Err(PacketFault::BadPacket);
@@ -235,35 +259,37 @@ fn turn_event_of(value: &Value) -> Result<TurnEvent, PacketFault>
     let Some(oid) = number_in(oid) else {
         return Err(PacketFault::BadPacket);
     };
-    let event = event_of(event)?;
+    let event = event_of(dialect, event)?;
     Ok(TurnEvent { oid, event })
 }
 
 /// The event that a value is.
-fn event_of(value: &Value) -> Result<Event, PacketFault>
-    ensures event { IfOk result (IsEventOf value.now) }
-    ensures bad { IfErr result (NoneIs (IsEventOf value.now)) }
+fn event_of(dialect: Dialect, value: &Value) -> Result<Event, PacketFault>
+    ensures event { IfOk result (IsEventOf dialect value.now) }
+    ensures bad { IfErr result (NoneIs (IsEventOf dialect value.now)) }
 {
     let Some((word, fields)) = worded(value) else {
         return Err(PacketFault::BadPacket);
     };
-    if is_word(word, b"A") {
+    if is_word(word, dialect.assert_word().as_bytes()) {
         assertion_of(fields)
-    } else if is_word(word, b"R") {
+    } else if is_word(word, dialect.retract_word().as_bytes()) {
         retraction_of(fields)
-    } else if is_word(word, b"M") {
+    } else if is_word(word, dialect.message_word().as_bytes()) {
         message_of(fields)
-    } else if is_word(word, b"S") {
+    } else if is_word(word, dialect.sync_word().as_bytes()) {
         sync_of(fields)
     } else {
         Err(PacketFault::BadPacket)
     }
 }
 
-/// The event `<A assertion handle>` with these fields.
+/// The assertion with these fields: the value and the handle.
 fn assertion_of(fields: &[Value]) -> Result<Event, PacketFault>
-    ensures event { IfOk result (IsEventOf (labelled (codes "A") fields.now)) }
-    ensures bad { IfErr result (NoneIs (IsEventOf (labelled (codes "A") fields.now))) }
+    ensures event { (d : Dialect)
+        → IfOk result (IsEventOf d (labelled (assert_word d) fields.now)) }
+    ensures bad { (d : Dialect)
+        → IfErr result (NoneIs (IsEventOf d (labelled (assert_word d) fields.now))) }
 {
     let [value, handle] = fields else {
         return Err(PacketFault::BadPacket);
@@ -277,10 +303,12 @@ fn assertion_of(fields: &[Value]) -> Result<Event, PacketFault>
     Ok(Event::Assert(value.copy()?, handle))
 }
 
-/// The event `<R handle>` with these fields.
+/// The retraction with these fields: the handle.
 fn retraction_of(fields: &[Value]) -> Result<Event, PacketFault>
-    ensures event { IfOk result (IsEventOf (labelled (codes "R") fields.now)) }
-    ensures bad { IfErr result (NoneIs (IsEventOf (labelled (codes "R") fields.now))) }
+    ensures event { (d : Dialect)
+        → IfOk result (IsEventOf d (labelled (retract_word d) fields.now)) }
+    ensures bad { (d : Dialect)
+        → IfErr result (NoneIs (IsEventOf d (labelled (retract_word d) fields.now))) }
 {
     let [handle] = fields else {
         return Err(PacketFault::BadPacket);
@@ -291,10 +319,12 @@ fn retraction_of(fields: &[Value]) -> Result<Event, PacketFault>
     Ok(Event::Retract(handle))
 }
 
-/// The event `<M body>` with these fields.
+/// The message with these fields: the body.
 fn message_of(fields: &[Value]) -> Result<Event, PacketFault>
-    ensures event { IfOk result (IsEventOf (labelled (codes "M") fields.now)) }
-    ensures bad { IfErr result (NoneIs (IsEventOf (labelled (codes "M") fields.now))) }
+    ensures event { (d : Dialect)
+        → IfOk result (IsEventOf d (labelled (message_word d) fields.now)) }
+    ensures bad { (d : Dialect)
+        → IfErr result (NoneIs (IsEventOf d (labelled (message_word d) fields.now))) }
 {
     let [body] = fields else {
         return Err(PacketFault::BadPacket);
@@ -305,10 +335,12 @@ fn message_of(fields: &[Value]) -> Result<Event, PacketFault>
     Ok(Event::Message(body.copy()?))
 }
 
-/// The event `<S #:peer>` with these fields.
+/// The sync with these fields: the peer.
 fn sync_of(fields: &[Value]) -> Result<Event, PacketFault>
-    ensures event { IfOk result (IsEventOf (labelled (codes "S") fields.now)) }
-    ensures bad { IfErr result (NoneIs (IsEventOf (labelled (codes "S") fields.now))) }
+    ensures event { (d : Dialect)
+        → IfOk result (IsEventOf d (labelled (sync_word d) fields.now)) }
+    ensures bad { (d : Dialect)
+        → IfErr result (NoneIs (IsEventOf d (labelled (sync_word d) fields.now))) }
 {
     let [peer] = fields else {
         return Err(PacketFault::BadPacket);

@@ -1,19 +1,23 @@
 //! The turn that bytes begin with, of which no value is made but those that its events hold.
-ghost use Rattle.std.specs.Prelude.{◌≡◌, ℕ, ◌<◌, ◌^◌, List, ◌∷◌, pos, map};
+ghost use Rattle.std.specs.Prelude.{◌≡◌, ℕ, ◌<◌, ◌^◌, List, [], ◌∷◌, pos, map};
 ghost use Rattle.std.specs.Prelude.{IfOk, IfSome, IfNone};
 ghost use Rattle.std.specs.List.{AllByRecursion};
+ghost use Rattle.pv_value.specs.Plain.{Plain};
 ghost use Rattle.pv_words.specs.Words.{number};
 ghost use Rattle.pv_binary.specs.Reads.{BeginsWith};
-ghost use Rattle.rl_packet.specs.Packets.{TurnEvent, event_value, aimed_value, turn_value};
+ghost use Rattle.rl_packet.specs.Packets.{Dialect, TurnRecord, event_value, aimed_value};
+ghost use Rattle.rl_packet.specs.Packets.{turn_value};
+ghost use Rattle.rl_packet.specs.Packets.{assert_word, retract_word, message_word, sync_word};
 ghost use Rattle.rl_packet.specs.Wired.{IsEvent, IsTurnEvent};
+ghost use Rattle.rl_packet.specs.Grammar.{IsTurn};
 ghost use Rattle.rl_packet.specs.Spelled.{Begins, BeginsAll, opened};
-ghost use Rattle.rl_packet.specs.Spelled.{NoNumber, NoEvent, NoAimed, NoEvents};
+ghost use Rattle.rl_packet.specs.Spelled.{NoNumber, NoEvent, NoAimed, NoEvents, NoTurn};
 
-use crate::packets::{Event, Turn, TurnEvent};
+use crate::packets::{Dialect, Event, Turn, TurnEvent, TurnEvents};
 use crate::reading::{is_peer, is_wired};
 use pv_binary::{read_int, read_within, tags};
 use pv_read::READ_DEPTH;
-use pv_value::NoMemory;
+use pv_value::{NoMemory, Value};
 use std::alloc::Global;
 
 /// How deep a value in an event may nest: the turn, the event at its object and the event itself
@@ -21,21 +25,59 @@ use std::alloc::Global;
 const VALUE_DEPTH: u32 = READ_DEPTH - 3;
 
 /// The turn that the bytes begin with, and how many bytes spell it; none only where they begin with
-/// something else, or with a turn that isn't whole: what that is, `read` and `packet_of` tell.
+/// something else, or with a turn that isn't whole or nests deeper than is read: what that is,
+/// `read` and `packet_of` tell. In the dialect that isn't the turn's the first event is refused,
+/// and nothing behind it is looked at.
 pub fn turn_in(alloc: Global, bytes: &[u8]) -> Result<Option<(Turn, usize)>, NoMemory>
     ensures turn { IfOk result (λ o. IfSome o (λ x.
         BeginsWith bytes.now x.1 (turn_value x.0))) }
-    ensures none { IfOk result (λ o. IfNone o ((es : List TurnEvent) (n : ℕ)
-        → AllByRecursion IsTurnEvent es → BeginsWith bytes.now n (turn_value es) → ⊥)) }
+    ensures good { IfOk result (λ o. IfSome o (λ x. IsTurn x.0)) }
+    ensures none { IfOk result (λ o. IfNone o ((t : TurnRecord) (n : ℕ)
+        → IsTurn t → BeginsWith bytes.now n (turn_value t) → ⊥)) }
+{
+    let likely = likely_dialect(bytes);
+    match spoken_in(alloc, likely, bytes)? {
+        Some(found) => Ok(Some(found)),
+        None => spoken_in(alloc, likely.other(), bytes),
+    }
+}
+
+/// The dialect to try first: the older one where the word that is the first event's label has more
+/// than one letter. Nothing but how long it takes goes by it.
+fn likely_dialect(bytes: &[u8]) -> Dialect {
+    match first_word_len(bytes) {
+        Some(0 | 1) | None => Dialect::Newer,
+        Some(_) => Dialect::Older,
+    }
+}
+
+/// What stands where a turn has the length of its first event's label, behind the length of the
+/// event's oid.
+fn first_word_len(bytes: &[u8]) -> Option<u8> {
+    let oid_len = *bytes.get(3)?;
+    bytes.get(usize::from(oid_len) + 6).copied()
+}
+
+/// The turn in the dialect that the bytes begin with, and how many bytes spell it.
+fn spoken_in(
+    alloc: Global,
+    dialect: Dialect,
+    bytes: &[u8],
+) -> Result<Option<(Turn, usize)>, NoMemory>
+    ensures turn { IfOk result (λ o. IfSome o (λ x.
+        BeginsWith bytes.now x.1 (turn_value x.0))) }
+    ensures good { IfOk result (λ o. IfSome o (λ x. IsTurn x.0)) }
+    ensures none { IfOk result (λ o. IfNone o (NoTurn dialect bytes.now)) }
 {
     let Some(rest) = behind(bytes, tags::SEQUENCE) else {
         return Ok(None);
     };
-    let Some((events, rest)) = events_in(alloc, rest)? else {
+    let Some((events, rest)) = events_in(alloc, dialect, rest)? else {
         return Ok(None);
     };
     let size = bytes.len() - rest.len();
-    Ok(Some((Turn::from_vec(events), size)))
+    let turn = Turn::of(dialect, TurnEvents::from_vec(events));
+    Ok(Some((turn, size)))
 }
 
 /// The bytes behind this one, where they begin with it.
@@ -83,11 +125,15 @@ fn number_in(bytes: &[u8]) -> Option<(u64, &[u8])>
 
 /// The events up to the end of their sequence, and the bytes behind it. Most turns have one, for
 /// which there is room at once.
-fn events_in(alloc: Global, bytes: &[u8]) -> Result<Option<(Vec<TurnEvent>, &[u8])>, NoMemory>
+fn events_in(
+    alloc: Global,
+    dialect: Dialect,
+    bytes: &[u8],
+) -> Result<Option<(Vec<TurnEvent>, &[u8])>, NoMemory>
     ensures good { IfOk result (λ o. IfSome o (λ x. AllByRecursion IsTurnEvent x.0.items)) }
     ensures events { IfOk result (λ o. IfSome o (λ x.
-        BeginsAll 63 bytes.now (map aimed_value x.0.items) x.1.now)) }
-    ensures none { IfOk result (λ o. IfNone o (NoEvents bytes.now)) }
+        BeginsAll 63 bytes.now (map (aimed_value dialect) x.0.items) x.1.now)) }
+    ensures none { IfOk result (λ o. IfNone o (NoEvents dialect bytes.now)) }
 {
     let mut events = Vec::with_capacity(alloc, 1)?;
     let mut rest = bytes;
@@ -95,7 +141,7 @@ fn events_in(alloc: Global, bytes: &[u8]) -> Result<Option<(Vec<TurnEvent>, &[u8
         if let Some(after) = behind(rest, tags::END) {
             return Ok(Some((events, after)));
         }
-        let Some((event, after)) = aimed_in(alloc, rest)? else {
+        let Some((event, after)) = aimed_in(alloc, dialect, rest)? else {
             return Ok(None);
         };
         events.push(event)?;
@@ -105,11 +151,15 @@ fn events_in(alloc: Global, bytes: &[u8]) -> Result<Option<(Vec<TurnEvent>, &[u8
 }
 
 /// The event at an object that the bytes begin with, and the bytes behind it.
-fn aimed_in(alloc: Global, bytes: &[u8]) -> Result<Option<(TurnEvent, &[u8])>, NoMemory>
+fn aimed_in(
+    alloc: Global,
+    dialect: Dialect,
+    bytes: &[u8],
+) -> Result<Option<(TurnEvent, &[u8])>, NoMemory>
     ensures good { IfOk result (λ o. IfSome o (λ x. IsTurnEvent x.0)) }
     ensures event { IfOk result (λ o. IfSome o (λ x.
-        Begins 63 bytes.now (aimed_value x.0) x.1.now)) }
-    ensures none { IfOk result (λ o. IfNone o (NoAimed bytes.now)) }
+        Begins 63 bytes.now (aimed_value dialect x.0) x.1.now)) }
+    ensures none { IfOk result (λ o. IfNone o (NoAimed dialect bytes.now)) }
 {
     let Some(aim) = behind(bytes, tags::SEQUENCE) else {
         return Ok(None);
@@ -117,7 +167,7 @@ fn aimed_in(alloc: Global, bytes: &[u8]) -> Result<Option<(TurnEvent, &[u8])>, N
     let Some((oid, record)) = number_in(aim) else {
         return Ok(None);
     };
-    let Some((event, end)) = event_in(alloc, record)? else {
+    let Some((event, end)) = event_in(alloc, dialect, record)? else {
         return Ok(None);
     };
     let Some(rest) = behind(end, tags::END) else {
@@ -126,52 +176,63 @@ fn aimed_in(alloc: Global, bytes: &[u8]) -> Result<Option<(TurnEvent, &[u8])>, N
     Ok(Some((TurnEvent { oid, event }, rest)))
 }
 
-/// The letter of the record that the bytes begin with, and the bytes of its fields.
-fn letter_in(bytes: &[u8]) -> Option<(u8, &[u8])>
-    ensures found { IfSome result (λ x. bytes.now ≡ opened x.0 x.1.now) }
-    ensures none { IfNone result ((letter : ℕ) (fields : List ℕ)
-        → bytes.now ≡ opened letter fields → ⊥) }
+/// The word that is the label of the record that the bytes begin with, where a byte tells how long
+/// it is, and the bytes of the record's fields.
+fn word_in(bytes: &[u8]) -> Option<(&[u8], &[u8])>
+    ensures found { IfSome result (λ x. bytes.now ≡ opened x.0.now x.1.now) }
+    ensures none { IfNone result ((word : List ℕ) (fields : List ℕ)
+        → bytes.now ≡ opened word fields → ⊥) }
 {
     let Some(label) = behind(bytes, tags::RECORD) else {
         return None;
     };
-    let Some(count) = behind(label, tags::SYMBOL) else {
+    let Some(symbol) = behind(label, tags::SYMBOL) else {
         return None;
     };
-    let Some(text) = behind(count, 1) else {
+    let Some((count, text)) = symbol.split_first() else {
         return None;
     };
-    let Some((letter, fields)) = text.split_first() else {
+    let count = usize::from(*count);
+    if text.len() < count {
         return None;
-    };
-    Some((*letter, fields))
+    }
+    Some(text.split_at(count))
 }
 
 /// The event that the bytes begin with, and the bytes behind it.
-fn event_in(alloc: Global, bytes: &[u8]) -> Result<Option<(Event, &[u8])>, NoMemory>
+fn event_in(
+    alloc: Global,
+    dialect: Dialect,
+    bytes: &[u8],
+) -> Result<Option<(Event, &[u8])>, NoMemory>
     ensures good { IfOk result (λ o. IfSome o (λ x. IsEvent x.0)) }
     ensures event { IfOk result (λ o. IfSome o (λ x.
-        Begins 62 bytes.now (event_value x.0) x.1.now)) }
-    ensures none { IfOk result (λ o. IfNone o (NoEvent bytes.now)) }
+        Begins 62 bytes.now (event_value dialect x.0) x.1.now)) }
+    ensures none { IfOk result (λ o. IfNone o (NoEvent dialect bytes.now)) }
 {
-    let Some((letter, fields)) = letter_in(bytes) else {
+    let Some((word, fields)) = word_in(bytes) else {
         return Ok(None);
     };
-    match letter {
-        b'A' => assertion_in(alloc, fields),
-        b'R' => Ok(retraction_in(fields)),
-        b'M' => message_in(alloc, fields),
-        b'S' => sync_in(alloc, fields),
-        _ => Ok(None),
+    if word == dialect.assert_word().as_bytes() {
+        assertion_in(alloc, fields)
+    } else if word == dialect.retract_word().as_bytes() {
+        Ok(retraction_in(fields))
+    } else if word == dialect.message_word().as_bytes() {
+        message_in(alloc, fields)
+    } else if word == dialect.sync_word().as_bytes() {
+        sync_in(alloc, fields)
+    } else {
+        Ok(None)
     }
 }
 
-/// The event `<A assertion handle>` whose fields the bytes begin with, and the bytes behind it.
+/// The assertion whose fields the bytes begin with, and the bytes behind it.
 fn assertion_in(alloc: Global, bytes: &[u8]) -> Result<Option<(Event, &[u8])>, NoMemory>
     ensures good { IfOk result (λ o. IfSome o (λ x. IsEvent x.0)) }
-    ensures event { IfOk result (λ o. IfSome o (λ x.
-        Begins 62 (opened 65 bytes.now) (event_value x.0) x.1.now)) }
-    ensures none { IfOk result (λ o. IfNone o (NoEvent (opened 65 bytes.now))) }
+    ensures event { (d : Dialect) → IfOk result (λ o. IfSome o (λ x.
+        Begins 62 (opened (assert_word d) bytes.now) (event_value d x.0) x.1.now)) }
+    ensures none { (d : Dialect) → IfOk result (λ o. IfNone o
+        (NoEvent d (opened (assert_word d) bytes.now))) }
 {
     let Some((value, count)) = read_within(alloc, bytes, VALUE_DEPTH)? else {
         return Ok(None);
@@ -188,12 +249,13 @@ fn assertion_in(alloc: Global, bytes: &[u8]) -> Result<Option<(Event, &[u8])>, N
     Ok(Some((Event::Assert(value, handle), rest)))
 }
 
-/// The event `<R handle>` whose field the bytes begin with, and the bytes behind it.
+/// The retraction whose field the bytes begin with, and the bytes behind it.
 fn retraction_in(bytes: &[u8]) -> Option<(Event, &[u8])>
     ensures good { IfSome result (λ x. IsEvent x.0) }
-    ensures event { IfSome result (λ x.
-        Begins 62 (opened 82 bytes.now) (event_value x.0) x.1.now) }
-    ensures none { IfNone result (NoEvent (opened 82 bytes.now)) }
+    ensures event { (d : Dialect) → IfSome result (λ x.
+        Begins 62 (opened (retract_word d) bytes.now) (event_value d x.0) x.1.now) }
+    ensures none { (d : Dialect) → IfNone result
+        (NoEvent d (opened (retract_word d) bytes.now)) }
 {
     let Some((handle, end)) = number_in(bytes) else {
         return None;
@@ -204,17 +266,31 @@ fn retraction_in(bytes: &[u8]) -> Option<(Event, &[u8])>
     Some((Event::Retract(handle), rest))
 }
 
-/// The event `<M body>` whose field the bytes begin with, and the bytes behind it.
-fn message_in(alloc: Global, bytes: &[u8]) -> Result<Option<(Event, &[u8])>, NoMemory>
-    ensures good { IfOk result (λ o. IfSome o (λ x. IsEvent x.0)) }
-    ensures event { IfOk result (λ o. IfSome o (λ x.
-        Begins 62 (opened 77 bytes.now) (event_value x.0) x.1.now)) }
-    ensures none { IfOk result (λ o. IfNone o (NoEvent (opened 77 bytes.now))) }
+/// The one field of a record that the bytes begin with, up to the record's end, and the bytes
+/// behind that.
+fn field_in(alloc: Global, bytes: &[u8]) -> Result<Option<(Value, &[u8])>, NoMemory>
+    ensures found { IfOk result (λ o. IfSome o (λ x. BeginsAll 61 bytes.now (x.0 ∷ []) x.1.now)) }
+    ensures none { IfOk result (λ o. IfNone o ((v : Plain) (rest : List ℕ)
+        → BeginsAll 61 bytes.now (v ∷ []) rest → ⊥)) }
 {
-    let Some((body, end)) = read_within(alloc, bytes, VALUE_DEPTH)? else {
+    let Some((value, end)) = read_within(alloc, bytes, VALUE_DEPTH)? else {
         return Ok(None);
     };
     let Some(rest) = behind(end, tags::END) else {
+        return Ok(None);
+    };
+    Ok(Some((value, rest)))
+}
+
+/// The message whose field the bytes begin with, and the bytes behind it.
+fn message_in(alloc: Global, bytes: &[u8]) -> Result<Option<(Event, &[u8])>, NoMemory>
+    ensures good { IfOk result (λ o. IfSome o (λ x. IsEvent x.0)) }
+    ensures event { (d : Dialect) → IfOk result (λ o. IfSome o (λ x.
+        Begins 62 (opened (message_word d) bytes.now) (event_value d x.0) x.1.now)) }
+    ensures none { (d : Dialect) → IfOk result (λ o. IfNone o
+        (NoEvent d (opened (message_word d) bytes.now))) }
+{
+    let Some((body, rest)) = field_in(alloc, bytes)? else {
         return Ok(None);
     };
     if !is_wired(&body) {
@@ -223,17 +299,15 @@ fn message_in(alloc: Global, bytes: &[u8]) -> Result<Option<(Event, &[u8])>, NoM
     Ok(Some((Event::Message(body), rest)))
 }
 
-/// The event `<S #:peer>` whose field the bytes begin with, and the bytes behind it.
+/// The sync whose field the bytes begin with, and the bytes behind it.
 fn sync_in(alloc: Global, bytes: &[u8]) -> Result<Option<(Event, &[u8])>, NoMemory>
     ensures good { IfOk result (λ o. IfSome o (λ x. IsEvent x.0)) }
-    ensures event { IfOk result (λ o. IfSome o (λ x.
-        Begins 62 (opened 83 bytes.now) (event_value x.0) x.1.now)) }
-    ensures none { IfOk result (λ o. IfNone o (NoEvent (opened 83 bytes.now))) }
+    ensures event { (d : Dialect) → IfOk result (λ o. IfSome o (λ x.
+        Begins 62 (opened (sync_word d) bytes.now) (event_value d x.0) x.1.now)) }
+    ensures none { (d : Dialect) → IfOk result (λ o. IfNone o
+        (NoEvent d (opened (sync_word d) bytes.now))) }
 {
-    let Some((peer, end)) = read_within(alloc, bytes, VALUE_DEPTH)? else {
-        return Ok(None);
-    };
-    let Some(rest) = behind(end, tags::END) else {
+    let Some((peer, rest)) = field_in(alloc, bytes)? else {
         return Ok(None);
     };
     if !is_peer(&peer) {

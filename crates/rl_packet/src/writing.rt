@@ -1,15 +1,14 @@
 //! Packets written without their values, and how long that is.
-ghost use Rattle.std.specs.Prelude.{◌≡◌, ◌++◌, ◌∷◌, [], ◌^◌, ◌-◌, min, map, OnOk};
+ghost use Rattle.std.specs.Prelude.{◌≡◌, ◌<◌, ◌+◌, ◌-◌, ◌^◌, ◌++◌, ◌∷◌, [], length, min, map, OnOk};
 ghost use Rattle.std.specs.Io.{StartsWith};
-ghost use Rattle.pv_value.specs.Plain.{plains};
+ghost use Rattle.pv_value.specs.Plain.{plains, symbol};
 ghost use Rattle.pv_value.specs.Weight.{canonical_size, sizes_with};
 ghost use Rattle.pv_value.specs.WellFormed.{IsWellFormed, AreWellFormed};
 ghost use Rattle.pv_words.specs.Words.{number};
 ghost use Rattle.pv_binary.specs.Written.{written, written_all};
-ghost use Rattle.rl_packet.specs.Packets.{event_value, aimed_value, turn_value, packet_value};
-ghost use Rattle.rl_packet.specs.Spelled.{opened};
+ghost use Rattle.rl_packet.specs.Packets.{Dialect, event_value, aimed_value, packet_value};
 
-use crate::packets::{Event, Packet, TurnEvent};
+use crate::packets::{Dialect, Event, Packet, TurnEvent};
 use pv_binary::{tags, write_integer_into, write_into};
 use pv_value::{NoMemory, Value, canonical_size, push_byte, push_bytes};
 use pv_words::number;
@@ -25,7 +24,7 @@ pub fn write_packet_into(out: &mut Vec<u8>, packet: &Packet) -> Result<(), NoMem
     match packet {
         Packet::Turn(turn) => {
             push_byte(out, tags::SEQUENCE)?;
-            write_events(out, turn.as_slice())
+            write_events(out, turn.written_dialect(), turn.events.as_slice())
         }
         Packet::Error(message, detail) => {
             push_bytes(
@@ -42,25 +41,25 @@ pub fn write_packet_into(out: &mut Vec<u8>, packet: &Packet) -> Result<(), NoMem
 }
 
 /// Events at their objects, and the end of their sequence.
-fn write_events(out: &mut Vec<u8>, events: &[TurnEvent]) -> Result<(), NoMemory>
+fn write_events(out: &mut Vec<u8>, dialect: Dialect, events: &[TurnEvent]) -> Result<(), NoMemory>
     ensures written { OnOk result (out.new.items ≡ out.old.items
-        ++ (written_all (plains (map aimed_value events.now)) ++ 0x84 ∷ [])) }
+        ++ (written_all (plains (map (aimed_value dialect) events.now)) ++ 0x84 ∷ [])) }
     ensures front { StartsWith out.new.items out.old.items }
 {
     for event in events {
-        write_aimed(out, event)?;
+        write_aimed(out, dialect, event)?;
     }
     push_byte(out, tags::END)
 }
 
-fn write_aimed(out: &mut Vec<u8>, event: &TurnEvent) -> Result<(), NoMemory>
+fn write_aimed(out: &mut Vec<u8>, dialect: Dialect, event: &TurnEvent) -> Result<(), NoMemory>
     ensures written { OnOk result
-        (out.new.items ≡ out.old.items ++ written (aimed_value event.now)) }
+        (out.new.items ≡ out.old.items ++ written (aimed_value dialect event.now)) }
     ensures front { StartsWith out.new.items out.old.items }
 {
     push_byte(out, tags::SEQUENCE)?;
     write_number(out, event.oid)?;
-    write_event(out, &event.event)?;
+    write_event(out, dialect, &event.event)?;
     push_byte(out, tags::END)
 }
 
@@ -71,39 +70,45 @@ fn write_number(out: &mut Vec<u8>, n: u64) -> Result<(), NoMemory>
     write_integer_into(out, n as i128)
 }
 
-/// The bytes in front of the fields of a record whose label is the symbol of this letter.
-fn open_event(out: &mut Vec<u8>, letter: u8) -> Result<(), NoMemory>
-    ensures all { OnOk result (out.new.items ≡ out.old.items ++ opened letter []) }
+/// The bytes in front of the fields of a record whose label is the symbol of this word. Those of
+/// one letter are appended at once.
+fn open_event(out: &mut Vec<u8>, word: &str) -> Result<(), NoMemory>
+    requires { length word.now < 128 }
+    ensures all { OnOk result
+        (out.new.items ≡ out.old.items ++ 0xb4 ∷ written (symbol word.now)) }
     ensures front { StartsWith out.new.items out.old.items }
 {
-    push_bytes(out, &[tags::RECORD, tags::SYMBOL, 1, letter])
+    if let [letter] = word.as_bytes() {
+        return push_bytes(out, &[tags::RECORD, tags::SYMBOL, 1, *letter]);
+    }
+    push_bytes(out, &[tags::RECORD, tags::SYMBOL, word.len() as u8])?;
+    push_bytes(out, word.as_bytes())
 }
 
-#[tactic(auto, unfolding(pv_binary::specs::Numbers::varint))]
-fn write_event(out: &mut Vec<u8>, event: &Event) -> Result<(), NoMemory>
+fn write_event(out: &mut Vec<u8>, dialect: Dialect, event: &Event) -> Result<(), NoMemory>
     ensures written { OnOk result
-        (out.new.items ≡ out.old.items ++ written (event_value event.now)) }
+        (out.new.items ≡ out.old.items ++ written (event_value dialect event.now)) }
     ensures front { StartsWith out.new.items out.old.items }
 {
     match event {
         Event::Assert(value, handle) => {
-            open_event(out, b'A')?;
+            open_event(out, dialect.assert_word())?;
             write_into(out, value)?;
             write_number(out, *handle)?;
             push_byte(out, tags::END)
         }
         Event::Retract(handle) => {
-            open_event(out, b'R')?;
+            open_event(out, dialect.retract_word())?;
             write_number(out, *handle)?;
             push_byte(out, tags::END)
         }
         Event::Message(body) => {
-            open_event(out, b'M')?;
+            open_event(out, dialect.message_word())?;
             write_into(out, body)?;
             push_byte(out, tags::END)
         }
         Event::Sync(peer) => {
-            open_event(out, b'S')?;
+            open_event(out, dialect.sync_word())?;
             write_into(out, peer)?;
             push_byte(out, tags::END)
         }
@@ -125,7 +130,7 @@ fn see_packet(packet: &Packet)
     ensures { IsWellFormed (packet_value packet.now) }
 {
     match packet {
-        Packet::Turn(turn) => see_events(turn.as_slice()),
+        Packet::Turn(turn) => see_events(turn.events.as_slice()),
         Packet::Error(message, detail) => {
             let _ = &message.node;
             let _ = &detail.node;
@@ -138,7 +143,7 @@ fn see_packet(packet: &Packet)
 }
 
 fn see_events(events: &[TurnEvent])
-    ensures { AreWellFormed (plains (map aimed_value events.now)) }
+    ensures { (d : Dialect) → AreWellFormed (plains (map (aimed_value d) events.now)) }
 {
     for event in events {
         see_number(event.oid);
@@ -147,7 +152,7 @@ fn see_events(events: &[TurnEvent])
 }
 
 fn see_event(event: &Event)
-    ensures { IsWellFormed (event_value event.now) }
+    ensures { (d : Dialect) → IsWellFormed (event_value d event.now) }
 {
     match event {
         Event::Assert(value, handle) => {
@@ -175,7 +180,9 @@ fn size_of(packet: &Packet) -> u64
     ensures { result ≡ min (canonical_size (packet_value packet.now)) (2 ^ 64 - 1) }
 {
     match packet {
-        Packet::Turn(turn) => events_size(turn.as_slice()).saturating_add(2),
+        Packet::Turn(turn) => {
+            events_size(turn.written_dialect(), turn.events.as_slice()).saturating_add(2)
+        }
         Packet::Error(message, detail) => canonical_size(message)
             .saturating_add(canonical_size(detail))
             .saturating_add(9),
@@ -184,21 +191,22 @@ fn size_of(packet: &Packet) -> u64
     }
 }
 
-fn events_size(events: &[TurnEvent]) -> u64
-    ensures { result ≡ min (sizes_with 0 (plains (map aimed_value events.now))) (2 ^ 64 - 1) }
+fn events_size(dialect: Dialect, events: &[TurnEvent]) -> u64
+    ensures { result ≡
+        min (sizes_with 0 (plains (map (aimed_value dialect) events.now))) (2 ^ 64 - 1) }
 {
     let mut total: u64 = 0;
     for event in events {
-        total = total.saturating_add(aimed_size(event));
+        total = total.saturating_add(aimed_size(dialect, event));
     }
     total
 }
 
-fn aimed_size(event: &TurnEvent) -> u64
-    ensures { result ≡ min (canonical_size (aimed_value event.now)) (2 ^ 64 - 1) }
+fn aimed_size(dialect: Dialect, event: &TurnEvent) -> u64
+    ensures { result ≡ min (canonical_size (aimed_value dialect event.now)) (2 ^ 64 - 1) }
 {
     number_size(event.oid)
-        .saturating_add(event_size(&event.event))
+        .saturating_add(event_size(dialect, &event.event))
         .saturating_add(2)
 }
 
@@ -208,15 +216,27 @@ fn number_size(n: u64) -> u64
     canonical_size(&number(n))
 }
 
-fn event_size(event: &Event) -> u64
-    ensures { result ≡ min (canonical_size (event_value event.now)) (2 ^ 64 - 1) }
+/// By how much a record is longer than its fields, where its label is the symbol of this word.
+fn label_size(word: &str) -> u64
+    requires { length word.now < 128 }
+    ensures { result ≡ length word.now + 4 }
+{
+    word.len() as u64 + 4
+}
+
+fn event_size(dialect: Dialect, event: &Event) -> u64
+    ensures { result ≡ min (canonical_size (event_value dialect event.now)) (2 ^ 64 - 1) }
 {
     match event {
         Event::Assert(value, handle) => canonical_size(value)
             .saturating_add(number_size(*handle))
-            .saturating_add(5),
-        Event::Retract(handle) => number_size(*handle).saturating_add(5),
-        Event::Message(body) => canonical_size(body).saturating_add(5),
-        Event::Sync(peer) => canonical_size(peer).saturating_add(5),
+            .saturating_add(label_size(dialect.assert_word())),
+        Event::Retract(handle) => {
+            number_size(*handle).saturating_add(label_size(dialect.retract_word()))
+        }
+        Event::Message(body) => {
+            canonical_size(body).saturating_add(label_size(dialect.message_word()))
+        }
+        Event::Sync(peer) => canonical_size(peer).saturating_add(label_size(dialect.sync_word())),
     }
 }

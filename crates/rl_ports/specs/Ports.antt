@@ -10,20 +10,33 @@ use Rattle.pv_value.specs.Weight.{weight}
 use Rattle.pv_value.specs.Plain.{Plain}
 use Rattle.pv_words.specs.Parts.{same}
 use Rattle.sr_caveat.specs.Caps.{Cap, cap_of}
+use Rattle.rl_packet.specs.declared.packets.Dialect.{Dialect}
 use Rattle.rl_ports.specs.Limits.{most_exports, most_exports_weight}
 pub use Rattle.rl_ports.specs.declared.ports.Inbound.{Inbound}
 pub use Rattle.rl_ports.specs.declared.ports.Inbound.TheVariants.{Row, Refused}
 pub use Rattle.rl_ports.specs.declared.ports.PortsFault.{PortsFault}
 pub use Rattle.rl_ports.specs.declared.ports.PortsFault.TheVariants.{Exports, Weight, NoMemory}
 
--- exports by their numbers, from 0 on, each once; and what each handle in use stands for
+-- exports by their numbers, from 0 on, each once; what each handle in use stands for; and the dialect, where one is fixed
 pub record PortsState : Type 0 where
   pub exports : List Plain
   pub handles : List (ℕ × Inbound)
+  pub dialect : Option Dialect
 
 -- export 0 is the reference to the connection's first object
 abbrev pub ports_to : Plain → PortsState
-ports_to first = record { exports = first ∷ []; handles = [] }
+ports_to first = record { exports = first ∷ []; handles = []; dialect = None }
+
+-- ---- the dialect
+
+-- the first of two that is there
+abbrev pub first_fixed : Option Dialect → Option Dialect → Option Dialect
+first_fixed (Some d) e = Some d
+first_fixed None e = e
+
+-- a turn that has a dialect gives it to a connection that has none
+abbrev pub speaking : Option Dialect → PortsState → PortsState
+speaking d p = record p { dialect = first_fixed p.dialect d }
 
 -- ---- handles
 
@@ -35,10 +48,10 @@ abbrev pub is_in_use : ℕ → PortsState → Bool
 is_in_use h p = is_some (inbound_of h p)
 
 abbrev pub taken_into_use : ℕ → Inbound → PortsState → PortsState
-taken_into_use h what p = record { exports = p.exports; handles = insert_entry nat_cmp p.handles h what }
+taken_into_use h what p = record p { handles = insert_entry nat_cmp p.handles h what }
 
 abbrev pub freed : ℕ → PortsState → PortsState
-freed h p = record { exports = p.exports; handles = remove_entry (is_at (nat_cmp h)) p.handles }
+freed h p = record p { handles = remove_entry (is_at (nat_cmp h)) p.handles }
 
 -- ---- exports
 
@@ -82,7 +95,7 @@ abbrev pub fault_at : Plain → List Plain → Option PortsFault
 fault_at r xs = if is_some (place_of r xs) then None else export_fault (xs ++ r ∷ [])
 
 abbrev pub with_exports : List Plain → PortsState → PortsState
-with_exports xs p = record { exports = xs; handles = p.handles }
+with_exports xs p = record p { exports = xs }
 
 -- the fault is why; where memory ran out, nothing is said
 abbrev pub IsWhy : Option PortsFault → PortsFault → Type 0

@@ -1,14 +1,15 @@
-//! The exports and the inbound handles of one connection.
+//! The exports and the inbound handles of one connection, and its dialect.
 ghost use Rattle.std.specs.Prelude.{◌≡◌, ◌≤◌, None, IfOk, IfErr, OnOk, OnErr, length, take};
 ghost use Rattle.std.specs.Option.{option_copied};
 ghost use Rattle.rl_ports.specs.Limits.{most_exports};
 ghost use Rattle.rl_ports.specs.Ports.{ports_to, inbound_of, taken_into_use, freed, export_of};
 ghost use Rattle.rl_ports.specs.Ports.{reference_at};
 ghost use Rattle.rl_ports.specs.Ports.{exported, number_of, fault_at, with_exports, place_of};
-ghost use Rattle.rl_ports.specs.Ports.{IsWhy};
+ghost use Rattle.rl_ports.specs.Ports.{IsWhy, speaking};
 
 use crate::export_list::ExportList;
 use pv_value::{NoMemory, Value};
+use rl_packet::Dialect;
 use sr_caveat::Cap;
 use std::alloc::Global;
 use std::collections::BTreeMap;
@@ -55,11 +56,13 @@ impl From<NoMemory> for PortsFault {
     }
 }
 
-/// Exports by their numbers, from 0 on, one for each reference; and inbound handles.
+/// Exports by their numbers, from 0 on, one for each reference; inbound handles; and the dialect,
+/// where one is fixed.
 #[derive(Drop)]
 pub struct Ports {
     exports: ExportList,
     handles: BTreeMap<u64, Inbound>,
+    dialect: Option<Dialect>,
 }
 
 impl Model for Ports {
@@ -71,18 +74,38 @@ impl Model for Ports {
 
     ghost coded = { Prim.hlevel (codes, plain_code) };
 
-    ghost view = { λ p. record { exports = p.exports; handles = p.handles.entries } };
+    ghost view = { λ p. record {
+      exports = p.exports;
+      handles = p.handles.entries;
+      dialect = p.dialect;
+    } };
 }
 
 impl Ports {
-    /// Export 0 is that reference, whatever it weighs, and no handle is in use.
+    /// Export 0 is that reference, whatever it weighs, no handle is in use, and no dialect is
+    /// fixed.
     pub fn new(alloc: Global, first: Value) -> Result<Ports, NoMemory>
         ensures { IfOk result (λ p. p ≡ ports_to first) }
     {
         Ok(Ports {
             exports: ExportList::new(alloc, first)?,
             handles: BTreeMap::new(alloc),
+            dialect: None,
         })
+    }
+
+    /// The dialect, where one is fixed.
+    pub fn dialect(&self) -> Option<Dialect>
+        ensures { result ≡ self.now.dialect }
+    {
+        self.dialect
+    }
+
+    /// The dialect is that of a turn from now on, where the turn has one and none was fixed.
+    pub fn speak(&mut self, dialect: Option<Dialect>)
+        ensures { self.new ≡ speaking dialect self.old }
+    {
+        self.dialect = self.dialect.or(dialect);
     }
 
     /// The export of this number, where there is one.

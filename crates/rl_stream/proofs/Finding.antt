@@ -26,3 +26,7 @@ or_find (Some x) b = Some x
 pub first_some : {X : Type 0} (a b : Option X) → is_some a ≡ true → is_some (or_find a b) ≡ true
 first_some None b p = absurd cc
 first_some (Some x) b p = refl
+
+pub second_some : {X : Type 0} (a b : Option X) → is_some b ≡ true → is_some (or_find a b) ≡ true
+second_some None b p = p
+second_some (Some x) b p = refl

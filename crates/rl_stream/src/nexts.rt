@@ -4,6 +4,7 @@ ghost use Rattle.pv_binary.specs.Reads.{BeginsWith};
 ghost use Rattle.pv_stream.specs.Feeds.{FeedState, given};
 ghost use Rattle.pv_stream.specs.Nexts as values;
 ghost use Rattle.rl_packet.specs.Packets.{turn_value};
+ghost use Rattle.rl_packet.specs.Grammar.{IsTurn};
 ghost use Rattle.rl_stream.specs.Nexts.{front_of, IsNext};
 
 use pv_stream::{Found, first_in, front_of};
@@ -54,9 +55,8 @@ pub(crate) fn turn_next(alloc: Global, rest: &[u8]) -> Result<Option<Next>, NoMe
 /// The turn stands next, where the first so many bytes spell it.
 fn whole_turn(turn: Turn, size: usize) -> Next
     ensures { (rest : List ℕ) (place : ℕ) → BeginsWith (front_of rest) size (turn_value turn)
-        → IsNext rest place result }
+        → IsTurn turn → IsNext rest place result }
 {
-    let _events = turn.as_slice();
     Next::Whole(Packet::Turn(turn), size)
 }
 

@@ -6,6 +6,8 @@
 #[cfg(test)]
 mod crossing;
 #[cfg(test)]
+mod dialects;
+#[cfg(test)]
 mod making;
 #[cfg(test)]
 mod spelled;

@@ -22,7 +22,8 @@ keeps_front old es [] front = front
 keeps_front old es (r ∷ rs) front =
     keeps_front old (exported r es) rs (one_keeps_front old es r (is_some (place_of r es)) front)
 
--- where the handles stay too, the ports are as they were
+-- where the handles and the dialect stay too, the ports are as they were
 pub kept_as : (old new : PortsState) → take (length old.exports) new.exports ≡ old.exports
-    → new.handles ≡ old.handles → with_exports (take (length old.exports) new.exports) new ≡ old
-kept_as old new front handles = rw (front, handles) refl
+    → new.handles ≡ old.handles → new.dialect ≡ old.dialect
+    → with_exports (take (length old.exports) new.exports) new ≡ old
+kept_as old new front handles dialect = rw (front, handles, dialect) refl

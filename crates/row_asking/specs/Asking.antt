@@ -6,8 +6,11 @@ use Rattle.pv_words.specs.Words.{labelled, number}
 use Rattle.gk_sturdy.specs.declared.bound.Binding.{Binding}
 use Rattle.ac_world.specs.declared.watched.Watched.{Watched}
 use Rattle.rl_packet.specs.Grammar.{IsPacketOf}
+use Rattle.rl_packet.specs.Packets.{spoken}
+use Rattle.rl_packet.specs.declared.packets.Dialect.TheVariants.{Newer}
 use Rattle.rl_packet.specs.declared.packets.Event.TheVariants.{Assert}
 use Rattle.rl_packet.specs.declared.packets.Packet.TheVariants.{Turn as TurnPacket}
+use Rattle.rl_packet.specs.declared.packets.Turn.{Turn as TurnRecord}
 use Rattle.rl_packet.specs.declared.packets.TurnEvent.{TurnEvent}
 use Rattle.hub_machine.specs.declared.faults.Fault.{Fault}
 use Rattle.hub_machine.specs.declared.faults.Fault.TheVariants.{BadBytes, BadPacket}
@@ -16,8 +19,8 @@ use Rattle.sc_events.specs.Events.{reference_to}
 use Rattle.row_asking.specs.declared.asking.Asked.{Asked}
 use Rattle.row_asking.specs.declared.asking.Asked.TheVariants.{Step, Pending, Lowest, Live, Holds}
 
--- a turn as it stands on the wire
-abbrev pub IsTurnAt : Plain → List TurnEvent → Type 0
+-- a turn as it stands on the wire, in either dialect
+abbrev pub IsTurnAt : Plain → TurnRecord → Type 0
 IsTurnAt v turn = IsPacketOf v (TurnPacket turn)
 
 -- a value asserted at object 0 under a handle, i past this one
@@ -28,6 +31,10 @@ assertion v handle i = record { oid = 0; event = Assert v (min (handle + i) (2 ^
 abbrev pub assertions : Plain → ℕ → ℕ → List TurnEvent
 assertions v handle count = map (assertion v handle) (range_with_len 0 count)
 
+-- the turn of them, in the newer dialect
+abbrev pub fill_of : Plain → ℕ → ℕ → TurnRecord
+fill_of v handle count = spoken Newer (assertions v handle count)
+
 -- why what a connection sent is no packet: bad-packet, or <bad-bytes kind place>
 abbrev pub IsCause : Plain → Fault → Type 0
 IsCause v BadPacket = v ≡ symbol (codes "bad-packet")
@@ -35,12 +42,12 @@ IsCause v (BadBytes kind place) = v ≡ labelled (codes "bad-bytes") (number kin
 IsCause v f = ⊥
 
 -- a packet, <packet k TURN>, or <fill k v handle count>
-abbrev pub AsksPacket : Plain → ℕ → List TurnEvent → Type 0
+abbrev pub AsksPacket : Plain → ℕ → TurnRecord → Type 0
 AsksPacket v k turn =
     ((x : Plain) × (v ≡ labelled (codes "packet") (number k ∷ x ∷ [])) × IsTurnAt x turn)
     ⊎ ((x : Plain) × (handle : ℕ) × (count : ℕ)
     × (v ≡ labelled (codes "fill") (number k ∷ x ∷ number handle ∷ number count ∷ []))
-    × (turn ≡ assertions x handle count))
+    × (turn ≡ fill_of x handle count))
 
 -- <bind oid key actor [caveat ..]>: the oid, bound to a key and to the reference to an actor itself with these caveats
 abbrev pub AsksBinding : Plain → Binding → Type 0

@@ -3,7 +3,7 @@ ghost use Rattle.std.specs.Prelude.{◌≡◌, [], ◌∷◌, codes, IfOk};
 ghost use Rattle.pv_value.specs.Plain.{symbol};
 ghost use Rattle.pv_words.specs.Words.{labelled, number as number_value};
 ghost use Rattle.row_asking.specs.Asking.{Asks, AsksBinding, AsksWatcher, IsTurnAt, IsCause};
-ghost use Rattle.row_asking.specs.Asking.{assertions as assertions_of};
+ghost use Rattle.row_asking.specs.Asking.{fill_of};
 ghost use Rattle.hub_machine.specs.declared.faults.Fault.TheVariants.{BadBytes};
 
 use ac_world::Watched;
@@ -11,7 +11,7 @@ use gk_sturdy::Binding;
 use hub_machine::{Fault as Cause, Step};
 use pv_value::{Node, Value};
 use pv_words::{is_word, number_in, worded};
-use rl_packet::{Event, Packet, PacketFault, Turn, TurnEvent, packet_of};
+use rl_packet::{Dialect, Event, Packet, PacketFault, Turn, TurnEvent, TurnEvents, packet_of};
 use row_cases::Fault;
 use sc_events::reference_to;
 use std::alloc::Global;
@@ -169,9 +169,9 @@ fn turn_of(alloc: Global, value: &Value) -> Result<Turn, Fault>
     }
 }
 
-/// A turn that asserts a value so often, under the handles from this one on.
+/// A turn in the newer dialect that asserts a value so often, under the handles from this one on.
 fn assertions(alloc: Global, value: &Value, handle: u64, count: u32) -> Result<Turn, Fault>
-    ensures { IfOk result (λ turn. turn ≡ assertions_of value.now handle count) }
+    ensures { IfOk result (λ turn. turn ≡ fill_of value.now handle count) }
 {
     let mut events = Vec::new(alloc);
     for i in 0..count {
@@ -179,8 +179,8 @@ fn assertions(alloc: Global, value: &Value, handle: u64, count: u32) -> Result<T
         let event = Event::Assert(value.copy()?, handle);
         events.push(TurnEvent { oid: 0, event })?;
     }
-    match Turn::of_events(events) {
-        Some(turn) => Ok(turn),
+    match TurnEvents::of_events(events) {
+        Some(events) => Ok(Turn::of(Dialect::Newer, events)),
         None => Err(Fault::Form("no packet")),
     }
 }

@@ -59,7 +59,7 @@ schema_kept : (e : Step) (s : State) → SetsUp e → (step s e).state.world.sch
 schema_kept (Bind b) s so = schema_bound (is_worn s (Bind b)) (is_barred b s) b s
 schema_kept (Watch x) s so = schema_watched (is_worn s (Watch x)) (is_unwatchable x s) x s
 schema_kept (steps.Arrive space) s so = absurd so
-schema_kept (steps.Packet k es) s so = absurd so
+schema_kept (steps.Packet k t) s so = absurd so
 schema_kept (steps.Bad k f) s so = absurd so
 schema_kept (steps.Close k) s so = absurd so
 schema_kept (steps.Turn a) s so = absurd so

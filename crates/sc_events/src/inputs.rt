@@ -69,6 +69,7 @@ fn is_text(bytes: &[u8]) -> bool
 }
 
 /// The next value in the binary form, and the bytes after it; none at the end.
+#[inline(always)]
 fn next_binary(alloc: Global, rest: &[u8]) -> Result<Option<(Value, &[u8])>, NextFault>
     ensures next { IfOk result (λ o. IsNextValue rest.now (option_map (λ x. (x.0, x.1.now)) o)) }
     ensures stop { IsErrOf result NextFault.Bad → BeginNone rest.now }
@@ -96,6 +97,7 @@ fn next_text(alloc: Global, rest: &[u8], total: usize) -> Result<Option<(Value, 
 }
 
 /// The next value of an input of `total` bytes, and the bytes after it; none at the end.
+#[inline(always)]
 fn next_as(
     alloc: Global,
     reading: Reading,
@@ -139,6 +141,7 @@ impl<'a> Values<'a> {
 
     /// The next value; none at the end of the input. A text that isn't UTF-8 has none, and goes on
     /// with what begins none.
+    #[inline(always)]
     pub fn next(&mut self, alloc: Global) -> Result<Option<Value>, NextFault>
         ensures next { IfOk result (λ o. (form : Form) (bytes : List ℕ) (vs : List Plain)
             → AreSoFar form bytes vs self.old → GoOn form bytes vs o self.new) }

@@ -4,9 +4,11 @@ use Rattle.std.specs.List.{flat_map}
 use Rattle.pv_value.specs.Plain.{Plain, byte_string, symbol, sequence, dictionary, embedded, plains, pairs}
 use Rattle.pv_words.specs.Words.{labelled, number}
 use Rattle.pv_binary.specs.Written.{written}
-use Rattle.rl_packet.specs.Packets.{packet_value}
+use Rattle.rl_packet.specs.Packets.{packet_value, spoken}
+use Rattle.rl_packet.specs.declared.packets.Dialect.TheVariants.{Newer}
 use Rattle.rl_packet.specs.declared.packets.Event.TheVariants.{Assert}
 use Rattle.rl_packet.specs.declared.packets.TurnEvent.{TurnEvent}
+use Rattle.rl_packet.specs.declared.packets.Packet.{Packet}
 use Rattle.rl_packet.specs.declared.packets.Packet.TheVariants.{Turn}
 
 -- a quotient, rounded up
@@ -72,9 +74,14 @@ abbrev pub events_of : (ℕ → TurnEvent) → ℕ → ℕ → List TurnEvent
 events_of event i zero = []
 events_of event i (suc k) = events_of event i k ++ event (i + k) ∷ []
 
+-- the packet of these events, in the newer dialect
+abbrev pub newer_packet : List TurnEvent → Packet
+newer_packet es = Turn (spoken Newer es)
+
 -- `<bytes j b>`, b the packet of these events
 abbrev pub bytes_event : ℕ → List TurnEvent → Plain
-bytes_event j es = labelled (codes "bytes") (number j ∷ byte_string (written (packet_value (Turn es))) ∷ [])
+bytes_event j es =
+    labelled (codes "bytes") (number j ∷ byte_string (written (packet_value (newer_packet es))) ∷ [])
 
 -- behind them stands `<drain 10000>`
 abbrev pub sent_by : ℕ → List TurnEvent → List Plain

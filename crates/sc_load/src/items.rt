@@ -10,7 +10,7 @@ ghost use Rattle.sc_load.specs.Loads.{observes, loads, events_of, after, given};
 use crate::draws::Draws;
 use pv_value::{Entry, Items, NoMemory, Text, Value};
 use pv_words::{labelled, number};
-use rl_packet::{Event, Turn, TurnEvent};
+use rl_packet::{Event, TurnEvent, TurnEvents};
 use std::alloc::Global;
 
 /// A record with one field.
@@ -94,9 +94,9 @@ fn observation(alloc: Global, item: u64) -> Result<Value, NoMemory>
 }
 
 /// The observations of so many items, from one on.
-pub(crate) fn observations(alloc: Global, first: u64, count: u64) -> Result<Turn, NoMemory>
+pub(crate) fn observations(alloc: Global, first: u64, count: u64) -> Result<TurnEvents, NoMemory>
     requires { first + count ≤ most_items }
-    ensures { IfOk result (λ turn. turn ≡ events_of observes first count) }
+    ensures { IfOk result (λ events. events ≡ events_of observes first count) }
 {
     let mut events = Vec::new(alloc);
     for further in 0..count {
@@ -104,7 +104,7 @@ pub(crate) fn observations(alloc: Global, first: u64, count: u64) -> Result<Turn
         let event = Event::Assert(observation(alloc, item)?, 2 * item);
         events.push(TurnEvent { oid: 0, event })?;
     }
-    Ok(Turn::from_vec(events))
+    Ok(TurnEvents::from_vec(events))
 }
 
 /// What so many items assert, from one on, behind the draws of those before.
@@ -113,11 +113,11 @@ pub(crate) fn loads(
     draws: &mut Draws,
     first: u64,
     count: u64,
-) -> Result<Turn, NoMemory>
+) -> Result<TurnEvents, NoMemory>
     requires { first + count ≤ most_items }
-    ensures turn { IfOk result (λ turn. (start : ℕ) → draws.old.number ≡ after start first
-        → turn ≡ events_of (loads start) first count) }
-    ensures draws { IfOk result (λ turn. (start : ℕ) → draws.old.number ≡ after start first
+    ensures events { IfOk result (λ events. (start : ℕ) → draws.old.number ≡ after start first
+        → events ≡ events_of (loads start) first count) }
+    ensures draws { IfOk result (λ events. (start : ℕ) → draws.old.number ≡ after start first
         → draws.new.number ≡ after start (first + count)) }
 {
     let mut events = Vec::new(alloc);
@@ -127,5 +127,5 @@ pub(crate) fn loads(
         let event = Event::Assert(load, 2 * item + 1);
         events.push(TurnEvent { oid: 0, event })?;
     }
-    Ok(Turn::from_vec(events))
+    Ok(TurnEvents::from_vec(events))
 }

@@ -13,7 +13,7 @@ use crate::items::{loads, observations, of_one, of_two};
 use pv_binary::{write, write_into};
 use pv_value::{Blob, NoMemory, Value};
 use pv_words::number;
-use rl_packet::{Packet, Turn, packet_value};
+use rl_packet::{Dialect, Packet, Turn, TurnEvents, packet_value};
 use std::alloc::Global;
 
 /// The most items of a turn.
@@ -37,21 +37,27 @@ fn open_all(alloc: Global, count: u64) -> Result<Vec<u8>, NoMemory>
     Ok(script)
 }
 
-/// `<bytes j b>` for a turn.
-fn bytes_event(alloc: Global, connection: u64, turn: Turn) -> Result<Value, NoMemory>
-    ensures { IfOk result (λ v. v ≡ bytes_event connection turn) }
+/// `<bytes j b>` for the turn of these events.
+fn bytes_event(alloc: Global, connection: u64, events: TurnEvents) -> Result<Value, NoMemory>
+    ensures { IfOk result (λ v. v ≡ bytes_event connection events) }
 {
+    let turn = Turn::of(Dialect::Newer, events);
     let packet = packet_value(alloc, &Packet::Turn(turn))?;
     let bytes = Value::byte_string(write(alloc, &packet)?);
     of_two(alloc, "bytes", number(connection), bytes)
 }
 
-/// A connection sends a turn, and its work is done.
-fn send(alloc: Global, script: &mut Vec<u8>, connection: u64, turn: Turn) -> Result<(), NoMemory>
+/// A connection sends the turn of these events, and its work is done.
+fn send(
+    alloc: Global,
+    script: &mut Vec<u8>,
+    connection: u64,
+    events: TurnEvents,
+) -> Result<(), NoMemory>
     ensures { OnOk result (script.new.items
-        ≡ script.old.items ++ flat_map written (sent_by connection turn)) }
+        ≡ script.old.items ++ flat_map written (sent_by connection events)) }
 {
-    write_into(script, &bytes_event(alloc, connection, turn)?)?;
+    write_into(script, &bytes_event(alloc, connection, events)?)?;
     write_into(script, &of_one(alloc, "drain", number(DRAIN_TURNS))?)
 }
 

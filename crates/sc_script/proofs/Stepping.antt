@@ -156,7 +156,7 @@ said : (e : Step) (s : State) → SetsUp e → IsSaid (step s e).reply
 said (Bind b) s so = bind_said (is_worn s (Bind b)) (is_barred b s) b s
 said (Watch x) s so = watch_said (is_worn s (Watch x)) (is_unwatchable x s) x s
 said (steps.Arrive space) s so = absurd so
-said (steps.Packet k es) s so = absurd so
+said (steps.Packet k t) s so = absurd so
 said (steps.Bad k f) s so = absurd so
 said (steps.Close k) s so = absurd so
 said (steps.Turn a) s so = absurd so

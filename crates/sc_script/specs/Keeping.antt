@@ -38,7 +38,7 @@ abbrev pub SetsUp : Step → Type 0
 SetsUp (step.Bind b) = Unit {0}
 SetsUp (step.Watch x) = Unit {0}
 SetsUp (step.Arrive space) = ⊥
-SetsUp (step.Packet k es) = ⊥
+SetsUp (step.Packet k t) = ⊥
 SetsUp (step.Bad k f) = ⊥
 SetsUp (step.Close k) = ⊥
 SetsUp (step.Turn a) = ⊥

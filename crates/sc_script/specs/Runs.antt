@@ -115,7 +115,7 @@ read_where k st more r = if is_there k (state_of r) then more r else goes (with_
 
 -- a packet: a turn is sent, an error ends the connection, and anything else is passed over; st is the stream behind it
 abbrev pub with_packet : ℕ → Packet → StreamState → (Running → Course) → Running → Course
-with_packet k (packet.Turn es) st more r = goes_on (read_where k st more) (stepped (step.Packet k es) r)
+with_packet k (packet.Turn t) st more r = goes_on (read_where k st more) (stepped (step.Packet k t) r)
 with_packet k (packet.Error message detail) st more r = stepped (step.Close k) (with_stream k st r)
 with_packet k packet.Nop st more r = more r
 with_packet k (packet.Extension v) st more r = more r

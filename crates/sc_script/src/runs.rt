@@ -290,7 +290,7 @@ impl<S: Space + Drop, J: Judge + Drop, B: Behaves + Drop> Run<S, J, B> {
         ensures stop { IfErr result (StopsAs self (λ N. stepped (steps.Packet connection turn))) }
     {
         // the proof learns here that its events may stand on the wire
-        let _ = turn.as_slice();
+        let _ = turn.events.as_slice();
         self.step(alloc, Step::Packet(connection, turn))
     }
 

@@ -2,7 +2,7 @@
 use Rattle.std.proofs.Common.{◌≡◌, ℕ, List, [], ◌∷◌, ◌++◌, map, filter, Bool, true, false, refl, sym, ap, ◌∙◌}
 use Rattle.std.proofs.lemmas.List.{append-nil, map-append}
 use Rattle.std.proofs.lemmas.List.Elements.{filter-append}
-use Rattle.rl_packet.specs.declared.packets.TurnEvent.{TurnEvent}
+use Rattle.rl_packet.specs.declared.packets.Turn.{Turn as TurnRecord}
 use Rattle.rl_packet.specs.declared.packets.Packet.{Packet}
 use Rattle.rl_packet.specs.declared.packets.Packet.TheVariants as packet
 use Rattle.rl_stream.specs.declared.nexts.Next.{Next}
@@ -19,18 +19,18 @@ use Rattle.srv_cuts.specs.Committed.{is_packet_step, is_own, steps_of, packet_st
 -- ---- what is due
 
 -- the packet steps of these turns, and then this one
-abbrev pub sent_then : ℕ → List (List TurnEvent) → Step → List Step
-sent_then k ts x = map (λ es. steps.Packet k es) ts ++ x ∷ []
+abbrev pub sent_then : ℕ → List TurnRecord → Step → List Step
+sent_then k ts x = map (λ t. steps.Packet k t) ts ++ x ∷ []
 
-all_own : (k : ℕ) (ts : List (List TurnEvent)) (x : Step) → is_own x ≡ true
+all_own : (k : ℕ) (ts : List TurnRecord) (x : Step) → is_own x ≡ true
     → filter is_own (sent_then k ts x) ≡ sent_then k ts x
 all_own k [] x own = rw own refl
-all_own k (es ∷ ts) x own = ap (λ (ss : List Step). steps.Packet k es ∷ ss) (all_own k ts x own)
+all_own k (t ∷ ts) x own = ap (λ (ss : List Step). steps.Packet k t ∷ ss) (all_own k ts x own)
 
-packets_of : (k : ℕ) (ts : List (List TurnEvent)) (x : Step) → is_packet_step x ≡ false
-    → filter is_packet_step (sent_then k ts x) ≡ map (λ es. steps.Packet k es) ts
+packets_of : (k : ℕ) (ts : List TurnRecord) (x : Step) → is_packet_step x ≡ false
+    → filter is_packet_step (sent_then k ts x) ≡ map (λ t. steps.Packet k t) ts
 packets_of k [] x none = rw none refl
-packets_of k (es ∷ ts) x none = ap (λ (ss : List Step). steps.Packet k es ∷ ss) (packets_of k ts x none)
+packets_of k (t ∷ ts) x none = ap (λ (ss : List Step). steps.Packet k t ∷ ss) (packets_of k ts x none)
 
 last_own : (k : ℕ) (error : Bool) (x : Next) → is_own (last_due k error x) ≡ true
 last_own k false (next.BadBytes number place) = refl
@@ -55,14 +55,14 @@ pub closing_own : (k : ℕ) (ps : List Packet)
 closing_own k ps = all_own k (turns_in ps) (steps.Close k) refl
 
 -- a closing is due behind all packets
-close_is_last : (k : ℕ) (ts : List (List TurnEvent)) (x : Step) (ss later : List Step)
+close_is_last : (k : ℕ) (ts : List TurnRecord) (x : Step) (ss later : List Step)
     → sent_then k ts x ≡ ss ++ steps.Close k ∷ later
     → ss ++ steps.Close k ∷ [] ≡ sent_then k ts (steps.Close k)
 close_is_last k [] x [] later is = refl
 close_is_last k [] x (s ∷ []) later is = absurd cc
 close_is_last k [] x (s ∷ t ∷ ss) later is = absurd cc
-close_is_last k (es ∷ ts) x [] later is = absurd cc
-close_is_last k (es ∷ ts) x (s ∷ ss) later is =
+close_is_last k (t ∷ ts) x [] later is = absurd cc
+close_is_last k (t ∷ ts) x (s ∷ ss) later is =
     let others = close_is_last k ts x ss later cc in
     cc
 
@@ -75,9 +75,9 @@ closing_due k c ss later is =
 -- what is due for the first packets is the first that is due
 pub first_due : (k : ℕ) (ps qs : List Packet) → IsFrontOf (packets_due k ps) (packets_due k (ps ++ qs))
 first_due k [] qs = (packets_due k qs, refl)
-first_due k (packet.Turn es ∷ ps) qs =
+first_due k (packet.Turn t ∷ ps) qs =
     let f = first_due k ps qs in
-    (f.0, ap (λ (ss : List Step). steps.Packet k es ∷ ss) f.1)
+    (f.0, ap (λ (ss : List Step). steps.Packet k t ∷ ss) f.1)
 first_due k (packet.Error message detail ∷ ps) qs = ([], refl)
 first_due k (packet.Nop ∷ ps) qs = first_due k ps qs
 first_due k (packet.Extension v ∷ ps) qs = first_due k ps qs
@@ -85,14 +85,14 @@ first_due k (packet.Extension v ∷ ps) qs = first_due k ps qs
 -- behind an error nothing is due
 error_stays : (ps qs : List Packet) → has_error ps ≡ true → has_error (ps ++ qs) ≡ true
 error_stays [] qs error = absurd cc
-error_stays (packet.Turn es ∷ ps) qs error = error_stays ps qs error
+error_stays (packet.Turn t ∷ ps) qs error = error_stays ps qs error
 error_stays (packet.Error message detail ∷ ps) qs error = refl
 error_stays (packet.Nop ∷ ps) qs error = error_stays ps qs error
 error_stays (packet.Extension v ∷ ps) qs error = error_stays ps qs error
 
 turns_stay : (ps qs : List Packet) → has_error ps ≡ true → turns_in (ps ++ qs) ≡ turns_in ps
 turns_stay [] qs error = absurd cc
-turns_stay (packet.Turn es ∷ ps) qs error = ap (λ (ts : List (List TurnEvent)). es ∷ ts) (turns_stay ps qs error)
+turns_stay (packet.Turn t ∷ ps) qs error = ap (λ (ts : List TurnRecord). t ∷ ts) (turns_stay ps qs error)
 turns_stay (packet.Error message detail ∷ ps) qs error = refl
 turns_stay (packet.Nop ∷ ps) qs error = turns_stay ps qs error
 turns_stay (packet.Extension v ∷ ps) qs error = turns_stay ps qs error
@@ -108,7 +108,7 @@ due_stays k c d later more error =
     let still : has_error d.packets ≡ true = ap has_error more ∙ error_stays c.packets later error in
     let turns : turns_in d.packets ≡ turns_in c.packets = ap turns_in more ∙ turns_stay c.packets later error in
     due_with_error k d still
-    ∙ ap (λ (ts : List (List TurnEvent)). sent_then k ts (steps.Close k)) turns
+    ∙ ap (λ (ts : List TurnRecord). sent_then k ts (steps.Close k)) turns
     ∙ sym (due_with_error k c error)
 
 -- ---- what was done
@@ -137,7 +137,7 @@ own_rounds (d ∷ ds) =
 
 packets_own : (ss : List Step) → filter is_packet_step ss ≡ filter is_packet_step (filter is_own ss)
 packets_own [] = refl
-packets_own (steps.Packet k es ∷ ss) = ap (λ (l : List Step). steps.Packet k es ∷ l) (packets_own ss)
+packets_own (steps.Packet k t ∷ ss) = ap (λ (l : List Step). steps.Packet k t ∷ l) (packets_own ss)
 packets_own (steps.Bind b ∷ ss) = packets_own ss
 packets_own (steps.Watch x ∷ ss) = packets_own ss
 packets_own (steps.Arrive n ∷ ss) = packets_own ss

@@ -12,7 +12,7 @@ use Rattle.srv_cuts.specs.Fronts.{IsFrontOf}
 -- ---- steps among what was committed
 
 abbrev pub is_packet_step : Step → Bool
-is_packet_step (steps.Packet k es) = true
+is_packet_step (steps.Packet k t) = true
 is_packet_step e = false
 
 -- a step that isn't the work behind another

@@ -13,7 +13,7 @@ use Rattle.pv_value.specs.contracts.Entries as entries
 use Rattle.sr_caveat.specs.contracts.CPat as pattern
 use Rattle.sr_caveat.specs.contracts.Caveat as caveat
 use Rattle.sr_caveat.specs.contracts.caps.Caveats as caveats
-use Rattle.rl_packet.specs.contracts.packets.Turn as turn
+use Rattle.rl_packet.specs.contracts.packets.TurnEvents as turn_events
 use Rattle.gk_sturdy.specs.contracts.bound.Binding as binding
 use Rattle.gk_sturdy.specs.contracts.bound.Bindings as bindings
 use Rattle.srv_session.specs.contracts.served.Served as served
@@ -86,15 +86,15 @@ caveats_send = search (crosses, sendable, caveat_send, caveat_sync) depth 60 fit
 pub caveats_sync : IsSync caveats.the_row
 caveats_sync = search (crosses, sendable, caveat_send, caveat_sync) depth 60 fits 20000
 
-pub turn_send : IsSend turn.the_row
-turn_send = search (sendable, crosses, value_send) depth 60 fits 20000
+pub turn_events_send : IsSend turn_events.the_row
+turn_events_send = search (sendable, crosses, value_send) depth 60 fits 20000
 
 pub binding_send : IsSend binding.the_row
 binding_send = search (crosses, sendable, value_send, caveats_send) depth 60 fits 20000
 
 pub served_step_send : IsSend served_step.the_row
 served_step_send =
-    search (sendable, crosses, value_send, caveats_send, turn_send, fault.the_field_send) depth 60 fits 20000
+    search (sendable, crosses, value_send, caveats_send, turn_events_send, fault.the_field_send) depth 60 fits 20000
 
 pub bindings_send : IsSend bindings.the_row
 bindings_send = search (crosses, maps.crosses, sendable, value_send, binding_send) depth 60 fits 20000

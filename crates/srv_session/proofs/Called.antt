@@ -118,7 +118,7 @@ closes_called : (k : ℕ) (e : Step) → closes k e ≡ true → called_by e ≡
 closes_called k (Bind b) is = absurd cc
 closes_called k (Watch x) is = absurd cc
 closes_called k (Arrive space) is = absurd cc
-closes_called k (Packet j es) is = absurd cc
+closes_called k (Packet j t) is = absurd cc
 closes_called k (Bad j f) is = absurd cc
 closes_called k (Close j) is =
     let same : j ≡ k = grind (arith, nat_tests, is) in

@@ -12,11 +12,11 @@ use Rattle.ac_world.specs.Turns.{After, turn_first, turn}
 use Rattle.ac_world.specs.declared.watched.Watched.{Watched}
 use Rattle.ac_world.specs.Worlds.{actor_of, entry_of, without_entry, is_system, binding, watching}
 use Rattle.ac_world.specs.Lemmas.Entries.{put_found, put_other}
-use Rattle.rl_packet.specs.declared.packets.TurnEvent.{TurnEvent}
+use Rattle.rl_packet.specs.declared.packets.Turn.{Turn as TurnRecord}
 use Rattle.rl_ports.specs.Ports.{PortsState}
 use Rattle.hub_machine.specs.declared.faults.Fault.{Fault}
 use Rattle.hub_machine.specs.State.{State, ports_of}
-use Rattle.hub_machine.specs.Admission.{Admitted, refused, admitted, admission}
+use Rattle.hub_machine.specs.Admission.{Admitted, refused, admitted, turn_admission}
 use Rattle.hub_machine.specs.Endings.{nameless, closed, failed, dismissed, finished}
 use Rattle.hub_machine.specs.Machine.{unchanged, opened, refusal, arrive_unless, accepted, judged, packet_at}
 use Rattle.hub_machine.specs.Machine.{bind_unless, is_barred, watch_unless, is_unwatchable}
@@ -155,10 +155,10 @@ module _ (k : ℕ) (since : 1 ≤ k) where
   judged_known j (admitted x) s live =
       live_ends [] (accepted j x (nameless j s)) ((lasts_sent (actor_of j) x.acts s.world).live (actor_of k) ∙ live)
 
-  packet_known : (j : ℕ) (o : Option PortsState) (es : List TurnEvent) (s : State) → IsLive s
-      → IsKnown (packet_at j o es s).state
-  packet_known j None es s live = live_known s live
-  packet_known j (Some ports) es s live = judged_known j (admission j ports s.world es) s live
+  packet_known : (j : ℕ) (o : Option PortsState) (t : TurnRecord) (s : State) → IsLive s
+      → IsKnown (packet_at j o t s).state
+  packet_known j None t s live = live_known s live
+  packet_known j (Some ports) t s live = judged_known j (turn_admission j ports s.world t) s live
 
   bad_known : (j : ℕ) (o : Option PortsState) (f : Fault) (s : State) → IsLive s → IsKnown (bad_at j o f s).state
   bad_known j None f s live = live_known s live
@@ -219,7 +219,7 @@ module _ (k : ℕ) (since : 1 ≤ k) where
   done_known s (Bind b) live = inr (bind_known (is_barred b s) b s live)
   done_known s (Watch x) live = inr (watch_known (is_unwatchable x s) x s live)
   done_known s (Arrive space) live = inr (arrive_known (refusal space s) space s live)
-  done_known s (Packet j es) live = inr (packet_known j (ports_of j s) es s live)
+  done_known s (Packet j t) live = inr (packet_known j (ports_of j s) t s live)
   done_known s (Bad j f) live = inr (bad_known j (ports_of j s) f s live)
   done_known s (Close j) live = close_known j (ports_of j s) s live
   done_known s (Turn a) live = inr (turn_known a s live)

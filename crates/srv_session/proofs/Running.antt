@@ -19,7 +19,7 @@ anywhere : (s t : State) (e : Step) → IsAllowed s e → IsAllowed t e
 anywhere s t (Bind b) may = may
 anywhere s t (Watch x) may = may
 anywhere s t (Arrive space) may = may
-anywhere s t (Packet k es) may = may
+anywhere s t (Packet k turn) may = may
 anywhere s t (Bad k f) may = may
 anywhere s t (Close k) may = may
 anywhere s t (Turn a) may = may

@@ -31,7 +31,7 @@ pub allowed_once : (s : State) (e : Step) → IsProp (IsAllowed s e)
 allowed_once s (Bind b) = sound_once b.cap
 allowed_once s (Watch x) = Unit-prop
 allowed_once s (Arrive space) = Unit-prop
-allowed_once s (Packet k es) = AllByRecursion-prop IsTurnEvent turn_event_once es
+allowed_once s (Packet k t) = AllByRecursion-prop IsTurnEvent turn_event_once t.events
 allowed_once s (Bad k f) = Unit-prop
 allowed_once s (Close k) = Unit-prop
 allowed_once s (Turn a) = Unit-prop

@@ -46,7 +46,7 @@ abbrev pub closes : ℕ → Step → Bool
 closes k (Bind b) = false
 closes k (Watch x) = false
 closes k (Arrive space) = false
-closes k (Packet j es) = false
+closes k (Packet j t) = false
 closes k (Bad j f) = false
 closes k (Close j) = j == k
 closes k (Turn a) = false

@@ -9,7 +9,7 @@ use Rattle.srv_turns.specs.Reading.{has_error, packets_due, last_due, steps_due}
 
 pub error_behind : (ps qs : List Packet) → has_error ps ≡ false → has_error (ps ++ qs) ≡ has_error qs
 error_behind [] qs none = refl
-error_behind (packet.Turn es ∷ ps) qs none = error_behind ps qs none
+error_behind (packet.Turn t ∷ ps) qs none = error_behind ps qs none
 error_behind (packet.Error message detail ∷ ps) qs none = absurd cc
 error_behind (packet.Nop ∷ ps) qs none = error_behind ps qs none
 error_behind (packet.Extension v ∷ ps) qs none = error_behind ps qs none
@@ -17,7 +17,7 @@ error_behind (packet.Extension v ∷ ps) qs none = error_behind ps qs none
 pub due_behind : (k : ℕ) (ps qs : List Packet) → has_error ps ≡ false
     → packets_due k (ps ++ qs) ≡ packets_due k ps ++ packets_due k qs
 due_behind k [] qs none = refl
-due_behind k (packet.Turn es ∷ ps) qs none = ap (λ (ss : List Step). steps.Packet k es ∷ ss) (due_behind k ps qs none)
+due_behind k (packet.Turn t ∷ ps) qs none = ap (λ (ss : List Step). steps.Packet k t ∷ ss) (due_behind k ps qs none)
 due_behind k (packet.Error message detail ∷ ps) qs none = absurd cc
 due_behind k (packet.Nop ∷ ps) qs none = due_behind k ps qs none
 due_behind k (packet.Extension v ∷ ps) qs none = due_behind k ps qs none

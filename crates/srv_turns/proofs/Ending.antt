@@ -9,7 +9,7 @@ use Rattle.hub_machine.specs.declared.steps.Step.TheVariants as steps
 use Rattle.hub_machine.specs.declared.steps.Reply.{Reply}
 use Rattle.hub_machine.specs.declared.steps.Reply.TheVariants as reply
 use Rattle.pv_value.specs.Plain.{Plain}
-use Rattle.rl_packet.specs.declared.packets.TurnEvent.{TurnEvent}
+use Rattle.rl_packet.specs.declared.packets.Turn.{Turn as TurnRecord}
 use Rattle.rl_packet.specs.declared.packets.Packet.{Packet}
 use Rattle.rl_packet.specs.declared.packets.Packet.TheVariants as packet
 use Rattle.srv_turns.specs.Reading.{has_error, packets_due, is_at_end}
@@ -154,38 +154,38 @@ pub cut_by : (e : Step) (f : GateFault) (before now : List Pair) (spent : Bool) 
 cut_by e gate.Spent before now spent cut cause = (cut, inr (refl, cause refl))
 cut_by e gate.NoMemory before now spent cut cause = (cut, inl refl)
 
-pub sent_by : (k : ℕ) (es : List TurnEvent) (r : Reply) (before now : List Pair) (spent : Bool)
-    → CanBeReplied (steps.Packet k es) r → IsDone (steps.Packet k es) r before now
-    → Sends k es before now spent (after_turn r)
-sent_by k es reply.Taken before now spent can done = done
-sent_by k es reply.Worn before now spent can done = inl (reply.Worn, can, refl, done, refl)
-sent_by k es reply.Barred before now spent can done = inl (reply.Barred, can, refl, done, refl)
-sent_by k es reply.Halted before now spent can done = inl (reply.Halted, can, refl, done, refl)
-sent_by k es reply.Full before now spent can done = inl (reply.Full, can, refl, done, refl)
-sent_by k es (reply.Opened n) before now spent can done = inl (reply.Opened n, can, refl, done, refl)
-sent_by k es reply.Gone before now spent can done = inl (reply.Gone, can, refl, done, refl)
-sent_by k es (reply.Refused f) before now spent can done = inl (reply.Refused f, can, refl, done, refl)
-sent_by k es reply.Idle before now spent can done = inl (reply.Idle, can, refl, done, refl)
-sent_by k es (reply.Sent p) before now spent can done = inl (reply.Sent p, can, refl, done, refl)
-sent_by k es reply.Ran before now spent can done = inl (reply.Ran, can, refl, done, refl)
+pub sent_by : (k : ℕ) (t : TurnRecord) (r : Reply) (before now : List Pair) (spent : Bool)
+    → CanBeReplied (steps.Packet k t) r → IsDone (steps.Packet k t) r before now
+    → Sends k t before now spent (after_turn r)
+sent_by k t reply.Taken before now spent can done = done
+sent_by k t reply.Worn before now spent can done = inl (reply.Worn, can, refl, done, refl)
+sent_by k t reply.Barred before now spent can done = inl (reply.Barred, can, refl, done, refl)
+sent_by k t reply.Halted before now spent can done = inl (reply.Halted, can, refl, done, refl)
+sent_by k t reply.Full before now spent can done = inl (reply.Full, can, refl, done, refl)
+sent_by k t (reply.Opened n) before now spent can done = inl (reply.Opened n, can, refl, done, refl)
+sent_by k t reply.Gone before now spent can done = inl (reply.Gone, can, refl, done, refl)
+sent_by k t (reply.Refused f) before now spent can done = inl (reply.Refused f, can, refl, done, refl)
+sent_by k t reply.Idle before now spent can done = inl (reply.Idle, can, refl, done, refl)
+sent_by k t (reply.Sent p) before now spent can done = inl (reply.Sent p, can, refl, done, refl)
+sent_by k t reply.Ran before now spent can done = inl (reply.Ran, can, refl, done, refl)
 
 -- ---- a packet
 
-pub turn_said : (p : Packet) (es : List TurnEvent) → said p ≡ said_as.Turn es → p ≡ packet.Turn es
-turn_said (packet.Turn es) fs e = ap packet.Turn cc
+pub turn_said : (p : Packet) (t : TurnRecord) → said p ≡ said_as.Turn t → p ≡ packet.Turn t
+turn_said (packet.Turn t) u e = ap packet.Turn cc
 turn_said (packet.Error m d) fs e = absurd cc
 turn_said packet.Nop fs e = absurd cc
 turn_said (packet.Extension v) fs e = absurd cc
 
 pub error_said : (p : Packet) → said p ≡ said_as.Error → (m : Plain) × (d : Plain) × (p ≡ packet.Error m d)
-error_said (packet.Turn es) e = absurd cc
+error_said (packet.Turn t) e = absurd cc
 error_said (packet.Error m d) e = (m, d, refl)
 error_said packet.Nop e = absurd cc
 error_said (packet.Extension v) e = absurd cc
 
 pub nothing_said : (k : ℕ) (p : Packet) → said p ≡ said_as.Nothing
     → (has_error (p ∷ []) ≡ false) × (packets_due k (p ∷ []) ≡ [])
-nothing_said k (packet.Turn es) e = absurd cc
+nothing_said k (packet.Turn t) e = absurd cc
 nothing_said k (packet.Error m d) e = absurd cc
 nothing_said k packet.Nop e = (refl, refl)
 nothing_said k (packet.Extension v) e = (refl, refl)
@@ -207,10 +207,10 @@ pub refusal_inside : (e : Step) (before now : List Pair) (spent : Bool) (x : Rea
 refusal_inside e before now spent x (inl (r, can, not, done, is)) = ap is_of_link is ∙ end_of_inside r
 refusal_inside e before now spent x (inr cut) = cut_inside e before now spent x cut
 
-pub sends_inside : (k : ℕ) (es : List TurnEvent) (before now : List Pair) (spent : Bool) (o : Option ReaderEnd)
-    → Sends k es before now spent o → IfSome o (λ x. is_of_link x ≡ false)
-sends_inside k es before now spent None sends = tt
-sends_inside k es before now spent (Some x) sends = refusal_inside (steps.Packet k es) before now spent x sends
+pub sends_inside : (k : ℕ) (t : TurnRecord) (before now : List Pair) (spent : Bool) (o : Option ReaderEnd)
+    → Sends k t before now spent o → IfSome o (λ x. is_of_link x ≡ false)
+sends_inside k t before now spent None sends = tt
+sends_inside k t before now spent (Some x) sends = refusal_inside (steps.Packet k t) before now spent x sends
 
 pub error_inside : (k : ℕ) (before now : List Pair) (spent : Bool) (x : ReaderEnd)
     → Closes k before now spent end.PeerError x → is_of_link x ≡ false

@@ -6,7 +6,7 @@ use Rattle.std.proofs.lemmas.List.Elements.{All-nil, All-append, All-drop}
 use Rattle.std.proofs.Math.Dec.{eqb-suc-zero}
 use Rattle.pv_binary.specs.OneOfThree.{AreBytes}
 use Rattle.pv_value.specs.Plain.{Plain}
-use Rattle.rl_packet.specs.declared.packets.TurnEvent.{TurnEvent}
+use Rattle.rl_packet.specs.declared.packets.Turn.{Turn as TurnRecord}
 use Rattle.rl_packet.specs.declared.packets.Packet.{Packet}
 use Rattle.rl_packet.specs.declared.packets.Packet.TheVariants as packet
 use Rattle.rl_stream.specs.declared.nexts.Next.{Next}
@@ -230,11 +230,11 @@ module _ (k : ℕ) (b : List ℕ) (st : StreamState) (before mid : List Pair) (r
     }
 
     -- its turn was taken
-    pub taken : (es : List TurnEvent) (now : List Pair) → p ≡ packet.Turn es
-        → IsDone (steps.Packet k es) reply.Taken mid now → IsReading k b (read_off size st) before now
-    taken es now same (rs, round, pairs) =
-        let d : Round = record { step = steps.Packet k es; reply = reply.Taken; work = rs } in
-        let due : packets_due k (p ∷ []) ≡ steps.Packet k es ∷ [] = ap (λ q. packets_due k (q ∷ [])) same in
+    pub taken : (t : TurnRecord) (now : List Pair) → p ≡ packet.Turn t
+        → IsDone (steps.Packet k t) reply.Taken mid now → IsReading k b (read_off size st) before now
+    taken t now same (rs, round, pairs) =
+        let d : Round = record { step = steps.Packet k t; reply = reply.Taken; work = rs } in
+        let due : packets_due k (p ∷ []) ≡ steps.Packet k t ∷ [] = ap (λ q. packets_due k (q ∷ [])) same in
         record {
           bytes = reading.bytes;
           packets = reading.packets ++ p ∷ [];
@@ -242,7 +242,7 @@ module _ (k : ℕ) (b : List ℕ) (st : StreamState) (before mid : List Pair) (r
           no_error = error_behind reading.packets (p ∷ []) reading.no_error ∙ ap (λ q. has_error (q ∷ [])) same;
           rounds = reading.rounds ++ d ∷ [];
           done = map-append step_of reading.rounds (d ∷ [])
-              ∙ ap (λ (ss : List Step). ss ++ steps.Packet k es ∷ []) reading.done
+              ∙ ap (λ (ss : List Step). ss ++ steps.Packet k t ∷ []) reading.done
               ∙ sym (due_behind k reading.packets (p ∷ []) reading.no_error
               ∙ ap (λ (ss : List Step). packets_due k reading.packets ++ ss) due);
           taken = all_snoc IsTakenRound reading.rounds d reading.taken (refl, round);
@@ -253,16 +253,16 @@ module _ (k : ℕ) (b : List ℕ) (st : StreamState) (before mid : List Pair) (r
 
 module _ (k : ℕ) (b : List ℕ) (st : StreamState) (before mid : List Pair) (reading : IsReading k b st before mid)
     (size : ℕ) where
-  pub turn_read : HaveCourses → (es : List TurnEvent) → IsNext st.rest st.place (next.Whole (packet.Turn es) size)
-      → (now : List Pair) (spent : Bool) (o : Option ReaderEnd) → Sends k es mid now spent o
+  pub turn_read : HaveCourses → (t : TurnRecord) → IsNext st.rest st.place (next.Whole (packet.Turn t) size)
+      → (now : List Pair) (spent : Bool) (o : Option ReaderEnd) → Sends k t mid now spent o
       → ReadsOn k b (read_off size st) before now spent o
-  turn_read courses es is now spent None done =
-      taken k b st before mid reading size (packet.Turn es) is es now refl done
-  turn_read courses es is now spent (Some x) refusal =
-      let c = behind_course k b st before mid reading size (packet.Turn es) is courses in
-      refused k b st before mid reading (with_packet k b st before mid reading size (packet.Turn es) is c.0)
-      (is_with_packet k b st before mid reading size (packet.Turn es) is c.0 c.1) (steps.Packet k es)
-      (steps_due k c.0) now spent x refl refl (packet_replied k es) refusal
+  turn_read courses t is now spent None done =
+      taken k b st before mid reading size (packet.Turn t) is t now refl done
+  turn_read courses t is now spent (Some x) refusal =
+      let c = behind_course k b st before mid reading size (packet.Turn t) is courses in
+      refused k b st before mid reading (with_packet k b st before mid reading size (packet.Turn t) is c.0)
+      (is_with_packet k b st before mid reading size (packet.Turn t) is c.0 c.1) (steps.Packet k t)
+      (steps_due k c.0) now spent x refl refl (packet_replied k t) refusal
 
   pub error_read : HaveCourses → (m d : Plain) → IsNext st.rest st.place (next.Whole (packet.Error m d) size)
       → (now : List Pair) (spent : Bool) (x : ReaderEnd) → Closes k mid now spent end.PeerError x

@@ -1,10 +1,10 @@
 -- Which replies steps of a peer, and work, can get.
-use Rattle.std.proofs.Common.{◌≡◌, ℕ, ◌-◌, List, Bool, true, false, Option, None, Some, if◌then◌else◌, refl, subst}
-use Rattle.rl_packet.specs.declared.packets.TurnEvent.{TurnEvent}
+use Rattle.std.proofs.Common.{◌≡◌, ℕ, ◌-◌, Bool, true, false, Option, None, Some, if◌then◌else◌, refl, subst}
+use Rattle.rl_packet.specs.declared.packets.Turn.{Turn as TurnRecord}
 use Rattle.rl_ports.specs.Ports.{PortsState}
 use Rattle.hub_machine.specs.State.{State, ports_of}
 use Rattle.hub_machine.specs.declared.faults.Fault.{Fault}
-use Rattle.hub_machine.specs.Admission.{Admitted, refused, admitted, admission}
+use Rattle.hub_machine.specs.Admission.{Admitted, refused, admitted, turn_admission}
 use Rattle.hub_machine.specs.Endings.{nameless}
 use Rattle.hub_machine.specs.Machine.{After, done, unchanged, judged, packet_at, bad_at, close_at, is_worn, rest, turn_of}
 use Rattle.hub_machine.specs.Machine.{after_turn, tell, told_unless, telling_fault, tell_fault, fault_for, work_by}
@@ -32,19 +32,19 @@ judged_reply : (k : ℕ) (a : Admitted) (s : State) → IsPacketReply (judged k 
 judged_reply k (refused f) s = tt
 judged_reply k (admitted x) s = tt
 
-packet_reply : (k : ℕ) (o : Option PortsState) (es : List TurnEvent) (s : State)
-    → IsPacketReply (packet_at k o es s).reply
-packet_reply k None es s = tt
-packet_reply k (Some ports) es s = judged_reply k (admission k ports s.world es) (nameless k s)
+packet_reply : (k : ℕ) (o : Option PortsState) (t : TurnRecord) (s : State)
+    → IsPacketReply (packet_at k o t s).reply
+packet_reply k None t s = tt
+packet_reply k (Some ports) t s = judged_reply k (turn_admission k ports s.world t) (nameless k s)
 
 bad_reply : (k : ℕ) (o : Option PortsState) (f : Fault) (s : State) → IsBadReply (bad_at k o f s).reply
 bad_reply k None f s = tt
 bad_reply k (Some ports) f s = tt
 
 pub packet_replied : PacketsAreReplied
-packet_replied k es r (s, is) = subst IsPacketReply is
-    (worn_or IsPacketReply (is_worn s (Packet k es)) s (done s (Packet k es)) tt
-    (packet_reply k (ports_of k s) es s))
+packet_replied k t r (s, is) = subst IsPacketReply is
+    (worn_or IsPacketReply (is_worn s (Packet k t)) s (done s (Packet k t)) tt
+    (packet_reply k (ports_of k s) t s))
 
 pub bad_replied : BadIsReplied
 bad_replied k f r (s, is) = subst IsBadReply is
@@ -72,7 +72,7 @@ close_never_ran k r (s, is) = subst NeverRan is
     (worn_or NeverRan (is_worn s (Close k)) s (done s (Close k)) refl (close_reply k (ports_of k s) s))
 
 pub peer_never_ran : (e : Step) (r : Reply) → is_of_peer e ≡ true → CanBeReplied e r → is_ran r ≡ false
-peer_never_ran (Packet k es) r of can = packet_never_ran r (packet_replied k es r can)
+peer_never_ran (Packet k t) r of can = packet_never_ran r (packet_replied k t r can)
 peer_never_ran (Bad k f) r of can = bad_never_ran r (bad_replied k f r can)
 peer_never_ran (Close k) r of can = close_never_ran k r can
 peer_never_ran e r of can = absurd cc

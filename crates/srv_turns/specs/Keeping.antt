@@ -4,7 +4,7 @@ use Rattle.std.specs.Prelude.{◌==◌, if◌then◌else◌}
 use Rattle.out_ports.specs.declared.ports.Took.{Took}
 use Rattle.out_ports.specs.declared.ports.Took.TheVariants as took
 use Rattle.pv_binary.specs.OneOfThree.{AreBytes}
-use Rattle.rl_packet.specs.declared.packets.TurnEvent.{TurnEvent}
+use Rattle.rl_packet.specs.declared.packets.Turn.{Turn as TurnRecord}
 use Rattle.rl_packet.specs.declared.packets.Packet.{Packet}
 use Rattle.rl_packet.specs.declared.packets.Packet.TheVariants as packet
 use Rattle.rl_stream.specs.declared.nexts.Next.TheVariants as next
@@ -63,7 +63,7 @@ taken_after took.Failed before = before
 
 -- what a packet tells it
 abbrev pub said : Packet → Heard
-said (packet.Turn es) = Turn es
+said (packet.Turn t) = Turn t
 said (packet.Error message detail) = Error
 said packet.Nop = Nothing
 said (packet.Extension v) = Nothing
@@ -92,9 +92,9 @@ IsRefusal e before now spent x =
     ⊎ IsCutFor e before now spent x
 
 -- a turn was taken, or the reader ended
-abbrev pub Sends : ℕ → List TurnEvent → List Pair → List Pair → Bool → Option ReaderEnd → Type 0
-Sends k es before now spent None = IsDone (steps.Packet k es) reply.Taken before now
-Sends k es before now spent (Some x) = IsRefusal (steps.Packet k es) before now spent x
+abbrev pub Sends : ℕ → TurnRecord → List Pair → List Pair → Bool → Option ReaderEnd → Type 0
+Sends k t before now spent None = IsDone (steps.Packet k t) reply.Taken before now
+Sends k t before now spent (Some x) = IsRefusal (steps.Packet k t) before now spent x
 
 -- ---- how far it is
 

@@ -2,7 +2,7 @@
 -- the one step by which it ends. Where a reply isn't Taken, nothing stands behind its step.
 use Rattle.std.specs.Prelude.{◌≡◌, ◌≢◌, ◌⊎◌, ℕ, ◌+◌, ◌-◌, ◌^◌, ◌<◌, List, [], ◌∷◌, ◌++◌, length, map, Bool, true, false}
 use Rattle.std.specs.Prelude.{Option, Some, IfSome}
-use Rattle.rl_packet.specs.declared.packets.TurnEvent.{TurnEvent}
+use Rattle.rl_packet.specs.declared.packets.Turn.{Turn as TurnRecord}
 use Rattle.rl_packet.specs.declared.packets.Packet.{Packet}
 use Rattle.rl_packet.specs.declared.packets.Packet.TheVariants as packet
 use Rattle.rl_stream.specs.declared.nexts.Next.{Next}
@@ -21,23 +21,23 @@ use Rattle.srv_turns.specs.declared.reader.ReaderEnd.TheVariants as end
 -- ---- what is due
 
 -- the turns of the packets before the first error
-abbrev pub turns_in : List Packet → List (List TurnEvent)
+abbrev pub turns_in : List Packet → List TurnRecord
 turns_in [] = []
-turns_in (packet.Turn es ∷ ps) = es ∷ turns_in ps
+turns_in (packet.Turn t ∷ ps) = t ∷ turns_in ps
 turns_in (packet.Error message detail ∷ ps) = []
 turns_in (packet.Nop ∷ ps) = turns_in ps
 turns_in (packet.Extension v ∷ ps) = turns_in ps
 
 abbrev pub has_error : List Packet → Bool
 has_error [] = false
-has_error (packet.Turn es ∷ ps) = has_error ps
+has_error (packet.Turn t ∷ ps) = has_error ps
 has_error (packet.Error message detail ∷ ps) = true
 has_error (packet.Nop ∷ ps) = has_error ps
 has_error (packet.Extension v ∷ ps) = has_error ps
 
 -- the packet steps of connection k
 abbrev pub packets_due : ℕ → List Packet → List Step
-packets_due k ps = map (λ es. steps.Packet k es) (turns_in ps)
+packets_due k ps = map (λ t. steps.Packet k t) (turns_in ps)
 
 -- the step behind them: what is no packet is bad; the peer's error, and the end of what comes, close the connection
 abbrev pub last_due : ℕ → Bool → Next → Step
@@ -81,7 +81,7 @@ pub record IsReadFront (k : ℕ) (c : StreamCourse) (before now : List Pair) : T
 
 -- a packet step or a bad one
 abbrev pub is_sent : Step → Bool
-is_sent (steps.Packet k es) = true
+is_sent (steps.Packet k t) = true
 is_sent (steps.Bad k f) = true
 is_sent e = false
 

@@ -1,6 +1,6 @@
 -- Which replies a step can get: those that the machine gives to it in some state.
-use Rattle.std.specs.Prelude.{◌≡◌, ℕ, List}
-use Rattle.rl_packet.specs.declared.packets.TurnEvent.{TurnEvent}
+use Rattle.std.specs.Prelude.{◌≡◌, ℕ}
+use Rattle.rl_packet.specs.declared.packets.Turn.{Turn as TurnRecord}
 use Rattle.hub_machine.specs.State.{State}
 use Rattle.hub_machine.specs.Machine.{step}
 use Rattle.hub_machine.specs.declared.faults.Fault.{Fault}
@@ -28,7 +28,7 @@ IsBadReply (Refused f) = Unit {0}
 IsBadReply r = ⊥
 
 abbrev pub PacketsAreReplied : Type 0
-PacketsAreReplied = (k : ℕ) (es : List TurnEvent) (r : Reply) → CanBeReplied (Packet k es) r → IsPacketReply r
+PacketsAreReplied = (k : ℕ) (t : TurnRecord) (r : Reply) → CanBeReplied (Packet k t) r → IsPacketReply r
 
 abbrev pub BadIsReplied : Type 0
 BadIsReplied = (k : ℕ) (f : Fault) (r : Reply) → CanBeReplied (Bad k f) r → IsBadReply r

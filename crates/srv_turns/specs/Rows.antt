@@ -44,7 +44,7 @@ IsLast rs (Some r) = (front : List Reply) × (rs ≡ front ++ r ∷ [])
 -- ---- a step that a peer brings about, by what it sends or by its end
 
 abbrev pub is_of_peer : Step → Bool
-is_of_peer (steps.Packet k es) = true
+is_of_peer (steps.Packet k t) = true
 is_of_peer (steps.Bad k f) = true
 is_of_peer (steps.Close k) = true
 is_of_peer e = false

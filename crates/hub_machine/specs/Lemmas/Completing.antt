@@ -15,10 +15,11 @@ use Rattle.ac_world.specs.Turns.{After as TurnOf, turn, turn_with, connection_tu
 use Rattle.rl_packet.specs.declared.packets.Event.{Event}
 use Rattle.rl_packet.specs.declared.packets.Event.TheVariants.{Assert, Retract, Message, Sync}
 use Rattle.rl_packet.specs.declared.packets.TurnEvent.{TurnEvent}
-use Rattle.rl_ports.specs.Ports.{PortsState}
+use Rattle.rl_packet.specs.declared.packets.Turn.{Turn as TurnRecord}
+use Rattle.rl_ports.specs.Ports.{PortsState, speaking}
 use Rattle.rl_wire.specs.Crossing.{size_fault}
 use Rattle.hub_machine.specs.Limits.{most_events, most_handles, most_rows_weight, most_backlog, most_backlog_weight}
-use Rattle.hub_machine.specs.Faults.{Fault, HandleInUse, over, where_it_is}
+use Rattle.hub_machine.specs.Faults.{Fault, BadPacket, HandleInUse, over, where_it_is}
 use Rattle.hub_machine.specs.State.{State, ports_of}
 use Rattle.hub_machine.specs.Admission.{Admitting, Admitted, admitted, before_all, after, kept, weighed, rows_with}
 use Rattle.hub_machine.specs.Admission.{load_with, value_cause, load_cause, let_through, row_cause, assertion_cause}
@@ -103,12 +104,15 @@ fine_admission k ports w es few fine =
     let free = ap (λ c. unless c (all_admitted k w es (before_all k ports w))) (within most_events 3 (length es) few) in
     (all.0, free ∙ all.1)
 
-fine_packet : (k : ℕ) (o : Option PortsState) (es : List TurnEvent) (s : State) → IsFineFor k o es s
-    → (packet_at k o es s).reply ≡ Taken
-fine_packet k None es s fine = absurd fine
-fine_packet k (Some ports) es s fine =
-    let y = fine_admission k ports s.world es fine.0 fine.1 in
-    ap (λ (d : Admitted). (judged k d (nameless k s)).reply) y.1
+fine_packet : (k : ℕ) (o : Option PortsState) (t : TurnRecord) (s : State) → IsFineFor k o t s
+    → (packet_at k o t s).reply ≡ Taken
+fine_packet k None t s fine = absurd fine
+fine_packet k (Some ports) t s fine =
+    let spoken = speaking t.dialect ports in
+    let y = fine_admission k spoken s.world t.events fine.few fine.fine in
+    ap (λ b. (judged k (unless (where_it_is b BadPacket) (admission k spoken s.world t.events)) (nameless k s)).reply)
+    fine.dialect
+    ∙ ap (λ (d : Admitted). (judged k d (nameless k s)).reply) y.1
 
 -- ---- turns
 
@@ -192,9 +196,9 @@ pub complete : (s : State) (e : Step) → IsComplete s e (step s e).reply
 complete s (Bind b) = tt
 complete s (Watch x) = tt
 complete s (Arrive space) = tt
-complete s (Packet k es) = λ fresh fine.
-    ap (λ b. (cond b (unchanged s Worn) (packet_at k (ports_of k s) es s)).reply) fresh
-    ∙ fine_packet k (ports_of k s) es s fine
+complete s (Packet k t) = λ fresh fine.
+    ap (λ b. (cond b (unchanged s Worn) (packet_at k (ports_of k s) t s)).reply) fresh
+    ∙ fine_packet k (ports_of k s) t s fine
 complete s (Bad k f) = tt
 complete s (Close k) = tt
 complete s (Turn a) = λ fresh b is.

@@ -53,7 +53,7 @@ pub kept_sent : (e : Step) (k : ℕ) (p : Packet) (outs : OutsState)
 kept_sent (Bind b) k p outs = sym (append-nil (sent_of k outs))
 kept_sent (Watch x) k p outs = sym (append-nil (sent_of k outs))
 kept_sent (Arrive space) k p outs = sym (append-nil (sent_of k outs))
-kept_sent (Came c es) k p outs = sym (append-nil (sent_of k outs))
+kept_sent (Came c t) k p outs = sym (append-nil (sent_of k outs))
 kept_sent (Bad c f) k p outs = sym (append-nil (sent_of k outs))
 kept_sent (Close c) k p outs = sym (append-nil (sent_of k outs))
 kept_sent (Turn a) k p outs = turn_sent (nat_le 16 a) a k p outs refl
@@ -69,7 +69,7 @@ pub none_sent : (e : Step) (k : ℕ) (reply : Reply) → packet_in reply ≡ [] 
 none_sent (Bind b) k reply is = refl
 none_sent (Watch x) k reply is = refl
 none_sent (Arrive space) k reply is = refl
-none_sent (Came c es) k reply is = refl
+none_sent (Came c t) k reply is = refl
 none_sent (Bad c f) k reply is = refl
 none_sent (Close c) k reply is = refl
 none_sent (Turn a) k reply is = ap (λ ps. cond (a == actor_of k) ps []) is ∙ either (a == actor_of k) []

@@ -10,11 +10,11 @@ use Rattle.ac_world.specs.declared.turns.Turned.TheVariants as turned
 use Rattle.ac_world.specs.Turns.{turn}
 use Rattle.ac_world.specs.declared.watched.Watched.{Watched}
 use Rattle.ac_world.specs.Worlds.{binding, watching, without_entry, is_system}
-use Rattle.rl_packet.specs.declared.packets.TurnEvent.{TurnEvent}
+use Rattle.rl_packet.specs.declared.packets.Turn.{Turn as TurnRecord}
 use Rattle.rl_ports.specs.Ports.{PortsState}
 use Rattle.hub_machine.specs.declared.faults.Fault.{Fault}
 use Rattle.hub_machine.specs.State.{State, ports_of, is_there}
-use Rattle.hub_machine.specs.Admission.{Admitting, Admitted, refused, admitted, admission}
+use Rattle.hub_machine.specs.Admission.{Admitting, Admitted, refused, admitted, turn_admission}
 use Rattle.hub_machine.specs.Endings.{nameless, closed, failed, dismissed, finished}
 use Rattle.hub_machine.specs.Machine.{unchanged, is_barred, bind_unless, is_unwatchable, watch_unless, opened}
 use Rattle.hub_machine.specs.Machine.{refusal, arrive_unless, accepted, judged, packet_at, bad_at}
@@ -63,10 +63,10 @@ module _ (P : State → Type 0) (keeps : Keeps P) where
   judged_keeps k (refused f) s there p = ends_keep [] (failed k f s) (keeps.fails k f s there p)
   judged_keeps k (admitted x) s there p = ends_keep [] (accepted k x (nameless k s)) (keeps.accepts k x s there p)
 
-  packet_keeps : (k : ℕ) (o : Option PortsState) (es : List TurnEvent) (s : State) → ports_of k s ≡ o → P s
-      → P (packet_at k o es s).state
-  packet_keeps k None es s is p = p
-  packet_keeps k (Some ports) es s is p = judged_keeps k (admission k ports s.world es) s (ap is_some is) p
+  packet_keeps : (k : ℕ) (o : Option PortsState) (t : TurnRecord) (s : State) → ports_of k s ≡ o → P s
+      → P (packet_at k o t s).state
+  packet_keeps k None t s is p = p
+  packet_keeps k (Some ports) t s is p = judged_keeps k (turn_admission k ports s.world t) s (ap is_some is) p
 
   bad_keeps : (k : ℕ) (o : Option PortsState) (f : Fault) (s : State) → ports_of k s ≡ o → P s
       → P (bad_at k o f s).state
@@ -121,7 +121,7 @@ module _ (P : State → Type 0) (keeps : Keeps P) where
   done_keeps s (Bind b) p = bind_keeps (is_barred b s) b s refl p
   done_keeps s (Watch x) p = watch_keeps (is_unwatchable x s) x s refl p
   done_keeps s (Arrive space) p = arrive_keeps (refusal space s) space s p
-  done_keeps s (Packet k es) p = packet_keeps k (ports_of k s) es s refl p
+  done_keeps s (Packet k t) p = packet_keeps k (ports_of k s) t s refl p
   done_keeps s (Bad k f) p = bad_keeps k (ports_of k s) f s refl p
   done_keeps s (Close k) p = close_keeps k (ports_of k s) s refl p
   done_keeps s (Turn a) p = turn_keeps a s p

@@ -26,11 +26,14 @@ use Rattle.ac_world.specs.Worlds.{gone}
 use Rattle.ac_world.specs.Turns.{turn}
 use Rattle.ac_world.specs.Lemmas.Entries.{each_with, each_without, each_found}
 use Rattle.rl_packet.specs.declared.packets.TurnEvent.{TurnEvent}
+use Rattle.rl_packet.specs.declared.packets.Turn.{Turn as TurnRecord}
 use Rattle.rl_packet.specs.Wired.{IsTurnEvent}
-use Rattle.rl_ports.specs.Ports.{PortsState, ports_to, with_exports, place_of, exported}
+use Rattle.rl_ports.specs.Ports.{PortsState, speaking, ports_to, with_exports, place_of, exported}
 use Rattle.rl_wire.specs.Crossing.{held_in, is_own, foreign_of, actor_at, all_exported}
 use Rattle.hub_machine.specs.Limits.{most_connections, last_dataspace}
 use Rattle.hub_machine.specs.declared.faults.Fault.{Fault}
+use Rattle.hub_machine.specs.declared.faults.Fault.TheVariants.{BadPacket}
+use Rattle.hub_machine.specs.Lemmas.Dialects.{by_dialect}
 use Rattle.hub_machine.specs.State.{State, ports_of}
 use Rattle.hub_machine.specs.Admission.{Admitted, refused, admitted, admission}
 use Rattle.hub_machine.specs.Endings.{nameless, departed_for, closed, failed, finished}
@@ -229,20 +232,24 @@ arrive_valid (Some r) space s low few v = v
 
 -- ---- packets
 
+refused_valid : (k : ℕ) (f : Fault) (s : State) → IsValid s → IsValid (judged k (refused f) (nameless k s)).state
+refused_valid k f s v = finished_is_valid [] (departed_for k f (nameless k s)) (failed_valid k f s v)
+
 judged_valid : (k : ℕ) (ports : PortsState) (es : List TurnEvent) (d : Admitted) (s : State) → IsValid s
     → IsValidEntry (lived s.world) (k, ports) → AllByRecursion IsTurnEvent es → admission k ports s.world es ≡ d
     → IsValid (judged k d (nameless k s)).state
-judged_valid k ports es (refused f) s v entry wired is =
-    finished_is_valid [] (departed_for k f (nameless k s)) (failed_valid k f s v)
+judged_valid k ports es (refused f) s v entry wired is = refused_valid k f s v
 judged_valid k ports es (admitted x) s v entry wired is =
     finished_is_valid [] (accepted k x (nameless k s))
     (accepted_is_valid k ports es x (nameless k s) (nameless_is_valid k s v) entry wired is)
 
-packet_valid : (k : ℕ) (o : Option PortsState) (es : List TurnEvent) (s : State) → IsValid s → ports_of k s ≡ o
-    → AllByRecursion IsTurnEvent es → IsValid (packet_at k o es s).state
-packet_valid k None es s v is wired = v
-packet_valid k (Some ports) es s v is wired =
-    judged_valid k ports es (admission k ports s.world es) s v (ports_valid k ports s v is) wired refl
+packet_valid : (k : ℕ) (o : Option PortsState) (t : TurnRecord) (s : State) → IsValid s → ports_of k s ≡ o
+    → AllByRecursion IsTurnEvent t.events → IsValid (packet_at k o t s).state
+packet_valid k None t s v is wired = v
+packet_valid k (Some ports) t s v is wired =
+    let named = speaking t.dialect ports in
+    by_dialect (λ d. IsValid (judged k d (nameless k s)).state) k ports s.world t (refused_valid k BadPacket s v)
+    (judged_valid k named t.events (admission k named s.world t.events) s v (ports_valid k ports s v is) wired refl)
 
 bad_valid : (k : ℕ) (o : Option PortsState) (f : Fault) (s : State) → IsValid s → IsValid (bad_at k o f s).state
 bad_valid k None f s v = v
@@ -371,7 +378,7 @@ done_valid s (Watch x) fresh v may = watch_valid (is_unwatchable x s) x s refl v
 done_valid s (Arrive space) fresh v may =
     let few : s.world.opened < 2 ^ 31 = grind (arith, nat_tests, fresh) in
     arrive_valid (refusal space s) space s (may_come space s) few v
-done_valid s (Packet k es) fresh v may = packet_valid k (ports_of k s) es s v refl may
+done_valid s (Packet k t) fresh v may = packet_valid k (ports_of k s) t s v refl may
 done_valid s (Bad k f) fresh v may = bad_valid k (ports_of k s) f s v
 done_valid s (Close k) fresh v may = close_valid k (ports_of k s) s v
 done_valid s (Turn a) fresh v may = turn_of_valid a s v

@@ -1,10 +1,14 @@
-use Rattle.std.proofs.Common.{arith}
-use Rattle.rl_packet.proofs.Refusals.{no_turn, handed_on}
+use Rattle.pv_value.specs.Plain.{sequence, plains}
+use Rattle.rl_packet.specs.Packets.{Older}
+use Rattle.rl_packet.specs.Grammar.{NoneIs, IsTurnOf, AreEventsOf}
+use Rattle.rl_packet.proofs.Refusals.{weaker}
+use Rattle.rl_packet.proofs.Spoken.{no_turn_of}
 use Rattle.rl_packet.proofs.reading.turn_of.Goals as goal
 
-pub returns-in_err-turn_event_of-clause-bad : goal.returns-in_err-turn_event_of-clause-bad
-returns-in_err-turn_event_of-clause-bad c =
-    let f = c.in_err-turn_event_of.field-0.0 in
-    handed_on _ _ f c.from_residual.ensures.1
-    (no_turn c.args.items.now c.loop-item.item-index c.item-item.result (omega arith) c.item-item.is f
-    c.in_err-turn_event_of.ensures.bad)
+pub returns-in-Err-BadPacket-clause-bad : goal.returns-in-Err-BadPacket-clause-bad
+returns-in-Err-BadPacket-clause-bad c =
+    let items = c.args.items.now in
+    let newer = rw c.in-Err-BadPacket.field-0-is at c.in-Err-BadPacket.ensures.bad in
+    weaker (NoneIs (AreEventsOf Older items)) (NoneIs (IsTurnOf (sequence (plains items))))
+    c.turn_in_dialect-in-Err-BadPacket.result (λ f older. no_turn_of items f newer older)
+    c.turn_in_dialect-in-Err-BadPacket.ensures.bad

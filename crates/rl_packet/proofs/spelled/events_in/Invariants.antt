@@ -13,7 +13,7 @@ abbrev pub invariant-loop : goal.invariant-loop
 invariant-loop l = record {
   good : AllByRecursion IsTurnEvent l.events.items;
   behind : (xs : List Plain) (r : List ℕ) → BeginsAll 63 l.rest xs r
-      → BeginsAll 63 l.bytes (map aimed_value l.events.items ++ xs) r;
-  leave : Leave l.bytes l.rest;
+      → BeginsAll 63 l.bytes (map (aimed_value l.dialect) l.events.items ++ xs) r;
+  leave : Leave l.dialect l.bytes l.rest;
   short : length l.rest + l.counter ≤ length l.bytes;
 }

@@ -6,7 +6,7 @@ pub returns : goal.returns
 returns c =
     omega (
       arith,
-      aimed_size c.args.event.now,
+      aimed_size c.args.dialect c.args.event.now,
       c.number_size.ensures,
       c.event_size.ensures,
       c.saturating_add.ensures,

@@ -1,7 +1,8 @@
 use Rattle.std.proofs.Common.{ap, map, arith}
+use Rattle.std.specs.Prelude.{unwrap_or}
 use Rattle.pv_value.specs.Plain.{plains}
 use Rattle.pv_value.specs.Weight.{canonical_size, sizes_with}
-use Rattle.rl_packet.specs.Packets.{aimed_value, packet_value}
+use Rattle.rl_packet.specs.Packets.{Newer, aimed_value, packet_value}
 use Rattle.rl_packet.proofs.Sizes.{turn_size, error_size, nop_size}
 use Rattle.rl_packet.proofs.writing.size_of.Goals as goal
 
@@ -11,7 +12,9 @@ returns-in-Turn c =
       arith,
       ap (λ p. canonical_size (packet_value p)) c.in-Turn.is,
       turn_size c.in-Turn.turn,
-      ap (λ es. sizes_with 0 (plains (map aimed_value es))) c.as_slice.ensures.events,
+      ap (λ d. sizes_with 0 (plains (map (aimed_value d) c.as_slice.result.now))) c.written_dialect.ensures,
+      ap (λ es. sizes_with 0 (plains (map (aimed_value (unwrap_or c.in-Turn.turn.dialect Newer)) es)))
+          c.as_slice.ensures.events,
       c.events_size.ensures,
       c.saturating_add.ensures,
     )

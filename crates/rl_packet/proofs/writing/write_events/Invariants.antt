@@ -7,6 +7,6 @@ use Rattle.rl_packet.proofs.writing.write_events.Given as goal
 
 abbrev pub invariant-loop-event : goal.invariant-loop-event
 invariant-loop-event l =
-    (l.out.items ++ written_all (plains (map aimed_value (drop l.event-index l.events)))
-    ≡ l.initial.out.items ++ written_all (plains (map aimed_value l.events)))
+    (l.out.items ++ written_all (plains (map (aimed_value l.dialect) (drop l.event-index l.events)))
+    ≡ l.initial.out.items ++ written_all (plains (map (aimed_value l.dialect) l.events)))
     × StartsWith l.out.items l.initial.out.items

@@ -12,5 +12,6 @@ invariant-loop-x l =
       faults : fault_out l.ports.exports (others_in l.actor (drop l.x-index l.held))
           ≡ fault_out l.fn.ports.exports (others_in l.actor l.held);
       handles : l.ports.handles ≡ l.fn.ports.handles;
+      dialect : l.ports.dialect ≡ l.fn.ports.dialect;
       front : take (length l.fn.ports.exports) l.ports.exports ≡ l.fn.ports.exports;
     }

@@ -19,4 +19,4 @@ returns-in_err-crossed-clause-kept c =
     (kept_as old new
     (ap (λ (p : PortsState). take (length old.exports) p.exports) made
     ∙ keeps_front old.exports old.exports (others_in c.args.actor c.deref.result.now) (take-length old.exports))
-    (ap (λ (p : PortsState). p.handles) made))
+    (ap (λ (p : PortsState). p.handles) made) (ap (λ (p : PortsState). p.dialect) made))

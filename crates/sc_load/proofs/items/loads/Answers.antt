@@ -19,9 +19,9 @@ loop-further-preserved c =
     (c.number.ensures j ∷ (c.number-in-loop-further.ensures ∙ ap number c.draw.ensures.given) j ∷ [])) in record {
       may = subst (AllByRecursion IsTurnEvent) (sym c.in_ok-push.ensures.items)
           (may_more (i + l.further) _ c.in_ok-load.load l.events.items few load l.invariant.may);
-      turn = λ start is. c.in_ok-push.ensures.items
+      events = λ start is. c.in_ok-push.ensures.items
           ∙ loaded_more start i l.further l.draws.number c.in_ok-load.load l.events.items (l.invariant.draws start is)
-          load (l.invariant.turn start is);
+          load (l.invariant.events start is);
       draws = λ start is. c.draw.ensures.number
           ∙ drawn_more start i l.further l.draws.number (l.invariant.draws start is);
     }

@@ -8,7 +8,7 @@ use Rattle.sc_load.proofs.items.loads.Given as goal
 abbrev pub invariant-loop-further : goal.invariant-loop-further
 invariant-loop-further l = record {
   may : AllByRecursion IsTurnEvent l.events.items;
-  turn : (start : ℕ) → l.initial.draws.number ≡ after start l.first
+  events : (start : ℕ) → l.initial.draws.number ≡ after start l.first
       → l.events.items ≡ events_of (loads start) l.first l.further;
   draws : (start : ℕ) → l.initial.draws.number ≡ after start l.first
       → l.draws.number ≡ after start (l.first + l.further);

@@ -15,9 +15,9 @@ loop-turn-preserved c =
     let one : suc l.turn ≡ l.turn + 1 = omega arith in
     let there = subst (λ k. l.turn < k) c.div_ceil-turn-end.ensures c.loop-turn-test.true in
     let drawn : l.draws.number ≡ after s first = l.invariant.draws ∙ ap (after s) (before n l.turn there) in
-    let turn = c.in_ok-events.ensures.turn s drawn ∙ ap (events_of (loads s) first) c.min.ensures in record {
+    let events = c.in_ok-events.ensures.events s drawn ∙ ap (events_of (loads s) first) c.min.ensures in record {
       script = c.in_ok-send.ensures
-          ∙ ap (λ es. l.script.items ++ flat_map written (sent_by (connection_of first) es)) turn
+          ∙ ap (λ es. l.script.items ++ flat_map written (sent_by (connection_of first) es)) events
           ∙ more_written c.args.script.now.items l.script.items (turns_of (loads s) n l.turn)
           (turn_of (loads s) n l.turn) l.invariant.script
           ∙ ap (λ k. c.args.script.now.items ++ flat_map written (turns_of (loads s) n k)) one;

@@ -1,8 +1,11 @@
 -- What is told of a valid batch may be sent, and what it exports leaves a valid state.
-use Rattle.std.proofs.Common.{◌≡◌, subst, sym}
-use Rattle.std.specs.Prelude.{IfOk}
+use Rattle.std.proofs.Common.{◌≡◌, Option, subst, sym, ap, ◌∙◌}
+use Rattle.std.specs.Prelude.{IfOk, unwrap_or}
 use Rattle.std.specs.List.{AllByRecursion}
 use Rattle.ac_world.specs.Worlds.{with_entry}
+use Rattle.rl_packet.specs.declared.packets.Dialect.{Dialect}
+use Rattle.rl_packet.specs.declared.packets.Dialect.TheVariants.{Newer}
+use Rattle.rl_packet.specs.Packets.{spoken}
 use Rattle.rl_packet.specs.Wired.{IsTurnEvent}
 use Rattle.rl_ports.specs.Ports.{PortsState}
 use Rattle.hub_machine.specs.declared.steps.Reply.{Reply}
@@ -27,7 +30,9 @@ from_vec-requires g c =
 
 pub returns-in_ok-hub-in-Ok-clause-reply : goal.returns-in_ok-hub-in-Ok-clause-reply
 returns-in_ok-hub-in-Ok-clause-reply g c =
+    let dialect = c.unwrap_or-dialect.ensures ∙ ap (λ (d : Option Dialect). unwrap_or d Newer) c.dialect.ensures in
     subst (λ (r : Reply). IfOk c.ends.result (λ done. done.1 ≡ r))
-    (reply_told c.args.connection c.args.batch c.args.ports c.all_to_send.new.ports c.args.self c.from_vec.result
-    c.in-Ok.sent.items c.from_vec.ensures c.in-Ok.ensures.sent c.in-Ok.ensures.exports c.in-Ok.ensures.free)
+    (reply_told c.args.connection c.args.batch c.args.ports c.all_to_send.new.ports c.args.self c.of-turn.result
+    c.in-Ok.sent.items (c.of-turn.ensures ∙ (λ i. spoken (dialect i) (c.from_vec.ensures i))) c.in-Ok.ensures.sent
+    c.in-Ok.ensures.exports c.in-Ok.ensures.free)
     c.ends.ensures.reply
