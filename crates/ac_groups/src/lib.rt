@@ -2,6 +2,9 @@
 //!
 //! What contracts see of [`Groups`] is two flat lists, as if nothing were grouped: the handle of
 //! each whole key, and the facet of each group that has one.
+//!
+//! A system actor keeps the handle of its row for each key that it wants, since owner, target and
+//! value alone don't tell which of two rows to retract.
 #![tactic(auto)]
 
 mod group;

@@ -3,6 +3,11 @@
 //!
 //! What contracts see of a [`World`] is the state of `specs/Worlds.antt`; its turns are those of
 //! `specs/Turns.antt`, for every body of [`ds_space::Space`].
+//!
+//! Actors' numbers stand as numbers in definitions: the gatekeeper is 0, dataspaces are 1 to 8,
+//! watchers 9 to 16, connections from 17 (`specs/Worlds.antt`); in code their constants stand here,
+//! and the crates above take them from here. `Readings::new` and `behaves` ensure nothing: what is
+//! read is kept right by its type, and what `behaves` lends answers the table, by its trait.
 #![tactic(auto)]
 
 mod actors;

@@ -8,6 +8,8 @@
 //! What the parts of a pattern are is `outline_of` and `constants_of` of `specs/Splitting.antt`,
 //! and what they say of a value is `captured_by` of `specs/Standing.antt`. Outlines are told apart
 //! by the value `outline_value` of `specs/Keys.antt`, and stand in its order.
+//!
+//! std's traits of comparing are written out for [`Outline`], which go by the order of its value.
 #![tactic(auto)]
 
 mod keys;

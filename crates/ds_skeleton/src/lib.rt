@@ -6,6 +6,10 @@
 //! value's first row that comes and its last row that goes change anything.
 //!
 //! What the index holds of a list of values is `IsIndex` of `specs/Indexes.antt`.
+//!
+//! What comes and what goes stand beside each other (`bump` and `drop_one`, `watch` and `unwatch`,
+//! and what is made of them): the two of a pair have one shape, and differ in the call in the midst
+//! and in what their contracts add or take away.
 #![tactic(auto)]
 
 mod capturing;

@@ -3,6 +3,11 @@
 //!
 //! Contracts see a [`Space`] as its list of rows, a number and a value each, ascending by number.
 //! What is wanted over the values is `wants` of `specs/Wants.antt`.
+//!
+//! Who observes is read here alone (`observer_of`, `is_observer`), and so is `is_over`, beside its
+//! limit: the crates above call them. std's traits of comparing are written out for `Standing`,
+//! which go by an order that a definition gives. The last dataspace's number is one of this crate's
+//! own, since the constants of actors stand above it, in `ac_world`.
 #![tactic(auto)]
 
 mod collecting;

@@ -3,6 +3,9 @@
 //!
 //! [`dsd_main`] does what the words say. Those that begin with `serve` it does itself, and all
 //! others as `dsd_top` does.
+//!
+//! The clauses of [`dsd_main`] on words that serve stand on `serve_words` and on itself, as a
+//! contract doesn't pass through a call.
 #![tactic(auto)]
 
 mod configs;

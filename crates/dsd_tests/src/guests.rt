@@ -1,5 +1,5 @@
 //! Links of a test: each gives its next piece once a counter is high enough.
-ghost use Rattle.std.specs.Prelude.{◌≡◌, None, option_map};
+ghost use Rattle.std.specs.Prelude.{◌≡◌, [], true, Some, None, option_map};
 ghost use Rattle.std.specs.String.{string_bytes};
 
 use out_ports::ports::{
@@ -194,7 +194,8 @@ pub fn link_for<'a>(
     Link { reads, writes }
 }
 
-/// A host with one file and these links, which are given from the last one on.
+/// A host with one file and these links, which are given from the last one on. It has no memory to
+/// dial with.
 #[derive(Drop)]
 pub struct Door<'a> {
     config: Vec<u8>,
@@ -238,6 +239,14 @@ impl<'a> Listen for Door<'a> {
 
     ghost port_faults = { λ _. 0 };
 
+    // Whoever asks hears the end, and what is said is lost.
+    ghost link = { λ _. record {
+      address = Some [];
+      dial_faults = 0;
+      heard = record { left = None; given = 0; ended = true; faults = 0 };
+      said = record { held = None; faults = 0 };
+    } };
+
     fn faults(&self) -> u64 {
         0
     }
@@ -273,6 +282,18 @@ impl<'a> Host for Door<'a> {
         0
     }
 
+    fn dial_faults(&self) -> u64 {
+        0
+    }
+
+    fn hear_faults(&self) -> u64 {
+        0
+    }
+
+    fn say_faults(&self) -> u64 {
+        0
+    }
+
     /// Any name is that of the one file, where it isn't long.
     fn file(&mut self, alloc: Global, _name: &str) -> Result<Vec<u8>, HostFault> {
         if self.config.len() > 1000 {
@@ -285,5 +306,17 @@ impl<'a> Host for Door<'a> {
         self.address = Some(String::from_str(alloc, addr)?);
         self.closed = false;
         Ok(())
+    }
+
+    fn dial(&mut self, _alloc: Global, _addr: &str) -> Result<(), HostFault> {
+        Err(HostFault::NoMemory)
+    }
+
+    fn hear(&mut self, _buf: &mut [u8]) -> Took {
+        Took::End
+    }
+
+    fn say(&mut self, piece: &[u8]) -> Put {
+        Put::Some(piece.len())
     }
 }

@@ -4,6 +4,10 @@
 //! What contracts see of a [`Hub`] is the state of `hub_machine`'s `specs/State.antt`, and
 //! [`Hub::step`] is the machine of its `specs/Machine.antt`, over any body of [`ds_space::Space`].
 //! What a packet does, and what a connection is told of a batch, is told by `hub_packets`.
+//!
+//! Some functions that take the world or the hub and hand it on have the hint `inline(always)`: by
+//! value each such call moves some hundred bytes. The hint changes no proof, and makes the compiler
+//! slower. `behaves` of [`Hub`] ensures nothing: whatever it lends answers the table, by its trait.
 #![tactic(auto)]
 
 mod endings;

@@ -2,6 +2,9 @@
 //! their conditions; and of single steps, and of what is posted and said in them, from any state.
 //! Each is the contract of a function that does nothing, and is proved of the definitions alone:
 //! `specs/Laws.antt` has most of them, `specs/Posting.antt` and `specs/Saying.antt` the others.
+//!
+//! `hub_authority` walks through a step too, for what it shows of one: what both need is in
+//! `hub_valid`. `hub_authority` and `hub_cascade` take some lemmas from the proofs here.
 #![tactic(auto)]
 
 ghost use Rattle.hub_laws.specs.Laws.{Delivery, SettledDelivery, Wants, Endings};

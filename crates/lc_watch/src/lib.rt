@@ -2,6 +2,12 @@
 //!
 //! A behaviour has a name, and `specs/Behaviours.antt` has the table of all. [`Watcher`] keeps a
 //! function that answers the table; [`Table`] is one.
+//!
+//! [`Watcher::new`] ensures nothing: whatever function a watcher keeps, by its type it answers the
+//! table.
+//!
+//! The five lines that copy a list of values stand in `rl_wire` too, and in `ds_shape` for steps,
+//! since `pv_value` offers a copy of one value.
 #![tactic(auto)]
 
 mod behaviours;

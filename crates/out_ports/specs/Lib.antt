@@ -1,4 +1,5 @@
 pub mod Calls
+pub mod Dialled
 pub mod Limits
 pub mod MemHost
 pub mod MemListen

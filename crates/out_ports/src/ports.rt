@@ -12,6 +12,8 @@ ghost use Rattle.out_ports.specs.Ports.{raised, Rose, FitsBuffer, IsTaken, given
 ghost use Rattle.out_ports.specs.Ports.{ended_after, FitsPiece, IsPut, FitsOffer, IsOffered};
 ghost use Rattle.out_ports.specs.Ports.{gave_after, stops_after};
 ghost use Rattle.out_ports.specs.Ports.{IsFile, took_after, IsStarted};
+ghost use Rattle.out_ports.specs.Dialled.{ToldLink, IsDialled, address_after};
+ghost use Rattle.out_ports.specs.Dialled.{OnlyDialling, OnlyHearing, OnlySaying};
 
 use std::alloc::{AllocError, Global};
 use std::sync::Wait;
@@ -185,6 +187,9 @@ pub trait Listen {
     /// Of a host, how often a port couldn't be opened.
     ghost port_faults: { Self → ℕ };
 
+    /// Of a host, what is told of the link that it dials. A listener that is no host dials nobody.
+    ghost link: { Self → ToldLink };
+
     /// How often an accept has failed.
     fn faults(&self) -> u64
         ensures { result ≡ faults self.now };
@@ -201,6 +206,7 @@ pub trait Listen {
         ensures same_files { files self.new ≡ files self.old }
         ensures same_file_faults { file_faults self.new ≡ file_faults self.old }
         ensures same_port_faults { port_faults self.new ≡ port_faults self.old }
+        ensures same_link { link self.new ≡ link self.old }
         ensures lasting { faults self.old ≤ faults self.new }
         ensures cause { result ≡ Accepted.Failed → Rose (faults self.old) (faults self.new) };
 
@@ -215,13 +221,14 @@ pub trait Listen {
         ensures place { address self.new ≡ address self.old }
         ensures same_files { files self.new ≡ files self.old }
         ensures same_file_faults { file_faults self.new ≡ file_faults self.old }
-        ensures same_port_faults { port_faults self.new ≡ port_faults self.old };
+        ensures same_port_faults { port_faults self.new ≡ port_faults self.old }
+        ensures same_link { link self.new ≡ link self.old };
 }
 
 /// Why a host's call failed.
 #[derive(Clone, Copy, Debug, PartialEq, Eq, Error)]
 pub enum HostFault {
-    #[error("the file or the port failed")]
+    #[error("the file, the port or the dialled link failed")]
     Failed,
     #[error("out of memory")]
     NoMemory,
@@ -235,7 +242,7 @@ impl From<AllocError> for HostFault {
     }
 }
 
-/// The files and the port that a program is given.
+/// The files, the port and the dialled link that a program is given.
 pub trait Host: Listen {
     /// How often a file couldn't be read.
     fn file_faults(&self) -> u64
@@ -244,6 +251,18 @@ pub trait Host: Listen {
     /// How often a port couldn't be opened.
     fn port_faults(&self) -> u64
         ensures { result ≡ Self.port_faults self.now };
+
+    /// How often a dial failed.
+    fn dial_faults(&self) -> u64
+        ensures { result ≡ (Self.link self.now).dial_faults };
+
+    /// How often hearing failed.
+    fn hear_faults(&self) -> u64
+        ensures { result ≡ (Self.link self.now).heard.faults };
+
+    /// How often saying failed.
+    fn say_faults(&self) -> u64
+        ensures { result ≡ (Self.link self.now).said.faults };
 
     /// The first [`FILE_READ`] bytes of a file.
     fn file(&mut self, alloc: Global, name: &str) -> Result<Vec<u8>, HostFault>
@@ -258,6 +277,7 @@ pub trait Host: Listen {
         ensures same_closed { Self.closed self.new ≡ Self.closed self.old }
         ensures links { Self.gave self.new ≡ Self.gave self.old }
         ensures ends { Self.stops self.new ≡ Self.stops self.old }
+        ensures same_link { Self.link self.new ≡ Self.link self.old }
         ensures port_lasting { Self.port_faults self.old ≤ Self.port_faults self.new }
         ensures accept_lasting { Self.faults self.old ≤ Self.faults self.new };
 
@@ -274,7 +294,74 @@ pub trait Host: Listen {
         ensures same_files { Self.files self.new ≡ Self.files self.old }
         ensures links { Self.gave self.new ≡ Self.gave self.old }
         ensures ends { Self.stops self.new ≡ Self.stops self.old }
+        ensures same_link { Self.link self.new ≡ Self.link self.old }
         ensures file_lasting { Self.file_faults self.old ≤ Self.file_faults self.new }
+        ensures accept_lasting { Self.faults self.old ≤ Self.faults self.new };
+
+    /// Dials an address. From then on what is heard and said goes over the link to it, and no
+    /// longer over one that was dialled before; what is told of hearing and saying goes on.
+    fn dial(&mut self, alloc: Global, addr: &str) -> Result<(), HostFault>
+        ensures dialled { (Self.link self.new).address
+            ≡ address_after result addr.now (Self.link self.old).address }
+        ensures rest { OnlyDialling (Self.link self.old) (Self.link self.new) }
+        ensures lasting { (Self.link self.old).dial_faults ≤ (Self.link self.new).dial_faults }
+        ensures cause { IsErrOf result HostFault.Failed →
+            Rose (Self.link self.old).dial_faults (Self.link self.new).dial_faults }
+        // What is told of files, ports and links that come stays.
+        ensures same_files { Self.files self.new ≡ Self.files self.old }
+        ensures place { Self.address self.new ≡ Self.address self.old }
+        ensures same_closed { Self.closed self.new ≡ Self.closed self.old }
+        ensures links { Self.gave self.new ≡ Self.gave self.old }
+        ensures ends { Self.stops self.new ≡ Self.stops self.old }
+        ensures file_lasting { Self.file_faults self.old ≤ Self.file_faults self.new }
+        ensures port_lasting { Self.port_faults self.old ≤ Self.port_faults self.new }
+        ensures accept_lasting { Self.faults self.old ≤ Self.faults self.new };
+
+    /// Writes the next bytes that the dialled peer sent to the front of the buffer, as
+    /// [`Source::take`] does.
+    fn hear(&mut self, buf: &mut [u8]) -> Took
+        requires room { 0 < length buf.old }
+        requires dialled { IsDialled (Self.link self.old) }
+        ensures size { FitsBuffer result (length buf.old) }
+        ensures content { IsTaken result buf.new (Self.link self.old).heard.left
+            (Self.link self.new).heard.left }
+        ensures counted { (Self.link self.new).heard.given
+            ≡ given_after result (Self.link self.old).heard.given }
+        ensures at_end { (Self.link self.new).heard.ended
+            ≡ ended_after result (Self.link self.old).heard.ended }
+        ensures lasting { (Self.link self.old).heard.faults ≤ (Self.link self.new).heard.faults }
+        ensures cause { result ≡ Took.Failed →
+            Rose (Self.link self.old).heard.faults (Self.link self.new).heard.faults }
+        ensures rest { OnlyHearing (Self.link self.old) (Self.link self.new) }
+        // What is told of files, ports and links that come stays.
+        ensures same_files { Self.files self.new ≡ Self.files self.old }
+        ensures place { Self.address self.new ≡ Self.address self.old }
+        ensures same_closed { Self.closed self.new ≡ Self.closed self.old }
+        ensures links { Self.gave self.new ≡ Self.gave self.old }
+        ensures ends { Self.stops self.new ≡ Self.stops self.old }
+        ensures file_lasting { Self.file_faults self.old ≤ Self.file_faults self.new }
+        ensures port_lasting { Self.port_faults self.old ≤ Self.port_faults self.new }
+        ensures accept_lasting { Self.faults self.old ≤ Self.faults self.new };
+
+    /// Sends the front of the piece to the dialled peer, as [`Sink::put`] does.
+    fn say(&mut self, piece: &[u8]) -> Put
+        requires some { 0 < length piece.now }
+        requires dialled { IsDialled (Self.link self.old) }
+        ensures size { FitsPiece result (length piece.now) }
+        ensures content { IsPut result piece.now (Self.link self.old).said.held
+            (Self.link self.new).said.held }
+        ensures lasting { (Self.link self.old).said.faults ≤ (Self.link self.new).said.faults }
+        ensures cause { result ≡ Put.Failed →
+            Rose (Self.link self.old).said.faults (Self.link self.new).said.faults }
+        ensures rest { OnlySaying (Self.link self.old) (Self.link self.new) }
+        // What is told of files, ports and links that come stays.
+        ensures same_files { Self.files self.new ≡ Self.files self.old }
+        ensures place { Self.address self.new ≡ Self.address self.old }
+        ensures same_closed { Self.closed self.new ≡ Self.closed self.old }
+        ensures links { Self.gave self.new ≡ Self.gave self.old }
+        ensures ends { Self.stops self.new ≡ Self.stops self.old }
+        ensures file_lasting { Self.file_faults self.old ≤ Self.file_faults self.new }
+        ensures port_lasting { Self.port_faults self.old ≤ Self.port_faults self.new }
         ensures accept_lasting { Self.faults self.old ≤ Self.faults self.new };
 }
 

@@ -3,8 +3,9 @@ ghost use Rattle.std.specs.Prelude.{◌≡◌, ◌≤◌, ◌++◌, ℕ, List, t
 ghost use Rattle.std.specs.Prelude.{IfOk, IfSome, IsErrOf, OnOk, OnErr};
 ghost use Rattle.out_ports.specs.declared.streams.ReadFault.TheVariants.{NoMemory};
 ghost use Rattle.out_ports.specs.Ports.{Rose, Appends, AppendsFront};
+ghost use Rattle.out_ports.specs.Dialled.{IsDialled, OnlySaying};
 
-use crate::ports::{Put, Sink, Source, Took};
+use crate::ports::{Host, Put, Sink, Source, Took};
 use std::alloc::{AllocError, Global};
 use thiserror::Error;
 
@@ -130,6 +131,38 @@ pub fn write_all<O: Sink>(sink: &mut O, bytes: &[u8]) -> Result<(), WriteFault>
     let mut at = 0;
     while at < bytes.len() {
         match sink.put(&bytes[at..]) {
+            Put::Some(n) => at += n,
+            Put::Failed => return Err(WriteFault),
+        }
+    }
+    Ok(())
+}
+
+/// Says all the bytes to the dialled peer, in as many pieces as the link wants. After a fault a
+/// front of them is said.
+pub fn say_all<H: Host>(host: &mut H, bytes: &[u8]) -> Result<(), WriteFault>
+    requires { IsDialled (H.link host.old) }
+    ensures written { OnOk result
+        (Appends (H.link host.old).said.held (H.link host.new).said.held bytes.now) }
+    ensures front { OnErr result
+        (AppendsFront (H.link host.old).said.held (H.link host.new).said.held bytes.now) }
+    ensures cause { OnErr result
+        (Rose (H.link host.old).said.faults (H.link host.new).said.faults) }
+    ensures lasting { (H.link host.old).said.faults ≤ (H.link host.new).said.faults }
+    ensures rest { OnlySaying (H.link host.old) (H.link host.new) }
+    // What is told of files, ports and links that come stays.
+    ensures same_files { H.files host.new ≡ H.files host.old }
+    ensures place { H.address host.new ≡ H.address host.old }
+    ensures same_closed { H.closed host.new ≡ H.closed host.old }
+    ensures links { H.gave host.new ≡ H.gave host.old }
+    ensures ends { H.stops host.new ≡ H.stops host.old }
+    ensures file_lasting { H.file_faults host.old ≤ H.file_faults host.new }
+    ensures port_lasting { H.port_faults host.old ≤ H.port_faults host.new }
+    ensures accept_lasting { H.faults host.old ≤ H.faults host.new }
+{
+    let mut at = 0;
+    while at < bytes.len() {
+        match host.say(&bytes[at..]) {
             Put::Some(n) => at += n,
             Put::Failed => return Err(WriteFault),
         }

@@ -1,17 +1,19 @@
-//! The real host: files by name, and links over TCP.
+//! The real host: files by name, and links over TCP, those that come and the one that it dials.
 ghost use Rattle.std.specs.Prelude.{◌≡◌, ◌≤◌, true, false, None, take, IfOk, IfSome, IsErrOf};
 ghost use Rattle.std.specs.Prelude.{vec_len};
 ghost use Rattle.std.specs.Option.{option_map};
 ghost use Rattle.std.specs.String.{string_bytes};
 ghost use Rattle.out_ports.specs.Limits.{most_read};
 ghost use Rattle.out_ports.specs.Ports.{raised, Rose};
+ghost use Rattle.out_ports.specs.Dialled.{no_link};
 ghost use Rattle.out_ports.specs.declared.ports.HostFault.TheVariants as fault;
 
 use crate::accepting::{Cause, cause_of, listen_at, next_link};
+use crate::dialling::Dialled;
 use crate::links::{TcpSink, TcpSource};
 use crate::streams::ReadSource;
 use crate::waits::Waits;
-use out_ports::ports::{Accepted, FILE_READ, Host, HostFault, Listen, Source};
+use out_ports::ports::{Accepted, FILE_READ, Host, HostFault, Listen, Put, Source, Took};
 use out_ports::streams::{ReadFault, read_front};
 use std::alloc::Global;
 use std::net::{Net, TcpListener, TcpStream};
@@ -32,6 +34,7 @@ pub struct RealHost<'a, Rt> {
     faults: u64,
     file_faults: u64,
     port_faults: u64,
+    dialled: Dialled,
 }
 
 impl<'a, Rt> RealHost<'a, Rt> {
@@ -44,6 +47,7 @@ impl<'a, Rt> RealHost<'a, Rt> {
         ensures faults { result.faults ≡ 0 }
         ensures file_faults { result.file_faults ≡ 0 }
         ensures port_faults { result.port_faults ≡ 0 }
+        ensures link { result.dialled ≡ no_link }
     {
         RealHost {
             rt,
@@ -56,6 +60,7 @@ impl<'a, Rt> RealHost<'a, Rt> {
             faults: 0,
             file_faults: 0,
             port_faults: 0,
+            dialled: Dialled::new(),
         }
     }
 
@@ -99,6 +104,8 @@ impl<'a, Rt: Clock> Listen for RealHost<'a, Rt> {
     ghost file_faults = { λ h. h.file_faults };
 
     ghost port_faults = { λ h. h.port_faults };
+
+    ghost link = { λ h. h.dialled };
 
     fn faults(&self) -> u64 {
         self.faults
@@ -149,6 +156,18 @@ where
         self.port_faults
     }
 
+    fn dial_faults(&self) -> u64 {
+        self.dialled.dial_faults()
+    }
+
+    fn hear_faults(&self) -> u64 {
+        self.dialled.hear_faults()
+    }
+
+    fn say_faults(&self) -> u64 {
+        self.dialled.say_faults()
+    }
+
     fn file(&mut self, alloc: Global, name: &str) -> Result<Vec<u8>, HostFault> {
         let Ok(file) = fs::open(self.rt, name) else {
             self.file_faults = self.file_faults.saturating_add(1);
@@ -176,6 +195,22 @@ where
                 Err(HostFault::Failed)
             }
         }
+    }
+
+    /// A name or numbers and a port, of whichever family: each address that it is looked up to is
+    /// tried in turn. A link that was dialled before is closed.
+    fn dial(&mut self, alloc: Global, addr: &str) -> Result<(), HostFault> {
+        self.dialled.dial(self.rt, alloc, addr)
+    }
+
+    /// It waits for the peer without an end.
+    fn hear(&mut self, buf: &mut [u8]) -> Took {
+        self.dialled.hear(buf)
+    }
+
+    /// It waits for the peer without an end.
+    fn say(&mut self, piece: &[u8]) -> Put {
+        self.dialled.say(piece)
     }
 }
 

@@ -6,6 +6,7 @@
 #![tactic(auto)]
 
 mod accepting;
+mod dialling;
 mod host;
 mod keeping;
 mod links;

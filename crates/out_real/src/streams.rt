@@ -61,7 +61,7 @@ impl<R: Read> Source for ReadSource<R> {
 }
 
 /// Reads once, and again where a signal came between.
-fn read_some<R: Read>(reader: &mut R, buf: &mut [u8]) -> Option<usize>
+pub(crate) fn read_some<R: Read>(reader: &mut R, buf: &mut [u8]) -> Option<usize>
     ensures { IfSome result (λ n. n ≤ length buf.new) }
 {
     for _ in 0..u64::MAX {
@@ -125,7 +125,7 @@ impl<W: Write> Sink for WriteSink<W> {
 }
 
 /// Writes once, and again where a signal came between.
-fn write_some<W: Write>(writer: &mut W, piece: &[u8]) -> Option<usize>
+pub(crate) fn write_some<W: Write>(writer: &mut W, piece: &[u8]) -> Option<usize>
     ensures { IfSome result (λ n. (1 ≤ n) × (n ≤ length piece.now)) }
 {
     for _ in 0..u64::MAX {

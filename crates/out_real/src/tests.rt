@@ -1,4 +1,5 @@
 //! Each adapter once.
+mod dialling;
 mod files;
 mod links;
 mod streams;

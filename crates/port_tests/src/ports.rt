@@ -1,6 +1,7 @@
 //! The listener and the host in memory.
 use out_ports::memory::{MemFile, MemHost, MemLink, MemListen, MemSink, MemSource};
-use out_ports::ports::{Accepted, Host, HostFault, Listen};
+use out_ports::ports::{Accepted, Host, HostFault, Listen, Put, Took};
+use out_ports::streams::say_all;
 use std::alloc::{AllocError, Global};
 use std::test::Fail;
 
@@ -130,5 +131,83 @@ fn closed_host_opens_again(alloc: Global) -> Result<bool, AllocError> {
 #[test]
 fn a_host_that_is_closed_opens_again(rt: HostRuntime) -> Result<(), Fail> {
     assert!(rt; closed_host_opens_again(rt.alloc())?);
+    Ok(())
+}
+
+/// The host above, whose dialled peer says `abcde` in pieces of two and takes five bytes. Its call
+/// of `hear` fails at 1, of `say` at 1, and of `dial` at these.
+fn peered(alloc: Global, failing_dials: &[u64]) -> Result<MemHost, AllocError> {
+    let bytes = Vec::from_slice(alloc, b"abcde")?;
+    let hears = MemSource::new(bytes, 2, Vec::from_slice(alloc, &[1])?);
+    let says = MemSink::new(Vec::with_capacity(alloc, 5)?, Vec::from_slice(alloc, &[1])?);
+    let failing_dials = Vec::from_slice(alloc, failing_dials)?;
+    Ok(host(alloc)?.with_peer(hears, says, failing_dials))
+}
+
+/// A dial that fails leaves the address that was dialled before.
+fn host_dials(alloc: Global) -> Result<bool, AllocError> {
+    let mut host = peered(alloc, &[0, 2])?;
+    let failed = host.dial(alloc, "a:1") == Err(HostFault::Failed) && host.dialled().is_none();
+    let answered = host.dial(alloc, "b:2") == Ok(()) && host.dialled() == Some("b:2");
+    let stays = host.dial(alloc, "c:3").is_err() && host.dialled() == Some("b:2");
+    Ok(failed && answered && stays && host.dial_faults() == 2)
+}
+
+#[test]
+fn a_host_dials(rt: HostRuntime) -> Result<(), Fail> {
+    assert!(rt; host_dials(rt.alloc())?);
+    Ok(())
+}
+
+/// What is left after a hearing that fails is heard by the next one.
+fn host_hears_its_peer(alloc: Global) -> Result<bool, AllocError> {
+    let mut host = peered(alloc, &[])?;
+    let Ok(()) = host.dial(alloc, "a:1") else {
+        return Ok(false);
+    };
+    let mut buf = [0; 8];
+    let first = host.hear(&mut buf) == Took::Some(2) && buf.starts_with(b"ab");
+    let failed = host.hear(&mut buf) == Took::Failed && host.hear_faults() == 1;
+    let then = host.hear(&mut buf) == Took::Some(2) && buf.starts_with(b"cd");
+    let last = host.hear(&mut buf) == Took::Some(1) && host.hears().left().is_empty();
+    Ok(first && failed && then && last && host.hear(&mut buf) == Took::End)
+}
+
+#[test]
+fn a_host_hears_its_peer(rt: HostRuntime) -> Result<(), Fail> {
+    assert!(rt; host_hears_its_peer(rt.alloc())?);
+    Ok(())
+}
+
+/// The third saying goes past the room.
+fn host_says_to_its_peer(alloc: Global) -> Result<bool, AllocError> {
+    let mut host = peered(alloc, &[])?;
+    let Ok(()) = host.dial(alloc, "a:1") else {
+        return Ok(false);
+    };
+    let first = say_all(&mut host, b"abc").is_ok() && host.say(b"de") == Put::Failed;
+    let then = host.say(b"def") == Put::Failed && host.say(b"fg") == Put::Some(2);
+    Ok(first && then && host.say_faults() == 2 && host.says().held() == b"abcfg".as_slice())
+}
+
+#[test]
+fn a_host_says_to_its_peer(rt: HostRuntime) -> Result<(), Fail> {
+    assert!(rt; host_says_to_its_peer(rt.alloc())?);
+    Ok(())
+}
+
+/// Without a peer of its own nothing is heard and nothing is taken.
+fn nobody_answers(alloc: Global) -> Result<bool, AllocError> {
+    let mut host = host(alloc)?;
+    let Ok(()) = host.dial(alloc, "a:1") else {
+        return Ok(false);
+    };
+    let heard = host.hear(&mut [0; 8]) == Took::End && host.hear_faults() == 0;
+    Ok(heard && host.say(b"a") == Put::Failed && host.say_faults() == 1)
+}
+
+#[test]
+fn a_peer_that_says_nothing(rt: HostRuntime) -> Result<(), Fail> {
+    assert!(rt; nobody_answers(rt.alloc())?);
     Ok(())
 }

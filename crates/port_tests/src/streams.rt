@@ -144,7 +144,8 @@ fn faults_read(alloc: Global, wanted: &str) -> Result<bool, AllocError> {
 
 #[test]
 fn the_texts_of_faults(rt: HostRuntime) -> Result<(), Fail> {
-    let wanted = "the file or the port failed; out of memory; the source failed; the sink failed";
+    let wanted = "the file, the port or the dialled link failed; out of memory; \
+        the source failed; the sink failed";
     assert!(rt; faults_read(rt.alloc(), wanted)?);
     Ok(())
 }

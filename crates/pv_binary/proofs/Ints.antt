@@ -28,7 +28,7 @@ repeats_own c = by (nat_lt c 128) refl
     by true e = rw e
     by false e = rw e
 
-sign_own : (c : ℕ) (s : List ℕ) → sign (cond (nat_lt c 128) 0 255 ∷ s) ≡ cond (nat_lt c 128) 0 255
+pub sign_own : (c : ℕ) (s : List ℕ) → sign (cond (nat_lt c 128) 0 255 ∷ s) ≡ cond (nat_lt c 128) 0 255
 sign_own c s = by (nat_lt c 128)
   where
     by : (t : Bool) → cond {A = ℕ} (nat_lt (cond {A = ℕ} t 0 255) 128) 0 255 ≡ cond {A = ℕ} t 0 255

@@ -10,6 +10,7 @@ pub mod Narrow
 pub mod Numbers
 pub mod OneOfThree
 pub mod Paths
+pub mod Shorts
 pub mod Sound
 pub mod Stops
 pub mod TagBytes

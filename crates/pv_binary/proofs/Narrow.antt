@@ -47,7 +47,7 @@ value_is : (s : List ℕ) → length s ≤ 16 → int_value s ≡ cast_signed w1
 unfolding int_value
 value_is s l = ap (cast_signed w128) (from_bytes (pad s) (length_pad s l))
 
-value_8 : (z : ℤ) → FitsSigned w8 z → int_value (to_be_bytes w8 (cast_unsigned w8 z)) ≡ z
+pub value_8 : (z : ℤ) → FitsSigned w8 z → int_value (to_be_bytes w8 (cast_unsigned w8 z)) ≡ z
 value_8 z f =
     value_is (to_be_bytes w8 (cast_unsigned w8 z)) (lit≤ tt)
     ∙ ap (cast_signed w128)
@@ -71,7 +71,7 @@ pub narrow_8 : (z : ℤ) → FitsSigned w8 z → int_bytes z ≡ minimal (to_be_
 narrow_8 z f = ap int_bytes (sym (value_8 z f))
     ∙ int_bytes_value (to_be_bytes w8 (cast_unsigned w8 z)) (are_bytes 1 (cast_unsigned w8 z)) (lit≤ tt)
 
-value_32 : (z : ℤ) → FitsSigned w32 z → int_value (to_be_bytes w32 (cast_unsigned w32 z)) ≡ z
+pub value_32 : (z : ℤ) → FitsSigned w32 z → int_value (to_be_bytes w32 (cast_unsigned w32 z)) ≡ z
 value_32 z f =
     value_is (to_be_bytes w32 (cast_unsigned w32 z)) (lit≤ tt)
     ∙ ap (cast_signed w128)

@@ -1,5 +1,5 @@
 //! Reading atoms, from behind their tags. Nothing here takes memory.
-ghost use Rattle.std.specs.Prelude.{◌≡◌, ◌≤◌, ◌<◌, ◌*◌, ◌^◌, [], ◌∷◌, ◌++◌, length, replicate};
+ghost use Rattle.std.specs.Prelude.{◌≡◌, ◌≤◌, ◌<◌, ◌*◌, ◌^◌, [], ◌∷◌, length};
 ghost use Rattle.std.specs.Prelude.{IfOk, MatchOption};
 ghost use Rattle.std.specs.Prelude.{IsTrue};
 ghost use Rattle.std.specs.Int.{w64, from_be_bytes};
@@ -81,9 +81,42 @@ fn ascii_text(bytes: &[u8]) -> &str
     unsafe { std::str::from_utf8_unchecked(bytes) }
 }
 
-/// The integer behind its count, in as few bytes as will do, and the bytes behind it.
+/// The integer behind its count, in as few bytes as will do, and the bytes behind it. Most have at
+/// most four, which are looked at where they stand.
 #[tactic(auto, unfolding(crate::specs::Reading::int_at))]
 pub fn read_int(bytes: &[u8]) -> Result<(i128, &[u8]), BinKind>
+    ensures { Answers (λ x. (x.0, x.1.now)) result (int_at bytes.now) }
+{
+    if let [0, rest @ ..] = bytes {
+        return Ok((int_of_none(), rest));
+    }
+    if let [1, a, rest @ ..] = bytes {
+        if *a != 0 {
+            return Ok((int_of_one(*a), rest));
+        }
+    }
+    if let [2, a, b, rest @ ..] = bytes {
+        if !repeats_sign(*a, *b) {
+            return Ok((int_of_two(*a, *b), rest));
+        }
+    }
+    if let [3, a, b, c, rest @ ..] = bytes {
+        if !repeats_sign(*a, *b) {
+            return Ok((int_of_three(*a, *b, *c), rest));
+        }
+    }
+    if let [4, a, b, c, d, rest @ ..] = bytes {
+        if !repeats_sign(*a, *b) {
+            return Ok((int_of_four(*a, *b, *c, *d), rest));
+        }
+    }
+    read_long_int(bytes)
+}
+
+/// The same, where the bytes are more than four or don't stand for an integer.
+#[inline(never)]
+#[tactic(auto, unfolding(crate::specs::Reading::int_at))]
+fn read_long_int(bytes: &[u8]) -> Result<(i128, &[u8]), BinKind>
     ensures { Answers (λ x. (x.0, x.1.now)) result (int_at bytes.now) }
 {
     let (count, rest) = read_count(bytes)?;
@@ -178,35 +211,6 @@ fn padded(digits: &[u8]) -> [u8; 16]
     requires { length digits.now ≤ 16 }
     ensures { result ≡ pad digits.now }
 {
-    match digits {
-        [] => last_four(0, 0, 0, 0, 0),
-        [first] if *first < 128 => last_four(0, 0, 0, 0, *first),
-        [first] => last_four(255, 255, 255, 255, *first),
-        [first, second] if *first < 128 => last_four(0, 0, 0, *first, *second),
-        [first, second, third] if *first < 128 => last_four(0, 0, *first, *second, *third),
-        [first, second, third, fourth] if *first < 128 => {
-            last_four(0, *first, *second, *third, *fourth)
-        }
-        _ => padded_any(digits),
-    }
-}
-
-/// Four bytes behind twelve that are all this one.
-#[inline]
-fn last_four(front: u8, first: u8, second: u8, third: u8, fourth: u8) -> [u8; 16]
-    ensures { result ≡ replicate 12 front ++ first ∷ second ∷ third ∷ fourth ∷ [] }
-{
-    let f = front;
-    [
-        f, f, f, f, f, f, f, f, f, f, f, f, first, second, third, fourth,
-    ]
-}
-
-/// The same for a number of any sign and length.
-fn padded_any(digits: &[u8]) -> [u8; 16]
-    requires { length digits.now ≤ 16 }
-    ensures { result ≡ pad digits.now }
-{
     let mut bytes = [sign_byte(digits); 16];
     let start = 16 - digits.len();
     let place = &mut bytes[start..];
@@ -220,8 +224,58 @@ fn sign_byte(digits: &[u8]) -> u8
 {
     match digits {
         [] => 0,
-        [first, ..] => if *first < 128 { 0 } else { 255 },
+        [first, ..] => sign_of(*first),
     }
+}
+
+/// The byte that repeats the sign of this one.
+#[inline(always)]
+fn sign_of(first: u8) -> u8
+    ensures { result ≡ sign (first ∷ []) }
+{
+    if first < 128 { 0 } else { 255 }
+}
+
+/// What no bytes stand for.
+#[inline(always)]
+#[tactic(auto, unfolding(crate::specs::Reading::int_value))]
+fn int_of_none() -> i128
+    ensures { result ≡ int_value [] }
+{
+    0
+}
+
+/// What a byte of two's complement stands for.
+#[inline(always)]
+fn int_of_one(byte: u8) -> i128
+    ensures { result ≡ int_value (byte ∷ []) }
+{
+    i128::from(i8::from_be_bytes([byte]))
+}
+
+/// What two bytes of two's complement stand for.
+#[inline(always)]
+fn int_of_two(first: u8, second: u8) -> i128
+    ensures { result ≡ int_value (first ∷ second ∷ []) }
+{
+    let sign = sign_of(first);
+    int_of_four(sign, sign, first, second)
+}
+
+/// What three bytes of two's complement stand for.
+#[inline(always)]
+fn int_of_three(first: u8, second: u8, third: u8) -> i128
+    ensures { result ≡ int_value (first ∷ second ∷ third ∷ []) }
+{
+    int_of_four(sign_of(first), first, second, third)
+}
+
+/// What four bytes of two's complement stand for.
+#[inline(always)]
+fn int_of_four(first: u8, second: u8, third: u8, fourth: u8) -> i128
+    ensures { result ≡ int_value (first ∷ second ∷ third ∷ fourth ∷ []) }
+{
+    i128::from(i32::from_be_bytes([first, second, third, fourth]))
 }
 
 /// The number of eight bytes, big-endian.

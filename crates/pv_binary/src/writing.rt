@@ -157,10 +157,28 @@ fn push_int(out: &mut Vec<u8>, n: i128) -> Result<(), NoMemory>
         return push_bytes(out, &[tags::INTEGER, 1, byte]);
     }
     if -0x8000_0000 <= n && n < 0x8000_0000 {
-        let bytes = (n as i32).to_be_bytes();
-        return push_counted(out, tags::INTEGER, without_sign_bytes(&bytes));
+        return push_narrow(out, (n as i32).to_be_bytes());
     }
     push_long_int(out, n)
+}
+
+/// The integer of these four bytes, without those that only repeat the sign.
+#[tactic(auto, unfolding(crate::specs::Numbers::varint))]
+fn push_narrow(out: &mut Vec<u8>, bytes: [u8; 4]) -> Result<(), NoMemory>
+    ensures all { OnOk result (out.new.items ≡ out.old.items ++ 0xb0 ∷ counted (minimal bytes)) }
+    ensures front { StartsWith out.new.items out.old.items }
+{
+    let [a, b, c, d] = bytes;
+    if !repeats_sign(a, b) {
+        return push_bytes(out, &[tags::INTEGER, 4, a, b, c, d]);
+    }
+    if !repeats_sign(b, c) {
+        return push_bytes(out, &[tags::INTEGER, 3, b, c, d]);
+    }
+    if !repeats_sign(c, d) {
+        return push_bytes(out, &[tags::INTEGER, 2, c, d]);
+    }
+    push_counted(out, tags::INTEGER, without_sign_bytes(&[d]))
 }
 
 /// The same, where four bytes don't do.
@@ -194,6 +212,7 @@ fn without_sign_bytes(bytes: &[u8]) -> &[u8]
 }
 
 /// Whether `b` only repeats the sign that the next byte has.
+#[inline(always)]
 pub(crate) fn repeats_sign(b: u8, next: u8) -> bool
     ensures { result ≡ repeats_sign b next }
 {

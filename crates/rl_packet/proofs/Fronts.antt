@@ -1,10 +1,9 @@
 -- What bytes begin with: numbers, values one behind another, events and turns.
-use Rattle.std.proofs.Common.{◌≡◌, ℕ, suc, ◌-◌, ◌<◌, ◌≤◌, ℤ, pos, true, false, List, [], ◌∷◌, ◌++◌, length, take}
+use Rattle.std.proofs.Common.{◌≡◌, ℕ, suc, ◌-◌, ◌<◌, ◌≤◌, ℤ, pos, List, [], ◌∷◌, ◌++◌, length, take}
 use Rattle.std.proofs.Common.{map, Ok, refl, sym, ap, ◌∙◌, subst, append_assoc, length-append, arith}
 use Rattle.std.proofs.Math.Seq.{take-append_seam}
 use Rattle.std.proofs.lemmas.List.{take-append-drop, append-nil, map-append}
-use Rattle.std.specs.Str.{IsUtf8, bytes_eq}
-use Rattle.std.proofs.lemmas.Slice.Eq.{bytes_eq-Decides}
+use Rattle.std.specs.Str.{IsUtf8}
 use Rattle.std.specs.List.{concat, AllByRecursion}
 use Rattle.pv_value.specs.Plain.{Plain, integer, sequence, plains}
 use Rattle.pv_words.specs.Words.{labelled, number}
@@ -112,15 +111,6 @@ record_begins d label bytes xs rest text short b =
     }
 
 -- ---- events
-
--- the bytes of a record, by the label that its word is
-pub opened_by : (bytes found seen label more : List ℕ) → bytes ≡ opened found more → bytes_eq found seen ≡ true
-    → seen ≡ label → bytes ≡ opened label more
-opened_by bytes found seen label more is same e =
-    is ∙ ap (λ (w : List ℕ). opened w more) ((bytes_eq-Decides found seen).0 same ∙ e)
-
-pub other_word : (found seen label : List ℕ) → bytes_eq found seen ≡ false → seen ≡ label → found ≡ label → ⊥
-other_word found seen label other e is = let same = (bytes_eq-Decides found seen).1 (is ∙ sym e) in cc
 
 -- an event's fields, behind its label
 pub event_begins : (d : Dialect) (e : Event) (bytes rest : List ℕ) → BeginsAll 61 bytes (fields e) rest

@@ -8,6 +8,9 @@ use Rattle.pv_words.specs.Words.{number}
 use Rattle.pv_binary.specs.Reads.{BeginsWith}
 use Rattle.pv_binary.specs.Spells.{Spells, Pieces}
 use Rattle.rl_packet.specs.Packets.{Dialect, Event, TurnEvent, event_value, aimed_value}
+use Rattle.rl_packet.specs.Packets.{assert_word, retract_word, message_word, sync_word}
+pub use Rattle.rl_packet.specs.declared.spelled.Kind.{Kind}
+use Rattle.rl_packet.specs.declared.spelled.Kind.TheVariants as kind
 use Rattle.rl_packet.specs.Wired.{IsEvent, IsTurnEvent}
 
 -- a front of the bytes spells v, which nests at most d deep, and the rest stands behind it
@@ -27,6 +30,13 @@ pub record BeginsAll (d : ℕ) (bytes : List ℕ) (xs : List Plain) (rest : List
 -- the bytes of a record's fields, with what stands before them: its label is the symbol of a word of below 128 bytes
 abbrev pub opened : List ℕ → List ℕ → List ℕ
 opened word bytes = 0xb4 ∷ 0xb3 ∷ length word ∷ (word ++ bytes)
+
+-- the label of an event of a kind
+abbrev pub label_of : Dialect → Kind → List ℕ
+label_of d kind.Assertion = assert_word d
+label_of d kind.Retraction = retract_word d
+label_of d kind.Message = message_word d
+label_of d kind.Sync = sync_word d
 
 -- no number below 2 ^ 63 begins the bytes
 abbrev pub NoNumber : List ℕ → Type 0

@@ -5,12 +5,13 @@ ghost use Rattle.std.specs.List.{AllByRecursion};
 ghost use Rattle.pv_value.specs.Plain.{Plain};
 ghost use Rattle.pv_words.specs.Words.{number};
 ghost use Rattle.pv_binary.specs.Reads.{BeginsWith};
-ghost use Rattle.rl_packet.specs.Packets.{Dialect, TurnRecord, event_value, aimed_value};
+ghost use Rattle.rl_packet.specs.Packets.{Dialect, Newer, Older, TurnRecord, event_value};
+ghost use Rattle.rl_packet.specs.Packets.{aimed_value};
 ghost use Rattle.rl_packet.specs.Packets.{turn_value};
 ghost use Rattle.rl_packet.specs.Packets.{assert_word, retract_word, message_word, sync_word};
 ghost use Rattle.rl_packet.specs.Wired.{IsEvent, IsTurnEvent};
 ghost use Rattle.rl_packet.specs.Grammar.{IsTurn};
-ghost use Rattle.rl_packet.specs.Spelled.{Begins, BeginsAll, opened};
+ghost use Rattle.rl_packet.specs.Spelled.{Begins, BeginsAll, opened, label_of, Kind};
 ghost use Rattle.rl_packet.specs.Spelled.{NoNumber, NoEvent, NoAimed, NoEvents, NoTurn};
 
 use crate::packets::{Dialect, Event, Turn, TurnEvent, TurnEvents};
@@ -199,6 +200,61 @@ fn word_in(bytes: &[u8]) -> Option<(&[u8], &[u8])>
     Some(text.split_at(count))
 }
 
+/// What an event is, told by the label of its record.
+#[derive(Clone, Copy)]
+enum Kind {
+    Assertion,
+    Retraction,
+    Message,
+    Sync,
+}
+
+/// The kind of event whose label the word is in the dialect.
+fn kind_in(dialect: Dialect, word: &[u8]) -> Option<Kind>
+    ensures found { IfSome result (λ kind. word.now ≡ label_of dialect kind) }
+    ensures none { IfNone result ((kind : Kind) → word.now ≡ label_of dialect kind → ⊥) }
+{
+    match dialect {
+        Dialect::Newer => kind_by_letter(word),
+        Dialect::Older => kind_by_word(word),
+    }
+}
+
+/// The kind whose label is one letter.
+fn kind_by_letter(word: &[u8]) -> Option<Kind>
+    ensures found { IfSome result (λ kind. word.now ≡ label_of Newer kind) }
+    ensures none { IfNone result ((kind : Kind) → word.now ≡ label_of Newer kind → ⊥) }
+{
+    let [letter] = word else {
+        return None;
+    };
+    match *letter {
+        b'A' => Some(Kind::Assertion),
+        b'R' => Some(Kind::Retraction),
+        b'M' => Some(Kind::Message),
+        b'S' => Some(Kind::Sync),
+        _ => None,
+    }
+}
+
+/// The kind whose label is a whole word.
+fn kind_by_word(word: &[u8]) -> Option<Kind>
+    ensures found { IfSome result (λ kind. word.now ≡ label_of Older kind) }
+    ensures none { IfNone result ((kind : Kind) → word.now ≡ label_of Older kind → ⊥) }
+{
+    if word == Dialect::Older.assert_word().as_bytes() {
+        Some(Kind::Assertion)
+    } else if word == Dialect::Older.retract_word().as_bytes() {
+        Some(Kind::Retraction)
+    } else if word == Dialect::Older.message_word().as_bytes() {
+        Some(Kind::Message)
+    } else if word == Dialect::Older.sync_word().as_bytes() {
+        Some(Kind::Sync)
+    } else {
+        None
+    }
+}
+
 /// The event that the bytes begin with, and the bytes behind it.
 fn event_in(
     alloc: Global,
@@ -213,16 +269,12 @@ fn event_in(
     let Some((word, fields)) = word_in(bytes) else {
         return Ok(None);
     };
-    if word == dialect.assert_word().as_bytes() {
-        assertion_in(alloc, fields)
-    } else if word == dialect.retract_word().as_bytes() {
-        Ok(retraction_in(fields))
-    } else if word == dialect.message_word().as_bytes() {
-        message_in(alloc, fields)
-    } else if word == dialect.sync_word().as_bytes() {
-        sync_in(alloc, fields)
-    } else {
-        Ok(None)
+    match kind_in(dialect, word) {
+        Some(Kind::Assertion) => assertion_in(alloc, fields),
+        Some(Kind::Retraction) => Ok(retraction_in(fields)),
+        Some(Kind::Message) => message_in(alloc, fields),
+        Some(Kind::Sync) => sync_in(alloc, fields),
+        None => Ok(None),
     }
 }
 

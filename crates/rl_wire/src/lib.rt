@@ -2,6 +2,9 @@
 //!
 //! What crosses, in which order references are looked at, and what stands where two keys or
 //! elements become equal is `crossed_in` and `crossed_out` of `specs/Crossing.antt`.
+//!
+//! The last number of a system actor is one of this crate's own, since the constants of actors
+//! stand above it, in `ac_world`.
 #![tactic(auto)]
 
 mod faults;

@@ -2,6 +2,12 @@
 //!
 //! What stands of an input is its course in `specs/Scripts.antt`: it runs through the steps that
 //! its values make, or stops for the first cause.
+//!
+//! `Run` is handed on by value and whole, since `Hub::step` takes the hub by value, and so five of
+//! its calls take it apart and put it together again. What isn't the hub (what was sent, how many
+//! bytes, what is unread) could stand in a struct of its own that is changed in place; the proofs
+//! of these calls name the four fields. Some functions have the hint `inline(always)`, as in
+//! `hub_core`.
 #![tactic(auto)]
 
 mod faults;

@@ -56,6 +56,7 @@ pub fn accept_all<Rt: Wait, Li: Listen, D: Desk<Li::R, Li::W>, Sp: Spawner<D::Jo
     ensures same_files { Li.files listener.new ≡ Li.files listener.old }
     ensures same_file_faults { Li.file_faults listener.new ≡ Li.file_faults listener.old }
     ensures same_port_faults { Li.port_faults listener.new ≡ Li.port_faults listener.old }
+    ensures same_link { Li.link listener.new ≡ Li.link listener.old }
     // After want of memory.
     ensures stands { OnErr result (OnlyGrew (D.deeds desk.old) (D.deeds desk.new)
         (Sp.jobs spawner.old) (Sp.jobs spawner.new)) }
@@ -99,6 +100,7 @@ fn next_answer<Rt: Wait, Li: Listen, D: Desk<Li::R, Li::W>>(
     ensures same_files { Li.files listener.new ≡ Li.files listener.old }
     ensures same_file_faults { Li.file_faults listener.new ≡ Li.file_faults listener.old }
     ensures same_port_faults { Li.port_faults listener.new ≡ Li.port_faults listener.old }
+    ensures same_link { Li.link listener.new ≡ Li.link listener.old }
     ensures lasting { Li.faults listener.old ≤ Li.faults listener.new }
     ensures cause { result ≡ Accepted.Failed →
         Rose (Li.faults listener.old) (Li.faults listener.new) }

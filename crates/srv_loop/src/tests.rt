@@ -1,5 +1,6 @@
 //! The accept loop in memory.
 ghost use Rattle.std.specs.Prelude.{◌≡◌, true, false, [], None, Some};
+ghost use Rattle.out_ports.specs.Dialled.{no_link};
 
 use crate::{Desk, NoMemory, Tally, accept_all};
 use out_ports::memory::{MemLink, MemListen, MemSink, MemSource, MemSpawner};
@@ -197,6 +198,8 @@ impl Listen for Deserted {
     ghost file_faults = { λ _. 0 };
 
     ghost port_faults = { λ _. 0 };
+
+    ghost link = { λ _. no_link };
 
     fn faults(&self) -> u64 {
         0

@@ -1,5 +1,6 @@
 //! Links in memory, and a listener that gives them.
 ghost use Rattle.std.specs.Prelude.{◌≡◌, ◌≤◌, true, false, [], None, Some};
+ghost use Rattle.out_ports.specs.Dialled.{no_link};
 ghost use Rattle.out_ports.specs.MemListen.{listener_of, accept_answer, after_accept, after_stop};
 
 use super::calls::Calls;
@@ -110,6 +111,8 @@ impl Listen for MemListen {
     ghost file_faults = { λ _. 0 };
 
     ghost port_faults = { λ _. 0 };
+
+    ghost link = { λ _. no_link };
 
     fn faults(&self) -> u64 {
         self.calls.faults()

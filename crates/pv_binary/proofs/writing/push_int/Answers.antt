@@ -1,8 +1,7 @@
-use Rattle.std.proofs.Common.{rules, ◌≡◌, ◌∙◌, sym, ap, pos}
+use Rattle.std.proofs.Common.{rules, ◌≡◌, ap, pos}
 use Rattle.std.specs.Int.{w8, w32, w128, cast_unsigned}
 use Rattle.std.specs.Int.RustNames.{FitsSigned}
 use Rattle.std.proofs.lemmas.Int.{to_z-of_z}
-use Rattle.pv_binary.specs.Numbers.{minimal, int_bytes}
 use Rattle.pv_binary.proofs.Narrow.{narrow_32, counted_zero, counted_one}
 use Rattle.pv_binary.proofs.writing.push_int.Goals as goal
 
@@ -24,7 +23,5 @@ pub returns-then-n-lt2147483648-clause-all : goal.returns-then-n-lt2147483648-cl
 returns-then-n-lt2147483648-clause-all c =
     let wide : FitsSigned w128 c.args.n = c.ranges.n in
     let fits : FitsSigned w32 c.args.n = search rules in
-    let bytes = simp to_z-of_z at c.to_be_bytes-bytes.ensures in
-    let e : c.without_sign_bytes.result.now ≡ int_bytes c.args.n =
-    c.without_sign_bytes.ensures ∙ ap minimal bytes ∙ sym (narrow_32 c.args.n fits) in
-    rw e at c.push_counted.ensures.all
+    let bytes = simp to_z-of_z at c.to_be_bytes-then-n-lt2147483648.ensures in
+    rw (narrow_32 c.args.n fits) (rw bytes at c.push_narrow.ensures.all)

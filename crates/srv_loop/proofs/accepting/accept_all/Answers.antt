@@ -22,6 +22,7 @@ loop-init g c =
       same_files = refl;
       same_file_faults = refl;
       same_port_faults = refl;
+      same_link = refl;
     }
 
 pub loop-preserved : goal.loop-preserved
@@ -59,6 +60,7 @@ loop-preserved g c =
             same_files = link.same_files ∙ so_far.same_files;
             same_file_faults = link.same_file_faults ∙ so_far.same_file_faults;
             same_port_faults = link.same_port_faults ∙ so_far.same_port_faults;
+            same_link = link.same_link ∙ so_far.same_link;
           })
       | in-Failed w ↦
           let failed = w.in-Failed.ensures in
@@ -80,6 +82,7 @@ loop-preserved g c =
             same_files = failed.same_files ∙ so_far.same_files;
             same_file_faults = failed.same_file_faults ∙ so_far.same_file_faults;
             same_port_faults = failed.same_port_faults ∙ so_far.same_port_faults;
+            same_link = failed.same_link ∙ so_far.same_link;
           })
     ]
 

@@ -25,4 +25,5 @@ invariant-loop g l = record {
   same_files : g.Li.Listen.files l.listener ≡ g.Li.Listen.files l.initial.listener;
   same_file_faults : g.Li.Listen.file_faults l.listener ≡ g.Li.Listen.file_faults l.initial.listener;
   same_port_faults : g.Li.Listen.port_faults l.listener ≡ g.Li.Listen.port_faults l.initial.listener;
+  same_link : g.Li.Listen.link l.listener ≡ g.Li.Listen.link l.initial.listener;
 }
