@@ -5,12 +5,15 @@
 //!
 //! `plain` reads binary values up to the end of its input and writes the canonical form of each, as
 //! `dsd canon` does; where a fault stands it tells that and writes nothing. `plain turns` does the
-//! same with turns, of which it makes no values but those that are asserted or said.
+//! same with turns, of which it makes no values but those that are asserted or said. With `--thread`
+//! it does so in a thread with the stack that dsd's has: memory costs more there than in a first
+//! thread.
 
 use std::cmp::Ordering;
 use std::io::{self, Read, Write};
 use std::process::ExitCode;
 use std::sync::Arc;
+use std::thread::Builder;
 
 // ---- values
 
@@ -336,27 +339,42 @@ fn push_list(out: &mut Vec<u8>, items: &[Value]) {
 /// An element, or a key and its value.
 type Part<'a> = (&'a Value, Option<&'a Value>);
 
+/// Where a part begins, where its key ends, and where it ends.
+type Place = (usize, usize, usize);
+
 /// Elements in the order of the bytes of their forms, or entries in that of their keys' forms.
-fn push_sorted<'a>(out: &mut Vec<u8>, tag: u8, parts: impl ExactSizeIterator<Item = Part<'a>>) {
+fn push_sorted<'a>(out: &mut Vec<u8>, tag: u8, parts: impl Iterator<Item = Part<'a>> + Clone) {
     out.push(tag);
     let start = out.len();
-    // where each part begins, where its key ends, and where it ends
-    let mut places: Vec<(usize, usize, usize)> = Vec::with_capacity(parts.len());
-    for (key, value) in parts {
-        let begin = out.len();
-        write(out, key);
-        let behind_key = out.len();
-        value.inspect(|it| write(out, it));
-        places.push((begin, behind_key, out.len()));
+    let (mut last, mut do_rise) = (start..start, true);
+    for part in parts.clone() {
+        let (begin, behind_key, _) = push_part(out, part);
+        do_rise &= begin == start || out[last] < out[begin..behind_key];
+        last = begin..behind_key;
     }
-    let key_of = |it: &(usize, usize, usize)| &out[it.0..it.1];
-    if !places.is_sorted_by(|a, b| key_of(a) < key_of(b)) {
-        places.sort_unstable_by(|a, b| key_of(a).cmp(key_of(b)));
-        let parts: Vec<&[u8]> = places.iter().map(|it| &out[it.0..it.2]).collect();
-        let sorted = parts.concat();
-        out[start..].copy_from_slice(&sorted);
+    if !do_rise {
+        out.truncate(start);
+        sort_parts(out, start, parts);
     }
     out.push(END);
+}
+
+fn push_part(out: &mut Vec<u8>, (key, value): Part) -> Place {
+    let begin = out.len();
+    write(out, key);
+    let behind_key = out.len();
+    value.inspect(|it| write(out, it));
+    (begin, behind_key, out.len())
+}
+
+/// Appends the parts, and puts them in order.
+fn sort_parts<'a>(out: &mut Vec<u8>, start: usize, parts: impl Iterator<Item = Part<'a>>) {
+    let mut places: Vec<Place> = parts.map(|it| push_part(out, it)).collect();
+    let key_of = |it: &Place| &out[it.0..it.1];
+    places.sort_unstable_by(|a, b| key_of(a).cmp(key_of(b)));
+    let parts: Vec<&[u8]> = places.iter().map(|it| &out[it.0..it.2]).collect();
+    let sorted = parts.concat();
+    out[start..].copy_from_slice(&sorted);
 }
 
 // ---- turns
@@ -482,12 +500,25 @@ fn written<T>(
     Ok(out)
 }
 
+/// How many bytes of stack a thread has.
+const STACK: usize = 256 << 20;
+
 fn main() -> io::Result<ExitCode> {
+    let has = |word: &str| std::env::args().any(|it| it == word);
+    let are_turns = has("turns");
+    if !has("--thread") {
+        return read_and_write(are_turns);
+    }
+    let work = Builder::new().stack_size(STACK).spawn(move || read_and_write(are_turns))?;
+    work.join().unwrap_or(Ok(ExitCode::FAILURE))
+}
+
+fn read_and_write(are_turns: bool) -> io::Result<ExitCode> {
     let mut bytes = Vec::new();
     io::stdin().read_to_end(&mut bytes)?;
-    let answer = match std::env::args().nth(1).as_deref() {
-        Some("turns") => written(&bytes, read_turn, write_turn),
-        _ => written(&bytes, read, write),
+    let answer = match are_turns {
+        true => written(&bytes, read_turn, write_turn),
+        false => written(&bytes, read, write),
     };
     match answer {
         Ok(out) => io::stdout().write_all(&out).map(|()| ExitCode::SUCCESS),

@@ -38,25 +38,27 @@ def reference():
     return client.read_text(reference_text())
 
 
-def free_port():
-    with socket.socket() as probe:
-        probe.bind(("127.0.0.1", 0))
+def free_port(host="127.0.0.1"):
+    with socket.socket(socket.AF_INET6 if ":" in host else socket.AF_INET) as probe:
+        probe.bind((host, 0))
         return probe.getsockname()[1]
 
 
 def is_listened_at(port):
     """Whether somebody listens there. It is looked up, since a link that is tried counts."""
-    with open("/proc/net/tcp", encoding="ascii") as file:
-        rows = [line.split() for line in file][1:]
+    rows = []
+    for name in filter(os.path.exists, ("/proc/net/tcp", "/proc/net/tcp6")):
+        with open(name, encoding="ascii") as file:
+            rows += [line.split() for line in file][1:]
     return any(row[1].endswith(":%04X" % port) and row[3] == LISTENS for row in rows)
 
 
 class Server:
     """`dsd serve` on a port of its own. Where it still runs at the end of the block, it is killed."""
 
-    def __init__(self, connections, config=ROOM, workers=2, environment=()):
-        self.port = free_port()
-        self.address = "127.0.0.1:%d" % self.port
+    def __init__(self, connections, config=ROOM, workers=2, environment=(), host="127.0.0.1"):
+        self.port = free_port(host)
+        self.address = ("[%s]:%d" if ":" in host else "%s:%d") % (host, self.port)
         words = [PROGRAM, "serve", self.address, config, str(workers), str(connections)]
         self.process = subprocess.Popen(
             words, stdin=subprocess.DEVNULL, stdout=subprocess.PIPE, stderr=subprocess.PIPE, text=True,

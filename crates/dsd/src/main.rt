@@ -4,7 +4,7 @@
 ghost use Rattle.std.specs.Prelude.{◌≡◌, ◌↔◌, [], ◌∷◌, Contains};
 ghost use Rattle.std.specs.declared.io.ErrorKind.TheVariants.{OutOfMemory};
 
-use dsd_serve::dsd_main;
+use dsd_program::run_words;
 use out_ports::ports::Sink;
 use out_ports::streams::write_all;
 use out_real::{ReadSource, RealHost, STACK_BYTES, WriteSink};
@@ -30,7 +30,7 @@ fn main(rt: HostRuntime) -> ExitCode {
         let started = Builder::new()
             .stack_size(STACK_BYTES)
             .spawn_scoped(scope, || {
-                dsd_main(
+                run_words(
                     &rt,
                     rt.alloc(),
                     &words,

@@ -73,7 +73,7 @@ fn is_told(alloc: Global) -> Result<bool, NoMemory> {
     let value = nested(alloc, reference, TOLD_LEVELS)?;
     let mut ports = Ports::new(alloc, object(alloc, 1)?)?;
     match wire_out(alloc, &mut ports, 1, &value) {
-        Ok(told) => Ok(depth(&told) == depth(&value)),
+        Ok((told, _)) => Ok(depth(&told) == depth(&value)),
         Err(_) => Ok(false),
     }
 }

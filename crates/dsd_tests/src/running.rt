@@ -1,13 +1,12 @@
 //! The program with these words over a host, and with threads at hand.
-use dsd_serve::dsd_main;
+use dsd_program::run_words;
 use out_ports::memory::{MemHost, MemListen, MemSink, MemSource};
 use out_ports::ports::{Host, Sink};
 use std::alloc::{AllocError, Global};
 use std::sync::Wait;
-use std::test::Fail;
 use std::thread::Threads;
 
-fn words_of(alloc: Global, words: &[&str]) -> Result<Vec<String>, Fail> {
+fn words_of(alloc: Global, words: &[&str]) -> Result<Vec<String>, AllocError> {
     let mut texts = Vec::new(alloc);
     for word in words {
         texts.push(String::from_str(alloc, word)?)?;
@@ -36,12 +35,12 @@ pub fn status_of_run<Rt: Threads + Wait + Sync, O: Sink>(
     alloc: Global,
     bytes: &[u8],
     out: &mut O,
-) -> Result<u8, Fail> {
+) -> Result<u8, AllocError> {
     let words = words_of(alloc, &["run"])?;
     let mut input = source_of(alloc, bytes)?;
     let mut diag = sink(alloc)?;
     let mut host = no_host(alloc);
-    Ok(dsd_main(rt, alloc, &words, &mut input, out, &mut diag, &mut host))
+    Ok(run_words(rt, alloc, &words, &mut input, out, &mut diag, &mut host))
 }
 
 /// Whether the program with these words ends with this status, this output and this line on
@@ -52,7 +51,7 @@ pub fn ends_with<Rt: Threads + Wait + Sync, H: Host>(
     words: &[&str],
     host: &mut H,
     wanted: (u8, &[u8], &[u8]),
-) -> Result<bool, Fail>
+) -> Result<bool, AllocError>
 where
     H::R: Send + Drop,
     H::W: Send + Drop,
@@ -61,6 +60,6 @@ where
     let mut input = source_of(alloc, b"\xff")?;
     let mut out = sink(alloc)?;
     let mut diag = sink(alloc)?;
-    let status = dsd_main(rt, alloc, &words, &mut input, &mut out, &mut diag, host);
+    let status = run_words(rt, alloc, &words, &mut input, &mut out, &mut diag, host);
     Ok(status == wanted.0 && out.held() == wanted.1 && diag.held() == wanted.2)
 }

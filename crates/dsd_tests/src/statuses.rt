@@ -38,7 +38,7 @@ fn serves<Rt: Threads + Wait + Sync>(
     config: &[u8],
     closed: bool,
     wanted: (u8, &[u8], &[u8]),
-) -> Result<bool, Fail> {
+) -> Result<bool, AllocError> {
     let mut host = host(alloc, config, 1, closed)?;
     let words = ["serve", "a", words.0, words.1, words.2];
     ends_with(rt, alloc, &words, &mut host, wanted)
@@ -94,7 +94,7 @@ fn are_refused<Rt: Threads + Wait + Sync>(
     rt: &Rt,
     alloc: Global,
     words: &[&str],
-) -> Result<bool, Fail> {
+) -> Result<bool, AllocError> {
     let mut host = no_host(alloc);
     ends_with(rt, alloc, words, &mut host, (2, b"", b"dsd: bad words\n"))
 }

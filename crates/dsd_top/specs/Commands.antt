@@ -97,6 +97,8 @@ usage = lines_of (
     ∷ codes "                a run of a generated script: holdings, and the sum of what they capture"
     ∷ codes "  serve ADDR CONFIG WORKERS CONNECTIONS"
     ∷ codes "                serves so many links at the address, from no input"
+    ∷ codes "  query ADDR REF PATTERN N"
+    ∷ codes "                what matches the pattern there, as it comes and goes: N lines, from no input"
     ∷ codes "  --help        these lines"
     ∷ codes "  --version     the version"
     ∷ []

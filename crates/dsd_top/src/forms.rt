@@ -22,6 +22,7 @@ pub enum Form {
 }
 
 /// Appends the value in this form.
+#[inline(always)]
 fn push_value(alloc: Global, out: &mut Vec<u8>, value: &Value, form: Form) -> Result<(), NoMemory>
     ensures { OnOk result (out.new.items ≡ out.old.items ++ in_form form value.now) }
 {
@@ -53,6 +54,7 @@ fn verdict(conforms: bool) -> &'static str
 }
 
 /// Appends what is made of the value, and lets go of it.
+#[inline(always)]
 pub fn push_made(alloc: Global, out: &mut Vec<u8>, value: Value, each: Each) -> Result<(), NoMemory>
     requires { IsKnown each }
     ensures { OnOk result (out.new.items ≡ out.old.items ++ made_of each.entry value) }

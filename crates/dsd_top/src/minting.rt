@@ -19,10 +19,10 @@ use thiserror::Error;
 /// The most bytes of a key.
 const KEY_BYTES: usize = 64;
 
-/// Why the words of `mint` give no reference.
+/// Why words give no reference, no value or no key.
 #[derive(Clone, Copy, Debug, PartialEq, Eq, Error)]
 pub enum WordsFault {
-    /// They aren't a value, a key and values.
+    /// They aren't what they have to be.
     #[error("bad words")]
     Bad,
     #[error("out of memory")]
@@ -37,7 +37,7 @@ impl From<NoMemory> for WordsFault {
     }
 }
 
-/// The reference printed on a line.
+/// The signed reference that the words of `mint` ask for, printed on a line.
 pub fn reference_line(alloc: Global, minting: &Minting) -> Result<Vec<u8>, WordsFault>
     ensures { IsFound (λ line. line.items) (IsReferenceLine minting.now) result }
 {
@@ -72,8 +72,9 @@ fn narrowed_by(
     Ok(narrowed)
 }
 
-/// The value that a text is, where it is one with nothing embedded in it.
-fn plain_value(alloc: Global, text: &str) -> Result<Value, WordsFault>
+/// The value that a word is in text, where it is one with nothing embedded in it. White space,
+/// comments and annotations may stand around it.
+pub fn plain_value(alloc: Global, text: &str) -> Result<Value, WordsFault>
     ensures found { IsFound (λ v. v) (IsPlainText text.now) result }
     ensures only { IfOk result (λ v. (w : Plain) → IsPlainText text.now w → w ≡ v) }
 {
@@ -94,7 +95,7 @@ fn lone_value(values: &[Value]) -> Result<Value, WordsFault>
     }
 }
 
-/// The key that a text is in hexadecimal.
+/// The key that a word is in hexadecimal digits of either case: at most 64 bytes, or none at all.
 fn key_of(alloc: Global, text: &str) -> Result<Vec<u8>, WordsFault>
     ensures { IsFound (λ key. key.items) (IsKey text.now) result }
 {

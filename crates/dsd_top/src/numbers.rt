@@ -20,7 +20,7 @@ fn is_written(word: &str, number: u64) -> bool
 }
 
 /// The number from `least` to `most` that the word is in decimal digits, without zeros that lead.
-pub(crate) fn number_within(word: &str, least: u64, most: u64) -> Option<u64>
+pub fn number_within(word: &str, least: u64, most: u64) -> Option<u64>
     ensures number { result ≡ number_within least most word.now }
     ensures within { MatchOption result
         ((n : ℕ) → IsNumberWithin least most word.now n → ⊥)

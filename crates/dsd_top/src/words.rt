@@ -24,6 +24,8 @@ const USAGE: &str = "usage: dsd WORD, from standard input to standard output
                 a run of a generated script: holdings, and the sum of what they capture
   serve ADDR CONFIG WORKERS CONNECTIONS
                 serves so many links at the address, from no input
+  query ADDR REF PATTERN N
+                what matches the pattern there, as it comes and goes: N lines, from no input
   --help        these lines
   --version     the version
 ";
@@ -75,7 +77,7 @@ pub enum Command<'a> {
     Check(Checking<'a>),
 }
 
-/// The words for a signed reference.
+/// The words for a signed reference: an oid, a key in hexadecimal, and caveats, the oldest first.
 #[derive(Drop)]
 pub struct Minting<'a> {
     pub oid: &'a str,

@@ -1,7 +1,7 @@
 -- The rows after a packet: those that were there and aren't taken back, and then those for which its events ask.
 use Rattle.std.proofs.Common.{◌≡◌, ℕ, ◌+◌, ◌<◌, ◌≤◌, List, [], ◌∷◌, ◌++◌, ◌==◌, ◌&&◌, ◌||◌, Bool, true, false, cond}
 use Rattle.std.proofs.Common.{not, Option, Some, None, refl, ap, sym, ◌∙◌, subst, arith, filter, is_some}
-use Rattle.std.specs.Prelude.{if◌then◌else◌}
+use Rattle.std.specs.Prelude.{option_and_then, nat_lt, if◌then◌else◌}
 use Rattle.std.proofs.lemmas.Bool.Decides.{nat_tests}
 use Rattle.std.proofs.lemmas.List.{append-nil, append_assoc}
 use Rattle.std.proofs.lemmas.List.Elements.{filter-append}
@@ -9,6 +9,7 @@ use Rattle.std.specs.List.{AllByRecursion, list_any}
 use Rattle.std.specs.Option.{option_or}
 use Rattle.pv_value.specs.Plain.{Plain}
 use Rattle.sr_caveat.specs.declared.caps.Cap.{Cap}
+use Rattle.sr_caveat.specs.Caps.{cap_of}
 use Rattle.ps_schema.specs.declared.Definition.{Definition}
 use Rattle.ac_table.specs.declared.batches.Row.{Row as TableRow}
 use Rattle.ac_table.specs.Tables.{TableState, asserted}
@@ -23,12 +24,15 @@ use Rattle.rl_packet.specs.declared.packets.TurnEvent.{TurnEvent}
 use Rattle.rl_packet.specs.Holding.{retracts}
 use Rattle.rl_ports.specs.declared.ports.Inbound.{Inbound}
 use Rattle.rl_ports.specs.declared.ports.Inbound.TheVariants.{Row, Refused}
-use Rattle.rl_ports.specs.Ports.{PortsState, inbound_of, is_in_use, taken_into_use, freed}
+use Rattle.rl_ports.specs.Ports.{PortsState, ExportTable, standing_of, export_of, inbound_of, is_in_use}
+use Rattle.rl_ports.specs.Ports.{taken_into_use, freed}
 use Rattle.hub_machine.specs.declared.faults.Fault.{Fault}
 use Rattle.hub_machine.specs.declared.faults.Fault.TheVariants.{HandleInUse}
 use Rattle.hub_machine.specs.Faults.{where_it_is}
-use Rattle.hub_machine.specs.Admission.{Admitting, admitted, cap_at, cause_of, cause_at, event_cause, after, after_at}
-use Rattle.hub_machine.specs.Admission.{after_event, after_assertion, after_message, after_retraction, unless}
+use Rattle.hub_machine.specs.Admission.{Admitting, admitted, Aim, object, stale, unknown, aim_of, aimed, aim_at}
+use Rattle.hub_machine.specs.Admission.{cause_of, cause_at, event_cause, stale_cause, peer_kept, after, after_at}
+use Rattle.hub_machine.specs.Admission.{after_event, after_stale, after_assertion, after_message, after_sync}
+use Rattle.hub_machine.specs.Admission.{after_retraction, unless}
 use Rattle.hub_machine.specs.Admission.{all_admitted}
 use Rattle.hub_valid.specs.Lemmas.Filtered.{all_kept}
 use Rattle.hub_authority.specs.Asked.{takes_back, cap_under, let_in, row_of, row_asked, rows_asked, next_after}
@@ -131,11 +135,11 @@ all_acted_more a (y ∷ xs) x p = all_acted_more a xs x (acted a y p)
 
 -- ---- a message and a sync
 
-quiet_leads : (ds : List Definition) (k oid : ℕ) (to : Cap) (ev : Event) (es : List TurnEvent) (t : TableState)
+quiet_leads : (ds : List Definition) (k oid : ℕ) (to : Option Cap) (ev : Event) (es : List TurnEvent) (t : TableState)
     (next : ℕ)
-    (ports : PortsState) → cap_under ports.exports oid ≡ Some to
-    → row_asked ds ports.exports k next (Some to) ev es ≡ []
-    → next_after ds ports.exports k (Some to) ev next ≡ next → ((n : ℕ) → takes_row ports n ev ≡ false)
+    (ports : PortsState) → cap_under ports.exports oid ≡ to
+    → row_asked ds ports.exports k next to ev es ≡ []
+    → next_after ds ports.exports k to ev next ≡ next → ((n : ℕ) → takes_row ports n ev ≡ false)
     → rows_then ds k t next ports es ≡ rows_then ds k t next ports (record { oid = oid; event = ev } ∷ es)
 quiet_leads ds k oid to ev es t next ports found none same silent = λ i. left i ++ asked i
   where
@@ -254,15 +258,15 @@ takes_noted ports h n (Retract g) free =
     by true none = sym (ap (stands_for n) (none refl))
     by false none = refl
 
--- of one that is refused
-noted_leads : (ds : List Definition) (k h oid : ℕ) (to : Cap) (v : Plain) (es : List TurnEvent) (t : TableState)
-    (next : ℕ)
-    (ports : PortsState) → cap_under ports.exports oid ≡ Some to → let_in ds ports.exports k to v ≡ None
+-- of one that makes no row
+noted_leads : (ds : List Definition) (k h oid : ℕ) (v : Plain) (es : List TurnEvent) (t : TableState) (next : ℕ)
+    (ports : PortsState)
+    → rows_asked ds ports.exports k next (record { oid = oid; event = Assert v h } ∷ es)
+    ≡ rows_asked ds ports.exports k next es
     → inbound_of h ports ≡ None
     → rows_then ds k t next (taken_into_use h Refused ports) es
     ≡ rows_then ds k t next ports (record { oid = oid; event = Assert v h } ∷ es)
-noted_leads ds k h oid to v es t next ports found refused free =
-    λ i. left i ++ sym (asked_at ds k h oid to v None es next ports found refused) i
+noted_leads ds k h oid v es t next ports asked free = λ i. left i ++ sym asked i
   where
     left : rows_left k (taken_into_use h Refused ports) es t.rows
         ≡ rows_left k ports (record { oid = oid; event = Assert v h } ∷ es) t.rows
@@ -292,12 +296,23 @@ walked_noted h t next ports walked = record {
 abbrev retraction : ℕ → ℕ → TurnEvent
 retraction oid h = record { oid = oid; event = Retract h }
 
-asked_alike : (ds : List Definition) (k oid h : ℕ) (to : Cap) (es : List TurnEvent) (next : ℕ) (ports : PortsState)
-    → cap_under ports.exports oid ≡ Some to
+-- wherever it is, it asks for no row
+retracts_none : (ds : List Definition) (exports : ExportTable) (k next h : ℕ) (o : Option Cap) (es : List TurnEvent)
+    → row_asked ds exports k next o (Retract h) es ≡ []
+retracts_none ds exports k next h None es = refl
+retracts_none ds exports k next h (Some to) es = refl
+
+draws_none : (ds : List Definition) (exports : ExportTable) (k next h : ℕ) (o : Option Cap)
+    → next_after ds exports k o (Retract h) next ≡ next
+draws_none ds exports k next h None = refl
+draws_none ds exports k next h (Some to) = refl
+
+asked_alike : (ds : List Definition) (k oid h : ℕ) (es : List TurnEvent) (next : ℕ) (ports : PortsState)
     → rows_asked ds ports.exports k next es ≡ rows_asked ds ports.exports k next (retraction oid h ∷ es)
-asked_alike ds k oid h to es next ports found =
-    ap (λ o. row_asked ds ports.exports k next o (Retract h) es
-    ++ rows_asked ds ports.exports k (next_after ds ports.exports k o (Retract h) next) es) (sym found)
+asked_alike ds k oid h es next ports =
+    let to : Option Cap = cap_under ports.exports oid in
+    sym (λ i. retracts_none ds ports.exports k next h to es i
+    ++ rows_asked ds ports.exports k (draws_none ds ports.exports k next h to i) es)
 
 -- a row for which the handle doesn't stand is taken back as before
 taken_alike : (ports : PortsState) (h n : ℕ) (es : List TurnEvent) → KeysAscend ports.handles
@@ -323,12 +338,11 @@ walked_freed h t u next ports walked same below once = record {
     by g n false o found is = walked.stand g n (found ∙ is)
 
 -- of a handle that stands for no row
-refused_leads : (ds : List Definition) (k h oid : ℕ) (to : Cap) (es : List TurnEvent) (t : TableState) (next : ℕ)
-    (ports : PortsState)
-    → cap_under ports.exports oid ≡ Some to → inbound_of h ports ≡ Some Refused → IsWalked t next ports
+refused_leads : (ds : List Definition) (k h oid : ℕ) (es : List TurnEvent) (t : TableState) (next : ℕ)
+    (ports : PortsState) → inbound_of h ports ≡ Some Refused → IsWalked t next ports
     → rows_then ds k t next (freed h ports) es ≡ rows_then ds k t next ports (retraction oid h ∷ es)
-refused_leads ds k h oid to es t next ports found stood walked =
-    λ i. left i ++ asked_alike ds k oid h to es next ports found i
+refused_leads ds k h oid es t next ports stood walked =
+    λ i. left i ++ asked_alike ds k oid h es next ports i
   where
     left : rows_left k (freed h ports) es t.rows ≡ rows_left k ports (retraction oid h ∷ es) t.rows
     left =
@@ -337,13 +351,12 @@ refused_leads ds k h oid to es t next ports found stood walked =
         (taken_alike ports h r.handle es walked.ascend (ap (stands_for r.handle) stood))) t.rows)
 
 -- of one that stands for a row
-taken_leads : (ds : List Definition) (k h m oid : ℕ) (to : Cap) (es : List TurnEvent) (t u : TableState) (next : ℕ)
-    (ports : PortsState)
-    → cap_under ports.exports oid ≡ Some to → inbound_of h ports ≡ Some (Row m) → IsWalked t next ports
+taken_leads : (ds : List Definition) (k h m oid : ℕ) (es : List TurnEvent) (t u : TableState) (next : ℕ)
+    (ports : PortsState) → inbound_of h ports ≡ Some (Row m) → IsWalked t next ports
     → u.rows ≡ filter (stays (actor_of k) m) t.rows
     → rows_then ds k u next (freed h ports) es ≡ rows_then ds k t next ports (retraction oid h ∷ es)
-taken_leads ds k h m oid to es t u next ports found stood walked less =
-    λ i. left i ++ asked_alike ds k oid h to es next ports found i
+taken_leads ds k h m oid es t u next ports stood walked less =
+    λ i. left i ++ asked_alike ds k oid h es next ports i
   where
     each : (r : TableRow) (own same : Bool) → (m == r.handle) ≡ same → (r.handle == m) ≡ same
         → (not (same && own) && not (own && takes (freed h ports) es r.handle))
@@ -378,23 +391,23 @@ or_none : (f g : Option Fault) → option_or f g ≡ None → (f ≡ None) × (g
 or_none None g is = (refl, is)
 or_none (Some f) g is = absurd cc
 
-retraction_leads : (k oid h : ℕ) (w : WorldState) (to : Cap) (es : List TurnEvent) (x : Admitting)
-    (o : Option Inbound) → cap_under x.ports.exports oid ≡ Some to → inbound_of h x.ports ≡ o
-    → IsWalked (plan_of k w x).table x.next x.ports
+retraction_leads : (k oid h : ℕ) (w : WorldState) (es : List TurnEvent) (x : Admitting) (o : Option Inbound)
+    → inbound_of h x.ports ≡ o → IsWalked (plan_of k w x).table x.next x.ports
     → Leads k w (retraction oid h) es x (after_retraction h o w x)
-retraction_leads k oid h w to es x None found stood walked = record {
+retraction_leads k oid h w es x None stood walked = record {
   walked = walked;
   later = omega arith;
-  same = quiet_leads w.schema k oid to (Retract h) es (plan_of k w x).table x.next x.ports found refl refl
-      (λ n. ap (stands_for n) stood);
+  same = quiet_leads w.schema k oid (cap_under x.ports.exports oid) (Retract h) es (plan_of k w x).table x.next x.ports
+      refl (retracts_none w.schema x.ports.exports k x.next h (cap_under x.ports.exports oid) es)
+      (draws_none w.schema x.ports.exports k x.next h (cap_under x.ports.exports oid)) (λ n. ap (stands_for n) stood);
 }
-retraction_leads k oid h w to es x (Some Refused) found stood walked = record {
+retraction_leads k oid h w es x (Some Refused) stood walked = record {
   walked =
       walked_freed h (plan_of k w x).table (plan_of k w x).table x.next x.ports walked refl walked.below walked.once;
   later = omega arith;
-  same = refused_leads w.schema k h oid to es (plan_of k w x).table x.next x.ports found stood walked;
+  same = refused_leads w.schema k h oid es (plan_of k w x).table x.next x.ports stood walked;
 }
-retraction_leads k oid h w to es x (Some (Row m)) found stood walked =
+retraction_leads k oid h w es x (Some (Row m)) stood walked =
     let t : TableState = (plan_of k w x).table in
     let u : TableState = (plan_of k w (after_retraction h (Some (Row m)) w x)).table in
     let is : u ≡ (dropped (actor_of k) m (plan_of k w x)).table =
@@ -408,7 +421,7 @@ retraction_leads k oid h w to es x (Some (Row m)) found stood walked =
           (all_kept _ (stays (actor_of k) m) t.rows walked.below))
           (subst AreOnce (sym rows) (once_filter (stays (actor_of k) m) t.rows walked.once));
       later = omega arith;
-      same = taken_leads w.schema k h m oid to es t u x.next x.ports found stood walked rows;
+      same = taken_leads w.schema k h m oid es t u x.next x.ports stood walked rows;
     }
 
 free_handle : (h : ℕ) (ports : PortsState) → where_it_is (is_in_use h ports) (HandleInUse h) ≡ None
@@ -426,7 +439,8 @@ assertion_leads : (k oid h : ℕ) (w : WorldState) (to : Cap) (v : Plain) (o : O
 assertion_leads k oid h w to v None es x found through free walked = record {
   walked = walked_noted h (plan_of k w x).table x.next x.ports walked;
   later = omega arith;
-  same = noted_leads w.schema k h oid to v es (plan_of k w x).table x.next x.ports found through free;
+  same = noted_leads w.schema k h oid v es (plan_of k w x).table x.next x.ports
+      (asked_at w.schema k h oid to v None es x.next x.ports found through) free;
 }
 assertion_leads k oid h w to v (Some u) es x found through free walked =
     let is : (plan_of k w (after_assertion w to (Some u) h x)).table
@@ -446,7 +460,8 @@ message_leads : (k oid : ℕ) (w : WorldState) (to : Cap) (v : Plain) (o : Optio
 message_leads k oid w to v None es x found walked = record {
   walked = walked;
   later = omega arith;
-  same = quiet_leads w.schema k oid to (Message v) es (plan_of k w x).table x.next x.ports found refl refl (λ n. refl);
+  same = quiet_leads w.schema k oid (Some to) (Message v) es (plan_of k w x).table x.next x.ports found refl refl
+      (λ n. refl);
 }
 message_leads k oid w to v (Some u) es x found walked =
     let is : (plan_of k w (after_message w to (Some u) x)).table ≡ (plan_of k w x).table =
@@ -455,9 +470,58 @@ message_leads k oid w to v (Some u) es x found walked =
       walked = subst (λ t. IsWalked t x.next x.ports) (sym is) walked;
       later = omega arith;
       same = ap (λ t. rows_then w.schema k t x.next x.ports es) is
-          ∙ quiet_leads w.schema k oid to (Message v) es (plan_of k w x).table x.next x.ports found refl refl
+          ∙ quiet_leads w.schema k oid (Some to) (Message v) es (plan_of k w x).table x.next x.ports found refl refl
           (λ n. refl);
     }
+
+sync_leads : (k oid : ℕ) (w : WorldState) (to : Cap) (peer : Plain) (o : Option Plain) (es : List TurnEvent)
+    (x : Admitting) → cap_under x.ports.exports oid ≡ Some to → IsWalked (plan_of k w x).table x.next x.ports
+    → Leads k w (record { oid = oid; event = Sync peer }) es x (after_sync w to o x)
+sync_leads k oid w to peer None es x found walked = record {
+  walked = walked;
+  later = omega arith;
+  same = quiet_leads w.schema k oid (Some to) (Sync peer) es (plan_of k w x).table x.next x.ports found refl refl
+      (λ n. refl);
+}
+sync_leads k oid w to peer (Some u) es x found walked =
+    let is : (plan_of k w (after_sync w to (Some u) x)).table ≡ (plan_of k w x).table =
+    ap (λ p. p.table) (all_acted_more (actor_of k) x.acts _ (plan_over w.table)) in
+    record {
+      walked = subst (λ t. IsWalked t x.next x.ports) (sym is) walked;
+      later = omega arith;
+      same = ap (λ t. rows_then w.schema k t x.next x.ports es) is
+          ∙ quiet_leads w.schema k oid (Some to) (Sync peer) es (plan_of k w x).table x.next x.ports found refl refl
+          (λ n. refl);
+    }
+
+-- of an event at a released export
+stale_leads : (k oid : ℕ) (w : WorldState) (ev : Event) (es : List TurnEvent) (x : Admitting)
+    → cap_under x.ports.exports oid ≡ None → stale_cause ev x ≡ None
+    → IsWalked (plan_of k w x).table x.next x.ports
+    → Leads k w (record { oid = oid; event = ev }) es x (after_stale w ev x)
+stale_leads k oid w (Assert v h) es x found none walked =
+    let ds : List Definition = w.schema in
+    let exports : ExportTable = x.ports.exports in
+    record {
+      walked = walked_noted h (plan_of k w x).table x.next x.ports walked;
+      later = omega arith;
+      same = noted_leads ds k h oid v es (plan_of k w x).table x.next x.ports
+          (ap (λ c. row_asked ds exports k x.next c (Assert v h) es
+          ++ rows_asked ds exports k (next_after ds exports k c (Assert v h) x.next) es) found)
+          (free_handle h x.ports (or_none _ _ (or_none _ _ none).1).0);
+    }
+stale_leads k oid w (Retract h) es x found none walked =
+    retraction_leads k oid h w es x (inbound_of h x.ports) refl walked
+stale_leads k oid w (Message v) es x found none walked = record {
+  walked = walked;
+  later = omega arith;
+  same = quiet_leads w.schema k oid None (Message v) es (plan_of k w x).table x.next x.ports found refl refl (λ n. refl);
+}
+stale_leads k oid w (Sync peer) es x found none walked = record {
+  walked = walked;
+  later = omega arith;
+  same = quiet_leads w.schema k oid None (Sync peer) es (plan_of k w x).table x.next x.ports found refl refl (λ n. refl);
+}
 
 event_leads : (k oid : ℕ) (w : WorldState) (to : Cap) (ev : Event) (es : List TurnEvent) (x : Admitting)
     → cap_under x.ports.exports oid ≡ Some to → event_cause k w to ev x ≡ None
@@ -465,21 +529,33 @@ event_leads : (k oid : ℕ) (w : WorldState) (to : Cap) (ev : Event) (es : List 
     → Leads k w (record { oid = oid; event = ev }) es x (after_event k w to ev x)
 event_leads k oid w to (Assert v h) es x found none walked =
     assertion_leads k oid h w to v (let_in w.schema x.ports.exports k to v) es x found refl
-    (free_handle h x.ports (or_none _ _ (or_none _ _ (or_none _ _ none).0).0).1) walked
+    (free_handle h x.ports (or_none _ _ (or_none _ _ (or_none _ _ none).0).1).0) walked
 event_leads k oid w to (Retract h) es x found none walked =
-    retraction_leads k oid h w to es x (inbound_of h x.ports) found refl walked
+    retraction_leads k oid h w es x (inbound_of h x.ports) refl walked
 event_leads k oid w to (Message v) es x found none walked =
     message_leads k oid w to v (let_in w.schema x.ports.exports k to v) es x found walked
 event_leads k oid w to (Sync peer) es x found none walked =
-    let is : (plan_of k w (after_event k w to (Sync peer) x)).table ≡ (plan_of k w x).table =
-    ap (λ p. p.table) (all_acted_more (actor_of k) x.acts _ (plan_over w.table)) in
-    record {
-      walked = subst (λ t. IsWalked t x.next x.ports) (sym is) walked;
-      later = omega arith;
-      same = ap (λ t. rows_then w.schema k t x.next x.ports es) is
-          ∙ quiet_leads w.schema k oid to (Sync peer) es (plan_of k w x).table x.next x.ports found refl refl
-          (λ n. refl);
-    }
+    sync_leads k oid w to peer (peer_kept k peer x) es x found walked
+
+-- ---- where an event is
+
+abbrev pub cap_in : Aim → Option Cap
+cap_in (object to) = Some to
+cap_in stale = None
+cap_in unknown = None
+
+-- the reference at which an event is, is the export in force
+pub under_aim : (oid : ℕ) (p : PortsState) → cap_in (aim_at oid p) ≡ cap_under p.exports oid
+under_aim oid p = by (export_of oid p.exports) (nat_lt oid p.exports.next)
+  where
+    read : (o : Option Cap) → cap_in (aim_of o) ≡ o
+    read None = refl
+    read (Some to) = refl
+
+    by : (o : Option Plain) (b : Bool) → cap_in (aimed (standing_of o b)) ≡ option_and_then cap_of o
+    by (Some r) b = read (cap_of r)
+    by None true = refl
+    by None false = refl
 
 -- ---- all events
 
@@ -511,17 +587,19 @@ all_led k w [] x y walked is =
 all_led k w (e ∷ es) x y walked is =
     by (cause_of k w e x) refl is (λ walked_on later. all_led k w es (after k w e x) y walked_on later)
   where
-    at : (o : Option Cap) → cap_at e.oid x.ports ≡ o → cause_at k w o e x ≡ None
+    at : (o : Aim) → aim_at e.oid x.ports ≡ o → cause_at k w o e x ≡ None
         → Leads k w e es x (after_at k w o e.event x)
-    at None found none = absurd cc
-    at (Some to) found none = event_leads k e.oid w to e.event es x found none walked
+    at (object to) is none =
+        event_leads k e.oid w to e.event es x (sym (under_aim e.oid x.ports) ∙ ap cap_in is) none walked
+    at stale is none = stale_leads k e.oid w e.event es x (sym (under_aim e.oid x.ports) ∙ ap cap_in is) none walked
+    at unknown is none = absurd cc
 
     by : (c : Option Fault) → cause_of k w e x ≡ c → unless c (all_admitted k w es (after k w e x)) ≡ admitted y
         → (IsWalked (plan_of k w (after k w e x)).table (after k w e x).next (after k w e x).ports
         → all_admitted k w es (after k w e x) ≡ admitted y → HaveLed k w es (after k w e x) y)
         → HaveLed k w (e ∷ es) x y
     by None none is later =
-        let l = at (cap_at e.oid x.ports) refl none in
+        let l = at (aim_at e.oid x.ports) refl none in
         let led = later l.walked is in
         record { walked = led.walked; later = omega (arith, l.later, led.later); rows = led.rows ∙ l.same }
     by (Some f) some is later = absurd cc

@@ -13,9 +13,9 @@ use Rattle.rl_ports.specs.Ports.{PortsState, inbound_of}
 use Rattle.hub_machine.specs.Limits.{most_events}
 use Rattle.hub_machine.specs.declared.faults.Fault.{Fault}
 use Rattle.hub_machine.specs.Faults.{over}
-use Rattle.hub_machine.specs.Admission.{Admitting, admitted, before_all, unless, all_admitted, admission, cap_at}
-use Rattle.hub_machine.specs.Admission.{cause_of, let_through, kept, after, after_at, after_assertion}
-use Rattle.hub_machine.specs.Admission.{after_retraction, after_message}
+use Rattle.hub_machine.specs.Admission.{Admitting, admitted, before_all, unless, all_admitted, admission}
+use Rattle.hub_machine.specs.Admission.{Aim, object, stale, unknown, aim_at, cause_of, through, peer_kept, after}
+use Rattle.hub_machine.specs.Admission.{after_at, after_assertion, after_retraction, after_message, after_sync}
 
 -- what was fixed is so afterwards
 abbrev pub StaysFixed : Option Dialect → Option Dialect → Type 0
@@ -37,13 +37,22 @@ dialect_messaged : (to : Cap) (o : Option Plain) (w : WorldState) (x : Admitting
 dialect_messaged to None w x = refl
 dialect_messaged to (Some v) w x = refl
 
-dialect_after : (k : ℕ) (w : WorldState) (o : Option Cap) (e : Event) (x : Admitting)
+dialect_synced : (to : Cap) (o : Option Plain) (w : WorldState) (x : Admitting)
+    → (after_sync w to o x).ports.dialect ≡ x.ports.dialect
+dialect_synced to None w x = refl
+dialect_synced to (Some v) w x = refl
+
+dialect_after : (k : ℕ) (w : WorldState) (o : Aim) (e : Event) (x : Admitting)
     → (after_at k w o e x).ports.dialect ≡ x.ports.dialect
-dialect_after k w None e x = refl
-dialect_after k w (Some to) (Assert v h) x = dialect_asserted to (let_through w to (kept k v x)) h w x
-dialect_after k w (Some to) (Retract h) x = dialect_retracted h (inbound_of h x.ports) w x
-dialect_after k w (Some to) (Message v) x = dialect_messaged to (let_through w to (kept k v x)) w x
-dialect_after k w (Some to) (Sync peer) x = refl
+dialect_after k w (object to) (Assert v h) x = dialect_asserted to (through k w to v x) h w x
+dialect_after k w (object to) (Retract h) x = dialect_retracted h (inbound_of h x.ports) w x
+dialect_after k w (object to) (Message v) x = dialect_messaged to (through k w to v x) w x
+dialect_after k w (object to) (Sync peer) x = dialect_synced to (peer_kept k peer x) w x
+dialect_after k w stale (Assert v h) x = refl
+dialect_after k w stale (Retract h) x = dialect_retracted h (inbound_of h x.ports) w x
+dialect_after k w stale (Message v) x = refl
+dialect_after k w stale (Sync peer) x = refl
+dialect_after k w unknown e x = refl
 
 dialect_after_all : (k : ℕ) (w : WorldState) (es : List TurnEvent) (x y : Admitting)
     → all_admitted k w es x ≡ admitted y → y.ports.dialect ≡ x.ports.dialect
@@ -53,7 +62,7 @@ dialect_after_all k w (e ∷ es) x y is = by (cause_of k w e x) is (dialect_afte
     by : (o : Option Fault) → unless o (all_admitted k w es (after k w e x)) ≡ admitted y
         → (all_admitted k w es (after k w e x) ≡ admitted y → y.ports.dialect ≡ (after k w e x).ports.dialect)
         → y.ports.dialect ≡ x.ports.dialect
-    by None is later = later is ∙ dialect_after k w (cap_at e.oid x.ports) e.event x
+    by None is later = later is ∙ dialect_after k w (aim_at e.oid x.ports) e.event x
     by (Some f) is later = absurd cc
 
 -- that of the ports with which the first event is looked at

@@ -1,4 +1,4 @@
--- What is left of a connection's names, where others or it itself end: the same exports, or nothing.
+-- What is left of a connection's names, where others or it itself end: the same, or nothing.
 use Rattle.std.proofs.Common.{◌≡◌, ℕ, List, ◌==◌, Bool, true, false, cond, Option, Some, None}
 use Rattle.std.proofs.Common.{refl, ap, sym, ◌∙◌, arith}
 use Rattle.std.proofs.lemmas.Bool.Decides.{nat_tests}
@@ -11,22 +11,23 @@ use Rattle.hub_machine.specs.declared.faults.Fault.{Fault}
 use Rattle.hub_machine.specs.declared.faults.Fault.TheVariants.{Spread}
 use Rattle.hub_machine.specs.State.{State, ports_of}
 use Rattle.hub_machine.specs.Endings.{closed, failed, dismissed, finished}
+use Rattle.hub_valid.specs.Lemmas.Admitted.{names_of}
 use Rattle.hub_valid.specs.Lemmas.Lives.{live_ended, opened_ended}
 use Rattle.hub_valid.specs.Lemmas.StepEnds.{finished_keeps}
 use Rattle.hub_authority.proofs.Dialects.{StaysFixed}
 
--- what connection k had before, with the same exports, and the dialect that was fixed
+-- what connection k had before, with the same names of others, and the dialect that was fixed
 pub record HadThem (k : ℕ) (s : State) (p : PortsState) : Type 0 where
   pub before : PortsState
   pub there : ports_of k s ≡ Some before
-  pub same : p.exports ≡ before.exports
+  pub same : names_of p ≡ names_of before
   pub fixed : StaysFixed before.dialect p.dialect
 
 -- the same
 pub had_same : (k : ℕ) (s : State) (p : PortsState) → ports_of k s ≡ Some p → HadThem k s p
 had_same k s p is = record { before = p; there = is; same = refl; fixed = λ d was. was }
 
--- from s to t: no connection comes, and the exports of k are what they were and its dialect stays, or it names nothing
+-- from s to t: no connection comes, and k names what it did and its dialect stays, or it names nothing
 pub record Keeps (k : ℕ) (s t : State) : Type 0 where
   pub opened : t.world.opened ≡ s.world.opened
   pub live : is_live (actor_of k) s.world.table ≡ false → is_live (actor_of k) t.world.table ≡ false

@@ -1,7 +1,9 @@
 pub mod Asking
 pub mod Dialects
 pub mod Endings
+pub mod Exported
 pub mod Exporting
+pub mod InForce
 pub mod Meaning
 pub mod Naming
 pub mod Orderly

@@ -1,5 +1,5 @@
 -- In each run, what a live connection was sent means what was told.
-use Rattle.std.proofs.Common.{◌≡◌, ℕ, ◌+◌, ◌-◌, ◌<◌, ◌≤◌, ◌==◌, List, [], ◌∷◌, ◌++◌, Bool, true, false, cond, Option}
+use Rattle.std.proofs.Common.{◌≡◌, ℕ, ◌-◌, ◌<◌, ◌≤◌, ◌==◌, List, [], ◌∷◌, ◌++◌, Bool, true, false, cond, Option}
 use Rattle.std.proofs.Common.{Some, None, ◌⊎◌, inl, inr, refl, sym, ap, ◌∙◌, subst, arith, map, append-nil, append_assoc}
 use Rattle.std.specs.List.{flat_map}
 use Rattle.std.proofs.lemmas.Bool.Decides.{nat_tests}
@@ -12,20 +12,22 @@ use Rattle.ac_world.specs.Turns.{After as TurnOf, connection_turn, turn_with, tu
 use Rattle.ac_world.specs.Worlds.{WorldState, actor_of, entry_of, is_system}
 use Rattle.rl_packet.specs.declared.packets.TurnEvent.{TurnEvent}
 use Rattle.rl_packet.specs.Holding.{events_in}
-use Rattle.rl_ports.specs.Ports.{PortsState}
-use Rattle.rl_wire.specs.Crossing.{all_exported}
+use Rattle.rl_ports.specs.Ports.{PortsState, ExportTable, swept}
 use Rattle.rl_wire.specs.Lemmas.Exporting.{are_exported}
 use Rattle.hub_machine.specs.declared.faults.Fault.{Fault}
 use Rattle.hub_machine.specs.State.{State, opening, ports_of}
 use Rattle.hub_machine.specs.Machine.{unchanged, foreign_to, sent_event, telling_fault, exports_after, told_unless}
+use Rattle.hub_machine.specs.Machine.{all_named}
 use Rattle.hub_machine.specs.Machine.{tell, fault_for, after_turn, turn_of, is_worn, step}
 use Rattle.hub_machine.specs.Replays.{replay, packet_in, sent_by, sent_to}
+use Rattle.hub_machine.specs.Lemmas.Naming.{named_exports}
 use Rattle.hub_machine.specs.Lemmas.ReplayLaws.{replay-more, sent_to-more}
 use Rattle.hub_machine.specs.declared.steps.Step.{Step}
 use Rattle.hub_machine.specs.declared.steps.Step.TheVariants.{Bind, Watch, Arrive, Packet, Bad, Close, Turn, Work, Stop}
 use Rattle.hub_machine.specs.declared.steps.Reply.{Reply}
 use Rattle.hub_machine.specs.declared.steps.Reply.TheVariants.{Worn}
 use Rattle.hub_valid.specs.Validity.{lived, IsValid, IsValidBatch}
+use Rattle.hub_valid.specs.Lemmas.Admitted.{names_of}
 use Rattle.hub_valid.specs.Lemmas.Hubs.{stays_valid}
 use Rattle.hub_valid.specs.Lemmas.Lasting.{live_popped}
 use Rattle.hub_valid.specs.Lemmas.Lists.{flat_map_append}
@@ -36,9 +38,9 @@ use Rattle.hub_laws.proofs.Sending.{fault_tells}
 use Rattle.hub_laws.specs.Standing.{events_of}
 use Rattle.hub_authority.specs.Laws.{Names}
 use Rattle.hub_authority.specs.Meant.{AreSentAs}
-use Rattle.hub_authority.specs.Named.{batch_sent, told_by, told_from, first_by}
+use Rattle.hub_authority.specs.Named.{batch_sent, told_by, told_from, first_by, told_names, AreAmongGiven}
 use Rattle.hub_authority.proofs.Exporting.{Tells, WasTold, CameWith, IsTold, told_more, one_more}
-use Rattle.hub_authority.proofs.Meaning.{events_mean, events_later, sent_append}
+use Rattle.hub_authority.proofs.Meaning.{events_mean, more_given, still_given, events_later, sent_append}
 use Rattle.hub_authority.proofs.Runs.{counts_from_one, at_first}
 use Rattle.hub_authority.proofs.Telling.{step_tells}
 
@@ -95,119 +97,153 @@ dead_step k s (Turn a) dead = by (a == actor_of k) refl
 dead_step k s Work dead = refl
 dead_step k s Stop dead = refl
 
--- what connection k, which has these exports, is sent by a reply to the turn that takes this batch
-abbrev Sends : ℕ → List Plain → Option Batch → Reply → Type 0
-Sends k exports o r =
-    AreSentAs (all_exported exports (flat_map (foreign_to k) (batch_sent o r))) k (events_of (batch_sent o r))
-    (events_by r)
+-- What connection k, which names this, is sent by a reply to the turn that takes this batch means what it tells, by the
+-- numbers that were given and those that are.
+abbrev Sends : ℕ → List Plain → PortsState → Option Batch → Reply → Type 0
+Sends k given ports o r =
+    (more : List Plain) × AreAmongGiven (given ++ more) (told_names k (batch_sent o r) (names_of ports)).exports
+    × AreSentAs (given ++ more) k (events_of (batch_sent o r)) (events_by r)
 
-sends_worn : (k : ℕ) (exports : List Plain) (o : Option Batch) → Sends k exports o Worn
-sends_worn k exports None = tt
-sends_worn k exports (Some b) = tt
+abbrev SendsNothing : ℕ → List Plain → PortsState → Type 0
+SendsNothing k given ports =
+    (more : List Plain) × AreAmongGiven (given ++ more) ports.exports × AreSentAs (given ++ more) k [] []
 
-module _ (k : ℕ) (s : State) (valid : IsValid s) (ports : PortsState) (named : ports_of k s ≡ Some ports) where
-  abbrev own : ℕ
-  own = actor_of k
+module _ (k : ℕ) (s : State) (valid : IsValid s) (ports : PortsState) (named : ports_of k s ≡ Some ports)
+    (given : List Plain) (among : AreAmongGiven given ports.exports)
+  where
+    abbrev own : ℕ
+    own = actor_of k
 
-  sends_batch : (b : Batch) → first_batch own s.world.table ≡ Some b → (o : Option Fault) (t : State)
-      → Sends k ports.exports (Some b) (told_unless o k ports b t).reply
-  sends_batch b first (Some f) t = tt
-  sends_batch b first None t =
-      let now : List Plain = exports_after k b ports in
-      let fits : IsValidBatch (lived s.world) s.world.table.next b =
-      first_valid (lived s.world) own s.world.table b (table_of s.world valid.world) first in
-      let means : AreSentAs now k b.events (map (sent_event now k) b.events) =
-      events_mean (lived s.world) s.world.table.next k now b.events fits
-      (are_exported ports.exports (foreign_to k b)) in
-      subst (λ rs. AreSentAs (all_exported ports.exports rs) k (b.events ++ []) (map (sent_event now k) b.events ++ []))
-      (sym (append-nil (foreign_to k b)))
-      (subst (λ es. AreSentAs now k es (map (sent_event now k) b.events ++ [])) (sym (append-nil b.events))
-      (subst (λ ts. AreSentAs now k b.events ts) (sym (append-nil (map (sent_event now k) b.events))) means))
+    nothing : SendsNothing k given ports
+    nothing = ([], subst (λ g. AreAmongGiven g ports.exports) (sym (append-nil given)) among, tt)
 
-  sends_told : (b : Batch) → first_batch own s.world.table ≡ Some b → (t : State) → ports_of k t ≡ Some ports
-      → Sends k ports.exports (Some b) (tell (own - 16) (ports_of (own - 16) t) b t).reply
-  sends_told b first t is =
-      subst (λ j. Sends k ports.exports (Some b) (tell j (ports_of j t) b t).reply) (omega arith)
-      (subst (λ o. Sends k ports.exports (Some b) (tell k o b t).reply) (sym is)
-      (sends_batch b first (telling_fault k b ports) t))
+    sends_worn : (o : Option Batch) → Sends k given ports o Worn
+    sends_worn None = nothing
+    sends_worn (Some b) = nothing
 
-  abbrev SendsAfter : Option Batch → TurnOf → Type 0
-  SendsAfter o t = Sends k ports.exports o (after_turn own t.turned (record s { world = t.world })).reply
+    sends_batch : (b : Batch) → first_batch own s.world.table ≡ Some b → (o : Option Fault) (t : State)
+        → Sends k given ports (Some b) (told_unless o k ports b t).reply
+    sends_batch b first (Some f) t = nothing
+    sends_batch b first None t = (grown.0, left, sent)
+      where
+        now : ExportTable
+        now = exports_after k b ports
 
-  sends_with : (b : Batch) → first_batch own s.world.table ≡ Some b
-      → SendsAfter (Some b) (turn_with own b (record s.world { table = popped own s.world.table }))
-  sends_with b first = by (is_system own)
-    where
-      w : WorldState
-      w = record s.world { table = popped own s.world.table }
+        grown : (more : List Plain) × AreAmongGiven (given ++ more) now
+        grown = more_given ports.exports (foreign_to k b) given among
 
-      taken : State
-      taken = record s { world = (connection_turn own b w).world }
+        all : List Plain
+        all = given ++ grown.0
 
-      still : ports_of k taken ≡ Some ports
-      still = ap (λ c. cond c (entry_of k s.connections) None) (live_popped own own s.world.table) ∙ named
+        told : PortsState
+        told = all_named k b.events (names_of ports)
 
-      by : (c : Bool) → SendsAfter (Some b) (cond c (system_turn own b w) (connection_turn own b w))
-      by true = tt
-      by false = sends_told b first taken still
+        left : AreAmongGiven all (swept told).exports
+        left =
+            still_given told all
+            (subst (λ x. AreAmongGiven all x) (sym (named_exports k b.events (names_of ports))) grown.1)
 
-  sends_turn : Sends k ports.exports (first_batch own s.world.table) (turn_of own s).reply
-  sends_turn = by (is_live own s.world.table) refl (first_batch own s.world.table) refl
-    where
-      none : TurnOf
-      none = record { world = s.world; turned = turned.Gone }
+        fits : IsValidBatch (lived s.world) s.world.table.next b
+        fits = first_valid (lived s.world) own s.world.table b (table_of s.world valid.world) first
 
-      dead : (c : Bool) → c ≡ false → cond c (entry_of k s.connections) None ≡ Some ports → ⊥
-      dead true d is = cc
-      dead false d is = cc
+        means : AreSentAs all k b.events (map (sent_event now k) b.events)
+        means =
+            events_mean (lived s.world) s.world.table.next k all now b.events grown.1.in_force fits
+            (are_exported ports.exports (foreign_to k b))
 
-      by : (c : Bool) → is_live own s.world.table ≡ c → (o : Option Batch) → first_batch own s.world.table ≡ o
-          → SendsAfter o (cond c (turn_first own o s.world) none)
-      by false is o first = absurd (dead (is_live own s.world.table) is named)
-      by true is None first = tt
-      by true is (Some b) first = sends_with b first
+        sent : AreSentAs all k (b.events ++ []) (map (sent_event now k) b.events ++ [])
+        sent =
+            subst (λ es. AreSentAs all k es (map (sent_event now k) b.events ++ [])) (sym (append-nil b.events))
+            (subst (λ ts. AreSentAs all k b.events ts) (sym (append-nil (map (sent_event now k) b.events))) means)
 
-  sends_own : Sends k ports.exports (first_batch own s.world.table) (step s (Turn own)).reply
-  sends_own = by (is_worn s (Turn own))
-    where
-      by : (c : Bool) → Sends k ports.exports (first_batch own s.world.table)
-          (cond c (unchanged s Worn) (turn_of own s)).reply
-      by true = sends_worn k ports.exports (first_batch own s.world.table)
-      by false = sends_turn
+    sends_told : (b : Batch) → first_batch own s.world.table ≡ Some b → (t : State) → ports_of k t ≡ Some ports
+        → Sends k given ports (Some b) (tell (own - 16) (ports_of (own - 16) t) b t).reply
+    sends_told b first t is =
+        subst (λ j. Sends k given ports (Some b) (tell j (ports_of j t) b t).reply) (omega arith)
+        (subst (λ o. Sends k given ports (Some b) (tell k o b t).reply) (sym is)
+        (sends_batch b first (telling_fault k b ports) t))
 
-  -- what a step sends means what it tells
-  step_sends : (e : Step) → AreSentAs (all_exported ports.exports (flat_map (foreign_to k) (told_by k s e))) k
-      (events_of (told_by k s e)) (flat_map events_in (sent_by k e (step s e).reply))
-  step_sends (Bind b) = tt
-  step_sends (Watch x) = tt
-  step_sends (Arrive space) = tt
-  step_sends (Packet j t) = tt
-  step_sends (Bad j f) = tt
-  step_sends (Close j) = tt
-  step_sends (Turn a) = by (a == own) refl
-    where
-      SendsWhere : Bool → ℕ → Type 0
-      SendsWhere c n =
-          AreSentAs (all_exported ports.exports
-          (flat_map (foreign_to k) (cond c (batch_sent (first_batch n s.world.table) (step s (Turn n)).reply) []))) k
-          (events_of (cond c (batch_sent (first_batch n s.world.table) (step s (Turn n)).reply) []))
-          (flat_map events_in (cond c (packet_in (step s (Turn n)).reply) []))
+    abbrev SendsAfter : Option Batch → TurnOf → Type 0
+    SendsAfter o t = Sends k given ports o (after_turn own t.turned (record s { world = t.world })).reply
 
-      by : (c : Bool) → (a == own) ≡ c → SendsWhere (a == own) a
-      by true is =
-          let same : own ≡ a = grind (arith, nat_tests, is) in
-          subst (λ c. SendsWhere c a) (sym is) (subst (SendsWhere true) same sends_own)
-      by false is = subst (λ c. SendsWhere c a) (sym is) tt
-  step_sends Work = tt
-  step_sends Stop = tt
+    sends_with : (b : Batch) → first_batch own s.world.table ≡ Some b
+        → SendsAfter (Some b) (turn_with own b (record s.world { table = popped own s.world.table }))
+    sends_with b first = by (is_system own)
+      where
+        w : WorldState
+        w = record s.world { table = popped own s.world.table }
+
+        taken : State
+        taken = record s { world = (connection_turn own b w).world }
+
+        still : ports_of k taken ≡ Some ports
+        still = ap (λ c. cond c (entry_of k s.connections) None) (live_popped own own s.world.table) ∙ named
+
+        by : (c : Bool) → SendsAfter (Some b) (cond c (system_turn own b w) (connection_turn own b w))
+        by true = nothing
+        by false = sends_told b first taken still
+
+    sends_turn : Sends k given ports (first_batch own s.world.table) (turn_of own s).reply
+    sends_turn = by (is_live own s.world.table) refl (first_batch own s.world.table) refl
+      where
+        none : TurnOf
+        none = record { world = s.world; turned = turned.Gone }
+
+        dead : (c : Bool) → c ≡ false → cond c (entry_of k s.connections) None ≡ Some ports → ⊥
+        dead true d is = cc
+        dead false d is = cc
+
+        by : (c : Bool) → is_live own s.world.table ≡ c → (o : Option Batch) → first_batch own s.world.table ≡ o
+            → SendsAfter o (cond c (turn_first own o s.world) none)
+        by false is o first = absurd (dead (is_live own s.world.table) is named)
+        by true is None first = nothing
+        by true is (Some b) first = sends_with b first
+
+    sends_own : Sends k given ports (first_batch own s.world.table) (step s (Turn own)).reply
+    sends_own = by (is_worn s (Turn own))
+      where
+        by : (c : Bool) → Sends k given ports (first_batch own s.world.table)
+            (cond c (unchanged s Worn) (turn_of own s)).reply
+        by true = sends_worn (first_batch own s.world.table)
+        by false = sends_turn
+
+    -- what a step sends means what it tells
+    step_sends : (e : Step) → (more : List Plain)
+        × AreAmongGiven (given ++ more) (told_names k (told_by k s e) (names_of ports)).exports
+        × AreSentAs (given ++ more) k (events_of (told_by k s e)) (flat_map events_in (sent_by k e (step s e).reply))
+    step_sends (Bind b) = nothing
+    step_sends (Watch x) = nothing
+    step_sends (Arrive space) = nothing
+    step_sends (Packet j t) = nothing
+    step_sends (Bad j f) = nothing
+    step_sends (Close j) = nothing
+    step_sends (Turn a) = by (a == own) refl
+      where
+        SendsWhere : Bool → ℕ → Type 0
+        SendsWhere c n =
+            (more : List Plain)
+            × AreAmongGiven (given ++ more)
+            (told_names k (cond c (batch_sent (first_batch n s.world.table) (step s (Turn n)).reply) [])
+            (names_of ports)).exports
+            × AreSentAs (given ++ more) k
+            (events_of (cond c (batch_sent (first_batch n s.world.table) (step s (Turn n)).reply) []))
+            (flat_map events_in (cond c (packet_in (step s (Turn n)).reply) []))
+
+        by : (c : Bool) → (a == own) ≡ c → SendsWhere (a == own) a
+        by true is =
+            let same : own ≡ a = grind (arith, nat_tests, is) in
+            subst (λ c. SendsWhere c a) (sym is) (subst (SendsWhere true) same sends_own)
+        by false is = subst (λ c. SendsWhere c a) (sym is) nothing
+    step_sends Work = nothing
+    step_sends Stop = nothing
 
 -- ---- all steps
 
 record IsMeant (ds : List Definition) (k : ℕ) (es : List Step) (s : State) : Type 0 where
   unsent : s.world.opened < k → flat_map events_in (sent_to ds k es) ≡ []
   names : (p : PortsState) → ports_of k s ≡ Some p
-      → AreSentAs p.exports k (events_of (told_from k (opening ds) es)) (flat_map events_in
-      (sent_to ds k es))
+      → (given : List Plain) × AreAmongGiven given p.exports
+      × AreSentAs given k (events_of (told_from k (opening ds) es)) (flat_map events_in (sent_to ds k es))
 
 sent_more : (ds : List Definition) (k : ℕ) (es : List Step) (e : Step)
     → flat_map events_in (sent_to ds k (es ++ e ∷ []))
@@ -250,37 +286,44 @@ meant_more ds k es e valid told is tells = record {
     new_sent : List TurnEvent
     new_sent = flat_map events_in (sent_by k e (step s e).reply)
 
-    both : (p : PortsState)
-        → AreSentAs p.exports k (events_of old_told ++ events_of (told_by k s e)) (old_sent ++ new_sent)
-        → AreSentAs p.exports k (events_of (told_from k (opening ds) (es ++ e ∷ [])))
+    both : (given : List Plain)
+        → AreSentAs given k (events_of old_told ++ events_of (told_by k s e)) (old_sent ++ new_sent)
+        → AreSentAs given k (events_of (told_from k (opening ds) (es ++ e ∷ [])))
         (flat_map events_in (sent_to ds k (es ++ e ∷ [])))
-    both p all =
-        subst (λ bs. AreSentAs p.exports k bs (flat_map events_in (sent_to ds k (es ++ e ∷ []))))
+    both given all =
+        subst (λ bs. AreSentAs given k bs (flat_map events_in (sent_to ds k (es ++ e ∷ []))))
         (sym (told_events_more ds k es e))
-        (subst (λ ts. AreSentAs p.exports k (events_of old_told ++ events_of (told_by k s e)) ts)
+        (subst (λ ts. AreSentAs given k (events_of old_told ++ events_of (told_by k s e)) ts)
         (sym (sent_more ds k es e)) all)
 
     by : (p : PortsState) → WasTold k s (told_by k s e) p ⊎ CameWith k s (told_by k s e) (first_by k s e) p
-        → AreSentAs p.exports k (events_of (told_from k (opening ds) (es ++ e ∷ [])))
+        → (given : List Plain) × AreAmongGiven given p.exports
+        × AreSentAs given k (events_of (told_from k (opening ds) (es ++ e ∷ [])))
         (flat_map events_in (sent_to ds k (es ++ e ∷ [])))
     by p (inl w) =
-        let more : List Plain = flat_map (foreign_to k) (told_by k s e) in
-        let now : List Plain = all_exported w.before.exports more in
-        both p
-        (subst (λ xs. AreSentAs xs k (events_of old_told ++ events_of (told_by k s e)) (old_sent ++ new_sent))
-        (sym w.exports)
-        (sent_append now k (events_of old_told) (events_of (told_by k s e)) old_sent new_sent
-        (events_later w.before.exports more k (events_of old_told) old_sent (is.names w.before w.there))
-        (step_sends k s valid w.before w.there e)))
+        let old = is.names w.before w.there in
+        let new = step_sends k s valid w.before w.there old.0 old.1 e in
+        let all : List Plain = old.0 ++ new.0 in (
+          all,
+          subst (λ (q : PortsState). AreAmongGiven all q.exports) (sym w.names) new.1,
+          both all
+              (sent_append all k (events_of old_told) (events_of (told_by k s e)) old_sent new_sent
+              (events_later old.0 new.0 k (events_of old_told) old_sent old.2) new.2),
+        )
     by p (inr c) =
         let later : s.world.opened < k = omega (arith, c.next) in
+        let given : List Plain = c.object ∷ [] in
         let none : events_of old_told ++ events_of (told_by k s e) ≡ [] =
         (λ i. events_of (told.told later i) ++ events_of (c.untold i)) in
         let silent : old_sent ++ new_sent ≡ [] =
-        (λ i. is.unsent later i ++ dead_step k s e (told.unborn later) i) in
-        both p
-        (subst (λ bs. AreSentAs p.exports k bs (old_sent ++ new_sent)) (sym none)
-        (subst (λ ts. AreSentAs p.exports k [] ts) (sym silent) tt))
+        (λ i. is.unsent later i ++ dead_step k s e (told.unborn later) i) in (
+          given,
+          subst (λ (q : PortsState). AreAmongGiven given q.exports) (sym c.names)
+              (record { next = refl; in_force = (refl, tt) }),
+          both given
+              (subst (λ bs. AreSentAs given k bs (old_sent ++ new_sent)) (sym none)
+              (subst (λ ts. AreSentAs given k [] ts) (sym silent) tt)),
+        )
 
 -- the steps that are still to come, after those that were
 all_meant : (ds : List Definition) (k : ℕ) (before later : List Step) → 1 ≤ k → AreAllowed (replay ds before) later

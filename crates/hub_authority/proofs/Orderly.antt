@@ -16,7 +16,8 @@ use Rattle.ac_world.specs.Worlds.{WorldState, actor_of, is_system, without_entry
 use Rattle.ac_world.specs.Lemmas.Entries.{each_with, each_without, each_found, KeysAscend, ascend_none}
 use Rattle.rl_packet.specs.declared.packets.Turn.{Turn as TurnRecord}
 use Rattle.rl_packet.specs.declared.packets.TurnEvent.{TurnEvent}
-use Rattle.rl_ports.specs.Ports.{PortsState, speaking, ports_to, with_exports}
+use Rattle.rl_ports.specs.declared.ports.Inbound.{Inbound}
+use Rattle.rl_ports.specs.Ports.{PortsState, speaking, ports_to}
 use Rattle.hub_machine.specs.Limits.{most_events}
 use Rattle.hub_machine.specs.declared.faults.Fault.{Fault}
 use Rattle.hub_machine.specs.declared.faults.Fault.TheVariants.{BadPacket}
@@ -32,11 +33,12 @@ use Rattle.hub_machine.specs.Endings.{nameless, closed, failed, dismissed, finis
 use Rattle.hub_machine.specs.Lemmas.Dialects.{by_dialect}
 use Rattle.hub_machine.specs.Machine.{unchanged, opened, refusal, arrive_unless, accepted, judged, packet_at, bad_at}
 use Rattle.hub_machine.specs.Machine.{bind_unless, is_barred, is_unwatchable, watch_unless}
-use Rattle.hub_machine.specs.Machine.{close_at, exports_after, exporting, telling_fault, told_unless, tell, fault_for}
+use Rattle.hub_machine.specs.Machine.{close_at, names_after, exporting, telling_fault, told_unless, tell, fault_for}
 use Rattle.hub_machine.specs.Machine.{tell_fault, after_turn, turn_of, rest, work_by, is_worn, done, step}
 use Rattle.hub_machine.specs.Machine.{actor_reference}
 use Rattle.hub_machine.specs.Replays.{run_from, replay}
 use Rattle.hub_valid.specs.Validity.{IsValid}
+use Rattle.hub_machine.specs.Lemmas.Naming.{handles_after}
 use Rattle.hub_valid.specs.Lemmas.Hubs.{stays_valid}
 use Rattle.hub_valid.specs.Lemmas.Values.{all_weaker}
 use Rattle.hub_laws.specs.Laws.{AreAllowed}
@@ -165,8 +167,10 @@ told_in_order : (o : Option Fault) (k : ℕ) (ports : PortsState) (b : Batch) (s
 told_in_order (Some f) k ports b s all is = finished_in_order [] (failed k f s) (failed_in_order k f s all)
 told_in_order None k ports b s all is =
     finished_in_order [] (exporting k b ports s)
-    (each_with (IsInOrder s.world.table.next) k (with_exports (exports_after k b ports) ports) s.connections
-    (each_found (IsInOrder s.world.table.next) k ports s.connections all (named_of k ports s is).kept) all)
+    (each_with (IsInOrder s.world.table.next) k (names_after k b ports) s.connections
+    (subst (λ (hs : List (ℕ × Inbound)). IsInOrder s.world.table.next (k, record ports { handles = hs }))
+    (sym (handles_after k b ports))
+    (each_found (IsInOrder s.world.table.next) k ports s.connections all (named_of k ports s is).kept)) all)
 
 tell_in_order : (k : ℕ) (o : Option PortsState) (b : Batch) (s : State) → AreInOrder s → ports_of k s ≡ o
     → AreInOrder (tell k o b s).state

@@ -1,15 +1,15 @@
--- In each run, a live connection's exports are its first object and what it was told of.
+-- In each run, a live connection names its first object and what it was told of.
 use Rattle.std.proofs.Common.{◌≡◌, ℕ, ◌+◌, ◌≤◌, List, [], ◌∷◌, ◌++◌, Bool, true, false, cond, Option, Some, None}
-use Rattle.std.proofs.Common.{refl, sym, subst, arith, append-nil, append_assoc, is_some}
+use Rattle.std.proofs.Common.{refl, ap, sym, subst, arith, append-nil, append_assoc, is_some}
 use Rattle.std.proofs.lemmas.Bool.Decides.{nat_tests}
 use Rattle.std.specs.List.{AllByRecursion}
 use Rattle.ps_schema.specs.declared.Definition.{Definition}
 use Rattle.ac_table.specs.Tables.{is_live}
 use Rattle.ac_world.specs.Worlds.{actor_of, entry_of, without_entry}
 use Rattle.ac_world.specs.Lemmas.Entries.{each_with, each_without, each_found}
-use Rattle.rl_ports.specs.Ports.{PortsState, ports_to, with_exports}
+use Rattle.rl_ports.specs.Ports.{PortsState, ports_to}
 use Rattle.hub_machine.specs.State.{State, opening, ports_of, is_there}
-use Rattle.hub_machine.specs.Machine.{actor_reference, exports_after}
+use Rattle.hub_machine.specs.Machine.{actor_reference, names_after}
 use Rattle.hub_machine.specs.Replays.{replay}
 use Rattle.hub_machine.specs.Lemmas.ReplayLaws.{replay-more}
 use Rattle.hub_machine.specs.declared.steps.Step.{Step}
@@ -51,7 +51,7 @@ stay_numbered = record {
       each_with (λ e. 1 ≤ e.0) k x.ports (without_entry k s.connections) (number_of_one k s all there)
       (each_without (λ e. 1 ≤ e.0) k s.connections all);
   exports = λ k b ports s there all.
-      each_with (λ e. 1 ≤ e.0) k (with_exports (exports_after k b ports) ports) s.connections
+      each_with (λ e. 1 ≤ e.0) k (names_after k b ports) s.connections
       (number_of_one k s all there) all;
   turns = λ a s all. all;
   tells = λ k s all. all;
@@ -93,4 +93,13 @@ pub told_so : (ds : List Definition) (k : ℕ) (steps : List Step) (ports : Port
 told_so ds k steps ports is = all_told ds k [] steps (counts_from_one ds k steps ports is) (at_first ds k)
 
 pub are_its_own : Exports
-are_its_own ds k steps ports is = (told_so ds k steps ports is).own ports is
+are_its_own ds k steps ports is =
+    let own = (told_so ds k steps ports is).own ports is in (
+      own.0,
+      own.1,
+      (
+        ap (λ (p : PortsState). p.exports) own.2,
+        ap (λ (p : PortsState). p.pinned) own.2,
+        ap (λ (p : PortsState). p.notes) own.2,
+      ),
+    )

@@ -31,12 +31,12 @@ use Rattle.rl_ports.specs.Ports.{inbound_of}
 use Rattle.hub_machine.specs.declared.faults.Fault.{Fault}
 use Rattle.hub_machine.specs.Admission.{Admitting, admitted, cause_of, cause_at, after, after_at, after_event}
 use Rattle.hub_machine.specs.Admission.{after_assertion, after_message, after_retraction, unless, all_admitted}
-use Rattle.hub_machine.specs.Admission.{cap_at}
+use Rattle.hub_machine.specs.Admission.{Aim, object, stale, unknown, aim_at, peer_kept, after_stale, after_sync}
 use Rattle.hub_valid.specs.Lemmas.Admitted.{exports_after}
 use Rattle.hub_authority.specs.Asked.{cap_under, let_in, message_to, message_asked, messages_asked, message_in}
 use Rattle.hub_laws.specs.Standing.{events_of}
 use Rattle.hub_authority.specs.Asked.{messages_in}
-use Rattle.hub_authority.proofs.Asking.{plan_of, all_acted_more}
+use Rattle.hub_authority.proofs.Asking.{plan_of, all_acted_more, cap_in, under_aim}
 use Rattle.hub_valid.specs.Lemmas.Lists.{flat_map_append}
 
 -- ---- what is said in an outbox
@@ -109,6 +109,31 @@ message_says k b w to (Some v) x =
     ap (λ p. said_to b p.out) (all_acted_more (actor_of k) x.acts _ (plan_over w.table))
     ∙ said_told b to.actor _ (plan_of k w x).out
 
+-- a sync says nothing
+sync_says : (k b : ℕ) (w : WorldState) (to : Cap) (o : Option Plain) (x : Admitting)
+    → said_to b (plan_of k w (after_sync w to o x)).out ≡ said_to b (plan_of k w x).out
+sync_says k b w to None x = refl
+sync_says k b w to (Some v) x =
+    ap (λ p. said_to b p.out) (all_acted_more (actor_of k) x.acts _ (plan_over w.table))
+    ∙ said_nothing b to.actor _ (plan_of k w x).out refl
+
+-- nor does a retraction
+retraction_says : (k b h : ℕ) (w : WorldState) (o : Option Inbound) (x : Admitting)
+    → said_to b (plan_of k w (after_retraction h o w x)).out ≡ said_to b (plan_of k w x).out
+retraction_says k b h w None x = refl
+retraction_says k b h w (Some Refused) x = refl
+retraction_says k b h w (Some (Row n)) x =
+    ap (λ p. said_to b p.out) (all_acted_more (actor_of k) x.acts (act.Retract n) (plan_over w.table))
+    ∙ said_dropped b (actor_of k) n (plan_of k w x)
+
+-- nor any event at a released export
+stale_says : (k b : ℕ) (w : WorldState) (ev : Event) (x : Admitting)
+    → said_to b (plan_of k w (after_stale w ev x)).out ≡ said_to b (plan_of k w x).out
+stale_says k b w (Assert v h) x = refl
+stale_says k b w (Retract h) x = retraction_says k b h w (inbound_of h x.ports) x
+stale_says k b w (Message v) x = refl
+stale_says k b w (Sync peer) x = refl
+
 -- one event of a packet, at an export
 event_says : (k b : ℕ) (w : WorldState) (to : Cap) (ev : Event) (x : Admitting)
     → said_to b (plan_of k w (after_event k w to ev x)).out
@@ -116,19 +141,11 @@ event_says : (k b : ℕ) (w : WorldState) (to : Cap) (ev : Event) (x : Admitting
 event_says k b w to (Assert v h) x =
     assertion_says k b h w to (let_in w.schema x.ports.exports k to v) x ∙ sym (append-nil (said_to b
     (plan_of k w x).out))
-event_says k b w to (Retract h) x = by (inbound_of h x.ports) ∙ sym (append-nil (said_to b (plan_of k w x).out))
-  where
-    by : (o : Option Inbound) → said_to b (plan_of k w (after_retraction h o w x)).out ≡ said_to b (plan_of k w x).out
-    by None = refl
-    by (Some Refused) = refl
-    by (Some (Row n)) =
-        ap (λ p. said_to b p.out) (all_acted_more (actor_of k) x.acts (act.Retract n) (plan_over w.table))
-        ∙ said_dropped b (actor_of k) n (plan_of k w x)
+event_says k b w to (Retract h) x =
+    retraction_says k b h w (inbound_of h x.ports) x ∙ sym (append-nil (said_to b (plan_of k w x).out))
 event_says k b w to (Message v) x = message_says k b w to (let_in w.schema x.ports.exports k to v) x
 event_says k b w to (Sync peer) x =
-    ap (λ p. said_to b p.out) (all_acted_more (actor_of k) x.acts _ (plan_over w.table))
-    ∙ said_nothing b to.actor _ (plan_of k w x).out refl
-    ∙ sym (append-nil (said_to b (plan_of k w x).out))
+    sync_says k b w to (peer_kept k peer x) x ∙ sym (append-nil (said_to b (plan_of k w x).out))
 
 -- all events of a packet that is admitted
 pub events_say : (k b : ℕ) (w : WorldState) (es : List TurnEvent) (x y : Admitting) → all_admitted k w es x ≡ admitted y
@@ -139,11 +156,12 @@ events_say k b w [] x y is =
 events_say k b w (e ∷ es) x y is =
     by (cause_of k w e x) refl is (λ later. events_say k b w es (after k w e x) y later)
   where
-    at : (o : Option Cap) → cause_at k w o e x ≡ None
+    at : (o : Aim) → cause_at k w o e x ≡ None
         → said_to b (plan_of k w (after_at k w o e.event x)).out
-        ≡ said_to b (plan_of k w x).out ++ message_asked w.schema x.ports.exports k b o e.event
-    at None none = absurd cc
-    at (Some to) none = event_says k b w to e.event x
+        ≡ said_to b (plan_of k w x).out ++ message_asked w.schema x.ports.exports k b (cap_in o) e.event
+    at (object to) none = event_says k b w to e.event x
+    at stale none = stale_says k b w e.event x ∙ sym (append-nil (said_to b (plan_of k w x).out))
+    at unknown none = absurd cc
 
     by : (c : Option Fault) → cause_of k w e x ≡ c → unless c (all_admitted k w es (after k w e x)) ≡ admitted y
         → (all_admitted k w es (after k w e x) ≡ admitted y → said_to b (plan_of k w y).out
@@ -152,8 +170,10 @@ events_say k b w (e ∷ es) x y is =
         ≡ said_to b (plan_of k w x).out ++ messages_asked w.schema x.ports.exports k b (e ∷ es)
     by None none is later =
         later is
-        ∙ (λ i. at (cap_at e.oid x.ports) none i ++ messages_asked w.schema
-        (exports_after k w (cap_at e.oid x.ports) e.event x i) k b es)
+        ∙ (λ i. at (aim_at e.oid x.ports) none i ++ messages_asked w.schema
+        (exports_after k w (aim_at e.oid x.ports) e.event x i) k b es)
+        ∙ ap (λ c. (said_to b (plan_of k w x).out ++ message_asked w.schema x.ports.exports k b c e.event)
+        ++ messages_asked w.schema x.ports.exports k b es) (under_aim e.oid x.ports)
         ∙ append_assoc (said_to b (plan_of k w x).out)
         (message_asked w.schema x.ports.exports k b (cap_under x.ports.exports e.oid) e.event)
         (messages_asked w.schema x.ports.exports k b es)

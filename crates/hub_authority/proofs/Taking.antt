@@ -15,7 +15,7 @@ use Rattle.rl_packet.specs.declared.packets.Event.TheVariants.{Assert, Retract, 
 use Rattle.rl_packet.specs.declared.packets.Turn.{Turn as TurnRecord}
 use Rattle.rl_packet.specs.declared.packets.TurnEvent.{TurnEvent}
 use Rattle.rl_packet.specs.declared.packets.Dialect.{Dialect}
-use Rattle.rl_ports.specs.Ports.{PortsState, speaking}
+use Rattle.rl_ports.specs.Ports.{PortsState, ExportTable, speaking}
 use Rattle.hub_machine.specs.Limits.{most_events}
 use Rattle.hub_machine.specs.declared.faults.Fault.{Fault}
 use Rattle.hub_machine.specs.Faults.{over}
@@ -73,7 +73,7 @@ row_owned k next to gone None = tt
 row_owned k next to true (Some v) = tt
 row_owned k next to false (Some v) = (refl, tt)
 
-asked_owned : (ds : List Definition) (exports : List Plain) (k next : ℕ) (o : Option Cap) (e : Event)
+asked_owned : (ds : List Definition) (exports : ExportTable) (k next : ℕ) (o : Option Cap) (e : Event)
     (later : List TurnEvent)
     → AllByRecursion (λ r. r.owner ≡ actor_of k) (row_asked ds exports k next o e later)
 asked_owned ds exports k next None e later = tt
@@ -83,7 +83,7 @@ asked_owned ds exports k next (Some to) (Sync peer) later = tt
 asked_owned ds exports k next (Some to) (Assert v h) later =
     row_owned k next to (takes_back later h) (let_in ds exports k to v)
 
-rows_owned : (ds : List Definition) (exports : List Plain) (k next : ℕ) (es : List TurnEvent)
+rows_owned : (ds : List Definition) (exports : ExportTable) (k next : ℕ) (es : List TurnEvent)
     → AllByRecursion (λ r. r.owner ≡ actor_of k) (rows_asked ds exports k next es)
 rows_owned ds exports k next [] = tt
 rows_owned ds exports k next (e ∷ es) =

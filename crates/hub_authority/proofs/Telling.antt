@@ -1,14 +1,14 @@
--- What each step makes of a connection's exports, and of what it is told.
+-- What each step makes of what a connection names, and of what it is told.
 use Rattle.std.proofs.Common.{◌≡◌, ◌≢◌, ℕ, ◌+◌, ◌-◌, ◌<◌, ◌≤◌, List, [], ◌∷◌, ◌==◌, Bool, true, false, cond}
 use Rattle.std.proofs.Common.{Option, Some, None, ◌⊎◌, inl, inr, refl, ap, sym, ◌∙◌, subst, arith, nat_lt, length}
 use Rattle.std.proofs.Common.{is_some}
 use Rattle.std.specs.Prelude.{nat_le}
-use Rattle.std.specs.List.{flat_map}
 use Rattle.std.proofs.lemmas.Bool.Decides.{nat_tests}
-use Rattle.std.proofs.lemmas.List.{append-nil}
 use Rattle.pv_value.specs.Plain.{Plain}
 use Rattle.gk_sturdy.specs.declared.bound.Binding.{Binding}
 use Rattle.ac_table.specs.declared.batches.Batch.{Batch}
+use Rattle.ac_table.specs.declared.batches.Event.{Event as Told}
+use Rattle.ac_table.specs.declared.batches.Event.TheVariants as told_event
 use Rattle.ac_table.specs.Tables.{Actor, TableState, is_live, first_batch, first_in, find_actor, popped, lowest}
 use Rattle.ac_world.specs.declared.turns.Turned.TheVariants as turned
 use Rattle.ac_world.specs.Outboxes.{plan_over, all_acted, committed}
@@ -20,8 +20,7 @@ use Rattle.ac_world.specs.Turns.{connection_turn}
 use Rattle.ac_world.specs.Lemmas.Entries.{put_found, put_other, out_other}
 use Rattle.ac_world.specs.Behaviours.{Behaviour, behaviour_of}
 use Rattle.rl_packet.specs.declared.packets.Turn.{Turn as TurnRecord}
-use Rattle.rl_ports.specs.Ports.{PortsState, first_fixed, speaking, ports_to, with_exports}
-use Rattle.rl_wire.specs.Crossing.{all_exported}
+use Rattle.rl_ports.specs.Ports.{PortsState, first_fixed, speaking, ports_to, swept}
 use Rattle.hub_machine.specs.Limits.{most_connections, last_dataspace}
 use Rattle.hub_machine.specs.declared.faults.Fault.{Fault}
 use Rattle.hub_machine.specs.declared.faults.Fault.TheVariants.{BadPacket}
@@ -33,17 +32,18 @@ use Rattle.hub_machine.specs.Endings.{nameless, failed, closed}
 use Rattle.hub_machine.specs.Lemmas.Dialects.{by_dialect}
 use Rattle.hub_machine.specs.Machine.{After, step, done, is_worn, unchanged, ends, opened, refusal, arrive_unless}
 use Rattle.hub_machine.specs.Machine.{bind_unless, is_barred, is_unwatchable, watch_unless}
-use Rattle.hub_machine.specs.Machine.{accepted, judged, packet_at, bad_at, close_at, foreign_to, telling_fault}
+use Rattle.hub_machine.specs.Machine.{accepted, judged, packet_at, bad_at, close_at, telling_fault}
 use Rattle.hub_machine.specs.Machine.{exporting, told_unless, tell, fault_for, tell_fault, after_turn, turn_of, rest}
-use Rattle.hub_machine.specs.Machine.{work_by, actor_reference, exports_after as exports_after_turn}
+use Rattle.hub_machine.specs.Machine.{work_by, actor_reference, naming, all_named, names_after}
 use Rattle.hub_machine.specs.declared.steps.Step.{Step}
 use Rattle.hub_machine.specs.declared.steps.Step.TheVariants.{Bind, Watch, Arrive, Packet, Bad, Close, Turn, Work, Stop}
 use Rattle.hub_machine.specs.declared.steps.Reply.{Reply}
 use Rattle.hub_machine.specs.declared.steps.Reply.TheVariants.{Worn, Barred, Halted, Full, Gone, Refused, Idle, Sent}
 use Rattle.hub_machine.specs.declared.steps.Reply.TheVariants.{Ran, Taken}
-use Rattle.hub_valid.specs.Lemmas.Admitted.{exports_stay}
+use Rattle.hub_machine.specs.Lemmas.Naming.{dialect_after}
+use Rattle.hub_valid.specs.Lemmas.Admitted.{names_of, names_stay}
 use Rattle.hub_valid.specs.Lemmas.Lasting.{live_popped, lasts_sent, live_watching}
-use Rattle.hub_authority.specs.Named.{batch_sent, told_by, first_by, opened_as}
+use Rattle.hub_authority.specs.Named.{batch_sent, told_by, first_by, opened_as, told_names}
 use Rattle.hub_valid.specs.Lemmas.Lives.{live_placed, live_committed}
 use Rattle.hub_valid.specs.Lemmas.Plans.{goes_on_all_turned}
 use Rattle.hub_valid.specs.Lemmas.Watchers.{may_watch}
@@ -106,7 +106,7 @@ arrival_tells k space s = record {
           next = sym one;
           is_first = refl;
           untold = refl;
-          exports = ap (λ q. q.exports) (sym (named_with _ _ (ports_to first) p found is));
+          names = ap names_of (sym (named_with _ _ (ports_to first) p found is));
         })
     by false other p is =
         let apart : k ≢ s.world.opened + 1 = λ same. grind (arith, nat_tests, other, same) in
@@ -114,7 +114,7 @@ arrival_tells k space s = record {
           before = p;
           there = same_names _ _ _ _ (placed apart)
               (put_other (s.world.opened + 1) k (ports_to first) s.connections apart) ∙ is;
-          exports = refl;
+          names = refl;
           fixed = λ d was. was;
         })
 
@@ -156,7 +156,7 @@ arrive_tells k space s = worn (is_worn s (Arrive space))
 -- ---- a packet
 
 keeps_accepted : (k j : ℕ) (x : Admitting) (ports : PortsState) (s : State) → ports_of j s ≡ Some ports
-    → x.ports.exports ≡ ports.exports → StaysFixed ports.dialect x.ports.dialect
+    → names_of x.ports ≡ names_of ports → StaysFixed ports.dialect x.ports.dialect
     → Keeps k s (accepted j x (nameless j s))
 keeps_accepted k j x ports s there same fixed = record {
   opened = refl;
@@ -178,7 +178,7 @@ keeps_accepted k j x ports s there same fixed = record {
         record {
           before = ports;
           there = ap (λ n. ports_of n s) one ∙ there;
-          same = ap (λ q. q.exports) (sym (named_with _ _ x.ports p found is)) ∙ same;
+          same = ap names_of (sym (named_with _ _ x.ports p found is)) ∙ same;
           fixed = λ d was. ap (λ q. q.dialect) (sym (named_with _ _ x.ports p found is)) ∙ fixed d was;
         }
     by false other p is =
@@ -199,7 +199,7 @@ keeps_packet k j t s = by (ports_of j s) refl
     judge ports (admitted x) there is =
         let now : PortsState = speaking t.dialect ports in
         keeps_then k s (accepted j x (nameless j s)) _
-        (keeps_accepted k j x ports s there (exports_stay j now s.world t.events x is)
+        (keeps_accepted k j x ports s there (names_stay j now s.world t.events x is)
         (λ d fixed. dialect_stays j now s.world t.events x is ∙ ap (λ o. first_fixed o t.dialect) fixed))
         (keeps_finished k [] (accepted j x (nameless j s)))
 
@@ -318,6 +318,21 @@ no_batch_tells k a s x keeps =
 
 -- ---- a connection's turn
 
+-- what it names of others doesn't rest on its handles or its dialect
+naming_alike : (k : ℕ) (e : Told) (p : PortsState) → names_of (naming k e p) ≡ naming k e (names_of p)
+naming_alike k (told_event.Assert h entity v) p = refl
+naming_alike k (told_event.Retract h entity) p = refl
+naming_alike k (told_event.Message entity v) p = refl
+naming_alike k (told_event.Sync entity peer) p = refl
+
+all_named_alike : (k : ℕ) (es : List Told) (p : PortsState)
+    → names_of (all_named k es p) ≡ all_named k es (names_of p)
+all_named_alike k [] p = refl
+all_named_alike k (e ∷ es) p = all_named_alike k es (naming k e p) ∙ ap (all_named k es) (naming_alike k e p)
+
+names_alike : (k : ℕ) (b : Batch) (p : PortsState) → names_of (names_after k b p) ≡ names_after k b (names_of p)
+names_alike k b p = ap swept (all_named_alike k b.events p)
+
 exporting_tells : (k j : ℕ) (b : Batch) (ports : PortsState) (s : State) (c : Bool) → ports_of j s ≡ Some ports
     → (c ≡ true → k ≡ j) → (c ≡ false → k ≢ j) → Tells k s (exporting j b ports s) (cond c (b ∷ []) []) None
 exporting_tells k j b ports s true there one apart = record {
@@ -332,16 +347,17 @@ exporting_tells k j b ports s true there one apart = record {
       inl (record {
         before = ports;
         there = ap (λ n. ports_of n s) (one refl) ∙ there;
-        exports =
-            ap (λ q. q.exports) (sym (named_with _ _ after p found is))
-            ∙ ap (λ n. all_exported ports.exports (foreign_to n b)) (sym (one refl))
-            ∙ ap (all_exported ports.exports) (sym (append-nil (foreign_to k b)));
-        fixed = λ d was. ap (λ q. q.dialect) (sym (named_with _ _ after p found is)) ∙ was;
+        names =
+            ap names_of (sym (named_with _ _ after p found is))
+            ∙ names_alike j b ports
+            ∙ ap (λ n. names_after n b (names_of ports)) (sym (one refl));
+        fixed = λ d was.
+            ap (λ q. q.dialect) (sym (named_with _ _ after p found is)) ∙ dialect_after j b ports ∙ was;
       });
 }
   where
     after : PortsState
-    after = with_exports (exports_after_turn j b ports) ports
+    after = names_after j b ports
 
     dead : (c : Bool) (o : Option PortsState) → cond c o None ≡ Some ports → c ≡ false → ⊥
     dead true o is not = cc
@@ -369,7 +385,7 @@ tells_after k s t u told keeps tells = record {
         inl (record {
           before = h.before;
           there = h.there;
-          exports = w.exports ∙ ap (λ xs. all_exported xs (flat_map (foreign_to k) told)) h.same;
+          names = w.names ∙ ap (told_names k told) h.same;
           fixed = λ d was. w.fixed d (h.fixed d was);
         })
     by p (inr c) = let none : None ≡ Some c.object = c.is_first in absurd cc

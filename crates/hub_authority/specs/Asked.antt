@@ -1,5 +1,5 @@
 -- What the events of a packet ask for, by the exports of the connection that sends it.
-use Rattle.std.specs.Prelude.{ℕ, ◌+◌, ◌==◌, ◌&&◌, Bool, true, false, not, List, [], ◌∷◌, ◌++◌, filter, slice_get}
+use Rattle.std.specs.Prelude.{ℕ, ◌+◌, ◌==◌, ◌&&◌, Bool, true, false, not, List, [], ◌∷◌, ◌++◌, filter}
 use Rattle.std.specs.Prelude.{Option, Some, None, is_some, option_and_then, if◌then◌else◌}
 use Rattle.std.specs.List.{list_any, flat_map}
 use Rattle.pv_value.specs.Plain.{Plain}
@@ -17,8 +17,8 @@ use Rattle.rl_packet.specs.declared.packets.TurnEvent.{TurnEvent}
 use Rattle.rl_packet.specs.Holding.{retracted_by}
 use Rattle.rl_ports.specs.declared.ports.Inbound.{Inbound}
 use Rattle.rl_ports.specs.declared.ports.Inbound.TheVariants.{Row, Refused}
-use Rattle.rl_ports.specs.Ports.{PortsState, inbound_of}
-use Rattle.rl_wire.specs.Crossing.{crossed_in}
+use Rattle.rl_ports.specs.Ports.{PortsState, ExportTable, inbound_of, export_of}
+use Rattle.rl_wire.specs.Crossing.{whole_in}
 
 -- ---- rows
 
@@ -26,13 +26,14 @@ use Rattle.rl_wire.specs.Crossing.{crossed_in}
 abbrev pub takes_back : List TurnEvent → ℕ → Bool
 takes_back es h = list_any (retracted_by h) es
 
--- the reference that an event is at: an export
-abbrev pub cap_under : List Plain → ℕ → Option Cap
-cap_under exports oid = option_and_then cap_of (slice_get exports oid)
+-- the reference that an event is at: an export in force; an event at a released one asks for nothing
+abbrev pub cap_under : ExportTable → ℕ → Option Cap
+cap_under exports oid = option_and_then cap_of (export_of oid exports)
 
--- what the caveats of the reference let pass of a value that connection k sends through it; guards judge by a schema
-abbrev pub let_in : List Definition → List Plain → ℕ → Cap → Plain → Option Plain
-let_in ds exports k to v = passed ds to.caveats (crossed_in exports k v)
+-- what the caveats of the reference let pass of a value that connection k sends through it, where no export is released
+-- that it names; guards judge by a schema
+abbrev pub let_in : List Definition → ExportTable → ℕ → Cap → Plain → Option Plain
+let_in ds exports k to v = option_and_then (passed ds to.caveats) (whole_in exports k v)
 
 -- the row of a value that gets through to an object, where no later event takes it back
 abbrev pub row_of : ℕ → ℕ → Cap → Bool → Option Plain → List TableRow
@@ -47,7 +48,7 @@ row_of k next to false (Some v) = record {
   value = v;
 } ∷ []
 
-abbrev pub row_asked : List Definition → List Plain → ℕ → ℕ → Option Cap → Event → List TurnEvent → List TableRow
+abbrev pub row_asked : List Definition → ExportTable → ℕ → ℕ → Option Cap → Event → List TurnEvent → List TableRow
 row_asked ds exports k next (Some to) (Assert v h) later =
     row_of k next to (takes_back later h) (let_in ds exports k to v)
 row_asked ds exports k next (Some to) (Retract h) later = []
@@ -56,7 +57,7 @@ row_asked ds exports k next (Some to) (Sync peer) later = []
 row_asked ds exports k next None e later = []
 
 -- each assertion draws a handle of which the value gets through
-abbrev pub next_after : List Definition → List Plain → ℕ → Option Cap → Event → ℕ → ℕ
+abbrev pub next_after : List Definition → ExportTable → ℕ → Option Cap → Event → ℕ → ℕ
 next_after ds exports k (Some to) (Assert v h) next = if is_some (let_in ds exports k to v) then next + 1 else next
 next_after ds exports k (Some to) (Retract h) next = next
 next_after ds exports k (Some to) (Message v) next = next
@@ -64,7 +65,7 @@ next_after ds exports k (Some to) (Sync peer) next = next
 next_after ds exports k None e next = next
 
 -- the rows that the events ask for, from the next handle on
-abbrev pub rows_asked : List Definition → List Plain → ℕ → ℕ → List TurnEvent → List TableRow
+abbrev pub rows_asked : List Definition → ExportTable → ℕ → ℕ → List TurnEvent → List TableRow
 rows_asked ds exports k next [] = []
 rows_asked ds exports k next (e ∷ es) =
     row_asked ds exports k next (cap_under exports e.oid) e.event es
@@ -95,7 +96,7 @@ abbrev pub message_to : ℕ → Cap → Option Plain → List Told
 message_to b to None = []
 message_to b to (Some v) = if to.actor == b then told.Message to.entity v ∷ [] else []
 
-abbrev pub message_asked : List Definition → List Plain → ℕ → ℕ → Option Cap → Event → List Told
+abbrev pub message_asked : List Definition → ExportTable → ℕ → ℕ → Option Cap → Event → List Told
 message_asked ds exports k b (Some to) (Message v) = message_to b to (let_in ds exports k to v)
 message_asked ds exports k b (Some to) (Assert v h) = []
 message_asked ds exports k b (Some to) (Retract h) = []
@@ -103,7 +104,7 @@ message_asked ds exports k b (Some to) (Sync peer) = []
 message_asked ds exports k b None e = []
 
 -- the messages to actor b for which the events ask, in order
-abbrev pub messages_asked : List Definition → List Plain → ℕ → ℕ → List TurnEvent → List Told
+abbrev pub messages_asked : List Definition → ExportTable → ℕ → ℕ → List TurnEvent → List Told
 messages_asked ds exports k b es = flat_map (λ e. message_asked ds exports k b (cap_under exports e.oid) e.event) es
 
 abbrev pub message_in : Told → List Told

@@ -1,10 +1,12 @@
--- Authority: a packet that is taken does exactly what its events ask for at the connection's exports, as their caveats
--- let it pass, and these are its first object and the references of which it was told. Syndicate Protocol,
--- "capabilities".
+-- Authority: a packet that is taken does exactly what its events ask for at the connection's exports in force, as their
+-- caveats let it pass, and these are its first object and what it was told of others, as long as that is mentioned by a
+-- row that it has got or pinned. Syndicate Protocol, "capabilities".
 use Rattle.std.specs.Prelude.{◌≡◌, ℕ, ◌++◌, List, Some}
 use Rattle.std.specs.List.{flat_map}
 use Rattle.ps_schema.specs.declared.Definition.{Definition}
+use Rattle.pv_value.specs.Plain.{Plain}
 use Rattle.ac_table.specs.Tables.{Actor, find_actor}
+use Rattle.ac_world.specs.Worlds.{held_by, actor_of}
 use Rattle.rl_packet.specs.declared.packets.Turn.{Turn as TurnRecord}
 use Rattle.rl_packet.specs.Holding.{events_in}
 use Rattle.rl_ports.specs.Ports.{PortsState}
@@ -19,7 +21,7 @@ use Rattle.hub_laws.specs.Refusals.{of_the_live}
 use Rattle.hub_laws.specs.Standing.{events_of}
 use Rattle.hub_authority.specs.Asked.{rows_asked, rows_left, messages_asked, messages_in}
 use Rattle.hub_authority.specs.Meant.{AreSentAs}
-use Rattle.hub_authority.specs.Named.{told_from, AreItsOwn}
+use Rattle.hub_authority.specs.Named.{told_from, first_from, AreItsOwn, AreInForce, AreAmongGiven}
 
 -- from s to u: what the turn t of connection k, which had these ports, does
 pub record DoesWhatIsAsked (k : ℕ) (ports : PortsState) (t : TurnRecord) (s u : State) : Type 0 where
@@ -43,12 +45,21 @@ TakenPackets =
 abbrev pub Exports : Type 0
 Exports =
     (ds : List Definition) (k : ℕ) (steps : List Step) (ports : PortsState) → ports_of k (replay ds steps) ≡ Some ports
-    → AreItsOwn ds k steps ports.exports
+    → AreItsOwn ds k steps ports
 
--- all that a live connection was sent means what was told, by its exports of now: a number stands for one reference while
--- the connection lives
+-- of these are in force exactly its object 0, the references of others in what it has got, and those that are pinned
+abbrev pub InForce : Type 0
+InForce =
+    (ds : List Definition) (k : ℕ) (steps : List Step) (ports : PortsState) → AreAllowed (opening ds) steps
+    → ports_of k (replay ds steps) ≡ Some ports
+    → (first : Plain) × (first_from k (opening ds) steps ≡ Some first)
+    × AreInForce k first ports (held_by (actor_of k) (replay ds steps).world)
+
+-- all that a live connection was sent means what was told: each number stands for one reference and is never given
+-- again, and an export in force is that to which its number was given
 abbrev pub Names : Type 0
 Names =
     (ds : List Definition) (k : ℕ) (steps : List Step) (ports : PortsState) → AreAllowed (opening ds) steps
     → ports_of k (replay ds steps) ≡ Some ports
-    → AreSentAs ports.exports k (events_of (told_from k (opening ds) steps)) (flat_map events_in (sent_to ds k steps))
+    → (given : List Plain) × AreAmongGiven given ports.exports
+    × AreSentAs given k (events_of (told_from k (opening ds) steps)) (flat_map events_in (sent_to ds k steps))

@@ -3,23 +3,26 @@
 #![tactic(auto)]
 
 ghost use Rattle.hub_authority.specs.Dialects.{DialectsStay, TakenTurnsFix, RefusedFixNone};
-ghost use Rattle.hub_authority.specs.Laws.{TakenPackets, Exports, Names};
+ghost use Rattle.hub_authority.specs.Laws.{TakenPackets, Exports, InForce, Names};
 
 /// In each state to which allowed steps lead, a packet that is taken makes exactly the rows and
 /// sends exactly the messages for which its events ask, at the objects that the connection's
-/// exports name.
+/// exports in force name. An event that is stale asks for none.
 pub fn packets_do_what_they_ask()
     ensures { TakenPackets }
 {}
 
-/// A live connection's exports are its first object, and the objects of others of which it was
-/// told, each once, in order of first use.
+/// A live connection's exports, pins and notes are what the batches that it was told make of its
+/// first object. In force are exactly its object 0, the references to objects of others, or with
+/// caveats, in the rows that it has got, and those whose numbers are pinned.
 pub fn exports_are_what_was_told()
-    ensures { Exports }
+    ensures told { Exports }
+    ensures in_force { InForce }
 {}
 
 /// Names: what a live connection was sent is what was told, with a name in place of each reference:
-/// `[1 e]` for an object of its own, and `[0 n]` for the reference that its export n is.
+/// `[1 e]` for an object of its own, and `[0 n]` for the reference to which n was given. Each number
+/// is given once, and what is in force stands under the number that was given to it.
 pub fn names_mean_what_was_told()
     ensures { Names }
 {}

@@ -1,5 +1,5 @@
 -- At the end of a step inboxes grow by what those leave who end there, and by nothing else.
-use Rattle.std.proofs.Common.{◌≡◌, ◌≢◌, ℕ, ◌-◌, ◌<◌, ◌≤◌, ◌==◌, List, [], ◌∷◌, ◌++◌, Bool, true, false, cond, Option}
+use Rattle.std.proofs.Common.{◌≡◌, ◌≢◌, ℕ, ◌-◌, ◌==◌, List, [], ◌∷◌, ◌++◌, Bool, true, false, cond, Option}
 use Rattle.std.proofs.Common.{Some, None, option_map, inl, inr, refl, ap, sym, ◌∙◌, subst, arith, is_some, append-nil}
 use Rattle.std.proofs.Common.{append_assoc}
 use Rattle.std.proofs.lemmas.Bool.Decides.{nat_tests}
@@ -20,10 +20,10 @@ use Rattle.ac_world.specs.declared.turns.Turned.{Turned}
 use Rattle.ac_world.specs.declared.turns.Turned.TheVariants as turned
 use Rattle.rl_ports.specs.Ports.{PortsState}
 use Rattle.hub_machine.specs.declared.faults.Fault.{Fault}
-use Rattle.hub_machine.specs.State.{State, ports_of, is_there}
-use Rattle.hub_machine.specs.Endings.{failed, dismissed, finished}
+use Rattle.hub_machine.specs.State.{State, ports_of}
+use Rattle.hub_machine.specs.Endings.{failed, finished}
 use Rattle.hub_machine.specs.Machine.{unchanged, telling_fault, exporting, told_unless, tell, fault_for, tell_fault}
-use Rattle.hub_machine.specs.Machine.{after_turn, turn_of, rest, work_by, is_worn, done, step}
+use Rattle.hub_machine.specs.Machine.{after_turn, turn_of, rest, work_by, is_worn, done}
 use Rattle.hub_machine.specs.declared.steps.Step.TheVariants.{Turn, Work}
 use Rattle.hub_machine.specs.declared.steps.Reply.TheVariants.{Worn}
 use Rattle.hub_valid.specs.Lemmas.Lives.{live_gone}

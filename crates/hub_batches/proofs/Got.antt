@@ -2,7 +2,6 @@
 use Rattle.std.proofs.Common.{◌≡◌, ℕ, ◌||◌, List, [], ◌∷◌, Bool, true, false, cond, refl, ap, ◌∙◌}
 use Rattle.std.specs.Prelude.{nat_lt}
 use Rattle.std.specs.Map.{values_of}
-use Rattle.pv_value.specs.Plain.{Plain}
 use Rattle.ps_schema.specs.declared.Definition.{Definition}
 use Rattle.ds_space.specs.Limits.{most_wanted_weight}
 use Rattle.ds_space.specs.Spaces.{changed, has_row}

@@ -1,5 +1,5 @@
 -- The turn of a system actor in a sound world: what is told in it is what its events tell, one after the other.
-use Rattle.std.proofs.Common.{◌≡◌, ℕ, ◌<◌, List, [], ◌∷◌, ◌++◌, Bool, true, cond, Option, Some, refl, ap, sym, ◌∙◌, subst}
+use Rattle.std.proofs.Common.{◌≡◌, ℕ, List, [], ◌∷◌, ◌++◌, true, cond, Option, Some, refl, ap, sym, ◌∙◌, subst}
 use Rattle.std.proofs.Common.{append-nil, append_assoc, is_some, inl}
 use Rattle.std.specs.List.{AllByRecursion}
 use Rattle.std.specs.List.Sorted.{IsStrictlySortedBy}
@@ -19,9 +19,9 @@ use Rattle.ac_world.specs.Turns.{Turning, begin_turn, turned_by, all_turned}
 use Rattle.ac_world.specs.Watchers.{watcher_of}
 use Rattle.ac_world.specs.Worlds.{WorldState, resident_of, is_system}
 use Rattle.hub_machine.specs.Replays.{replay}
-use Rattle.hub_laws.specs.Standing.{took, took_all, events_of, value_alone}
+use Rattle.hub_laws.specs.Standing.{took, events_of, value_alone}
 use Rattle.hub_laws.proofs.Good.{begin_good}
-use Rattle.hub_laws.proofs.Kept.{made_by, made_in, IsGood, IsLawful, FitsEvent, FitsBatch, IsLog, IsServed, IsServedBy}
+use Rattle.hub_laws.proofs.Kept.{made_in, IsGood, IsLawful, FitsEvent, FitsBatch, IsLog, IsServed, IsServedBy}
 use Rattle.hub_laws.proofs.Kept.{IsSound, Runs}
 use Rattle.hub_laws.proofs.Logs.{log_turned_by}
 use Rattle.hub_laws.proofs.Moving.{begin_moves, made_in-append}

@@ -1,5 +1,5 @@
 -- Inboxes once a batch was taken or came.
-use Rattle.std.proofs.Common.{◌≡◌, ◌≢◌, ℕ, List, [], ◌∷◌, Bool, true, false, Option, Some, None, option_map}
+use Rattle.std.proofs.Common.{◌≡◌, ◌≢◌, ℕ, List, [], ◌∷◌, Option, Some, None, option_map}
 use Rattle.std.proofs.Common.{refl, ap, ◌∙◌, drop, is_some, slice_get, option_and_then}
 use Rattle.ac_table.specs.declared.batches.Event.{Event}
 use Rattle.ac_table.specs.declared.batches.Batch.{Batch}

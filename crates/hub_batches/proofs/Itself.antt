@@ -11,7 +11,7 @@ use Rattle.ds_space.specs.declared.space.SpaceEvent.TheVariants.{Gone}
 use Rattle.ac_table.specs.declared.batches.Batch.{Batch}
 use Rattle.ac_table.specs.declared.batches.Event.{Event}
 use Rattle.ac_table.specs.declared.batches.Event.TheVariants.{Assert, Retract, Message, Sync}
-use Rattle.ac_table.specs.Tables.{first_batch, is_live, lowest}
+use Rattle.ac_table.specs.Tables.{first_batch, is_live}
 use Rattle.ac_world.specs.declared.aims.Aim.{Aim}
 use Rattle.ac_world.specs.Behaviours.{Behaviour}
 use Rattle.ac_world.specs.Outboxes.{told_to}
@@ -19,7 +19,7 @@ use Rattle.ac_world.specs.Turns.{Turning, handle_for, begin_turn, turned_by, tur
 use Rattle.ac_world.specs.Worlds.{WorldState, is_system}
 use Rattle.hub_machine.specs.State.{State}
 use Rattle.hub_machine.specs.Replays.{replay}
-use Rattle.hub_machine.specs.Machine.{is_worn, step}
+use Rattle.hub_machine.specs.Machine.{step}
 use Rattle.hub_machine.specs.declared.steps.Step.TheVariants.{Turn, Work}
 use Rattle.hub_valid.specs.Lemmas.Lasting.{Lasts, lasts_turn}
 use Rattle.hub_laws.proofs.Kept.{Reaches, IsAimed, IsLawful, IsSound}
@@ -29,7 +29,7 @@ use Rattle.hub_laws.proofs.Wanted.{came_aimed}
 use Rattle.hub_cascade.specs.Laws.{TakesItsTurn}
 use Rattle.hub_cascade.specs.Sparing.{IsRetraction, TakesBack, SparesAll}
 use Rattle.hub_cascade.proofs.Retractions.{retractions_end_nobody}
-use Rattle.hub_batches.specs.Laws.{RetractionsTellNothingBack, StepsAlike}
+use Rattle.hub_batches.specs.Laws.{RetractionsTellNothingBack}
 use Rattle.hub_batches.specs.Taking.{inbox_at, less, behaving, turning_over, told_by, told_once, HasTaken, IsTurnOver}
 use Rattle.hub_batches.specs.Taking.{IsLeft, HadBefore, OnlyEnds}
 use Rattle.hub_batches.specs.Telling.{wanted_alone, taken_back, put_at, drawn, all_put, told_of_change, told_of}

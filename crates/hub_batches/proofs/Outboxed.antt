@@ -1,5 +1,5 @@
 -- What holds of each outbox to which an event is added holds of that of a turn.
-use Rattle.std.proofs.Common.{◌≡◌, ℕ, ◌==◌, List, [], ◌∷◌, Bool, true, false, cond, Option, Some, None}
+use Rattle.std.proofs.Common.{ℕ, ◌==◌, List, [], ◌∷◌, Bool, true, false, cond, Option, Some, None}
 use Rattle.std.specs.Prelude.{nat_lt}
 use Rattle.std.specs.Map.{values_of}
 use Rattle.pv_value.specs.Plain.{Plain, boolean, sequence, plains}
@@ -19,7 +19,7 @@ use Rattle.ac_world.specs.Aims.{aim_at, aim_for}
 use Rattle.ac_world.specs.Behaviours.{Behaviour, fanned_weight}
 use Rattle.ac_world.specs.Outboxes.{Outbox, Plan, told, drop_row, drop_own}
 use Rattle.ds_space.specs.Changes.{changes}
-use Rattle.ac_world.specs.Turns.{Turning, handle_for, drop_met, left, came_at, changed_by, all_changed, with_rows, regot}
+use Rattle.ac_world.specs.Turns.{Turning, handle_for, drop_met, came_at, changed_by, all_changed, with_rows, regot}
 use Rattle.ac_world.specs.Turns.{spreading, by_assertion, by_message, taken_in, say_at, say_all, passed_on}
 use Rattle.ac_world.specs.Turns.{turned_by, all_turned}
 

@@ -4,7 +4,7 @@ use Rattle.std.proofs.Common.{refl, ap, ◌∙◌, is_some, slice_get}
 use Rattle.ac_table.specs.declared.batches.Batch.{Batch}
 use Rattle.ac_table.specs.Tables.{Actor, find_actor, first_in, popped}
 use Rattle.ac_world.specs.Outboxes.{told_to}
-use Rattle.ac_world.specs.Turns.{After, Turning, begin_turn, system_turn, connection_turn, turn_with, turn_first, turn}
+use Rattle.ac_world.specs.Turns.{After, Turning, begin_turn, system_turn, connection_turn, turn_with, turn_first}
 use Rattle.ac_world.specs.Worlds.{WorldState, is_system}
 use Rattle.ac_world.specs.declared.turns.Turned.TheVariants as turned
 use Rattle.hub_valid.specs.Lemmas.Plans.{GoesOn, goes_on_all_turned}

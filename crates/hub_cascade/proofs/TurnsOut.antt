@@ -12,12 +12,12 @@ use Rattle.ac_world.specs.Sums.{deliveries}
 use Rattle.ac_world.specs.Turns.{After as TurnOf, turn_first, system_turn, connection_turn}
 use Rattle.ac_world.specs.Worlds.{WorldState, actor_of, entry_of, with_entry, without_entry, is_system}
 use Rattle.ac_world.specs.Lemmas.Entries.{put_other}
-use Rattle.rl_ports.specs.Ports.{PortsState, with_exports}
+use Rattle.rl_ports.specs.Ports.{PortsState}
 use Rattle.hub_machine.specs.Limits.{most_deliveries, most_deliveries_weight}
 use Rattle.hub_machine.specs.declared.faults.Fault.{Fault}
 use Rattle.hub_machine.specs.State.{State, ports_of}
 use Rattle.hub_machine.specs.Endings.{failed, finished, overrun_by, overrun_of}
-use Rattle.hub_machine.specs.Machine.{After, unchanged, telling_fault, exports_after, exporting}
+use Rattle.hub_machine.specs.Machine.{After, unchanged, telling_fault, names_after, exporting}
 use Rattle.hub_machine.specs.Machine.{told_unless, tell, fault_for, tell_fault, after_turn, turn_of, is_worn, done, step}
 use Rattle.hub_machine.specs.Replays.{replay}
 use Rattle.hub_machine.specs.declared.steps.Step.TheVariants.{Turn}
@@ -141,8 +141,8 @@ module _ (k : ℕ) (b : Batch) (s : State) (first : first_batch (actor_of k) s.w
     unless_ends None p there =
         ends_none k s (told_unless None k p b u)
         (ends_nobody (actor_of k) s (exporting k b p u) (record { all = lives; told = tells })
-        (all_within p there (with_entry k (with_exports (exports_after k b p) p) s.connections)
-        (λ j apart. put_other k j (with_exports (exports_after k b p) p) s.connections apart)))
+        (all_within p there (with_entry k (names_after k b p) s.connections)
+        (λ j apart. put_other k j (names_after k b p) s.connections apart)))
 
     -- the connection has its names: it has the same in u
     tell_ends : (p : PortsState) → ports_of k s ≡ Some p → EndsAtMost k s (tell k (ports_of k u) b u)

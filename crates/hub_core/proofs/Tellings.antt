@@ -9,6 +9,7 @@ use Rattle.ac_world.specs.Lemmas.Entries.{put_back}
 use Rattle.rl_packet.specs.declared.packets.Packet.TheVariants as packet
 use Rattle.rl_packet.specs.declared.packets.TurnEvent.{TurnEvent}
 use Rattle.rl_packet.specs.declared.packets.Turn.{Turn as TurnRecord}
+use Rattle.rl_packet.specs.declared.packets.Dialect.{Dialect}
 use Rattle.rl_packet.specs.declared.packets.Dialect.TheVariants.{Newer}
 use Rattle.rl_packet.specs.Packets.{spoken}
 use Rattle.rl_ports.specs.declared.ports.PortsFault.{PortsFault}
@@ -19,8 +20,8 @@ use Rattle.hub_machine.specs.declared.steps.Reply.TheVariants as reply
 use Rattle.hub_machine.specs.State.{State}
 use Rattle.hub_machine.specs.Endings.{nameless}
 use Rattle.hub_machine.specs.Machine.{sent_event, overrun_by, ends, packet_to}
-use Rattle.hub_machine.specs.Machine.{told_unless, exports_after, telling_fault}
-use Rattle.hub_packets.specs.Telling.{foreign_among, ports_after}
+use Rattle.hub_machine.specs.Machine.{told_unless, exports_after, names_after, telling_fault}
+use Rattle.hub_machine.specs.Lemmas.Naming.{foreign_among, dialect_after}
 use Rattle.hub_core.specs.Telling.{told_by}
 
 pub told_nameless : (f : Option Fault) (k : ℕ) (ports : PortsState) (b : Batch) (s : State)
@@ -33,11 +34,12 @@ told_nameless None k ports b s ascend =
 
 pub reply_told : (k : ℕ) (b : Batch) (ports new : PortsState) (s : State) (turn : TurnRecord) (sent : List TurnEvent)
     → turn ≡ spoken (unwrap_or new.dialect Newer) sent
-    → sent ≡ map (sent_event new.exports k) b.events → new ≡ ports_after (foreign_among k b.events) ports
+    → sent ≡ map (sent_event (exports_after k b ports) k) b.events → new ≡ names_after k b ports
     → fault_out ports.exports (foreign_among k b.events) ≡ None
     → reply.Sent (packet.Turn turn) ≡ (told_by (telling_fault k b ports) k ports b s).reply
 reply_told k b ports new s turn sent turn_is sent_is new_is free =
     ap (λ (t : TurnRecord). reply.Sent (packet.Turn t))
     (turn_is ∙ ap (spoken (unwrap_or new.dialect Newer)) sent_is
-    ∙ ap (λ (p : PortsState). spoken (unwrap_or p.dialect Newer) (map (sent_event p.exports k) b.events)) new_is)
+    ∙ ap (λ (d : Option Dialect). spoken (unwrap_or d Newer) (map (sent_event (exports_after k b ports) k) b.events))
+    (ap (λ (p : PortsState). p.dialect) new_is ∙ dialect_after k b ports))
     ∙ sym (ap (λ (o : Option PortsFault). (told_by (option_and_then overrun_by o) k ports b s).reply) free)

@@ -24,7 +24,7 @@ use Rattle.rl_packet.specs.declared.packets.Turn.{Turn as TurnRecord}
 use Rattle.rl_packet.specs.declared.packets.TurnEvent.{TurnEvent}
 use Rattle.rl_ports.specs.declared.ports.Inbound.{Inbound}
 use Rattle.rl_ports.specs.declared.ports.Inbound.TheVariants.{Row, Refused}
-use Rattle.rl_ports.specs.Ports.{PortsState, speaking, inbound_of, ports_to, with_exports}
+use Rattle.rl_ports.specs.Ports.{PortsState, speaking, inbound_of, ports_to}
 use Rattle.hub_machine.specs.Limits.{most_events}
 use Rattle.hub_machine.specs.declared.faults.Fault.{Fault}
 use Rattle.hub_machine.specs.declared.faults.Fault.TheVariants.{BadPacket}
@@ -35,13 +35,15 @@ use Rattle.hub_machine.specs.declared.steps.Step.TheVariants as does
 use Rattle.hub_machine.specs.Faults.{over}
 use Rattle.hub_machine.specs.State.{State, ports_of}
 use Rattle.hub_machine.specs.Admission.{Admitting, Admitted, refused, admitted, admission, before_all, unless}
-use Rattle.hub_machine.specs.Admission.{all_admitted, cap_at, cause_of, after, after_at, after_event, after_assertion}
-use Rattle.hub_machine.specs.Admission.{after_retraction, after_message, let_through, kept, inside}
+use Rattle.hub_machine.specs.Admission.{all_admitted, Aim, object, stale, unknown, aim_at, cause_of, after, after_at}
+use Rattle.hub_machine.specs.Admission.{after_event, after_stale, after_assertion, after_retraction, after_message}
+use Rattle.hub_machine.specs.Admission.{after_sync, through, peer_kept}
 use Rattle.hub_machine.specs.Endings.{nameless, closed, failed, dismissed, finished}
 use Rattle.hub_machine.specs.Lemmas.Dialects.{by_dialect}
+use Rattle.hub_machine.specs.Lemmas.Naming.{handles_after}
 use Rattle.hub_machine.specs.Machine.{unchanged, opened, refusal, arrive_unless, accepted, judged, packet_at, bad_at}
 use Rattle.hub_machine.specs.Machine.{bind_unless, is_barred, is_unwatchable, watch_unless, actor_reference}
-use Rattle.hub_machine.specs.Machine.{close_at, exports_after, exporting, telling_fault, told_unless, tell, fault_for}
+use Rattle.hub_machine.specs.Machine.{close_at, names_after, exporting, telling_fault, told_unless, tell, fault_for}
 use Rattle.hub_machine.specs.Machine.{tell_fault, after_turn, turn_of, rest, work_by, is_worn, done, step}
 use Rattle.hub_valid.specs.Lemmas.Lasting.{lasts_turn, later_watching}
 use Rattle.hub_valid.specs.Lemmas.Lives.{next_ended, next_posted}
@@ -128,27 +130,42 @@ module _ (k : ℕ) (w : WorldState) where
     made = walked.made;
   }
 
-  walked_event : (to : Cap) (e : Event) (x : Admitting) → HasWalked k w x → HasWalked k w (after_event k w to e x)
-  walked_event to (Assert v h) x walked = walked_assertion to (let_through w to (kept k v x)) h x walked
-  walked_event to (Retract h) x walked = walked_retraction h (inbound_of h x.ports) x walked
-  walked_event to (Message v) x walked = walked_message to (let_through w to (kept k v x)) x walked
-  walked_event to (Sync peer) x walked =
-      record {
-        next = next_with x.acts (act.Sync to.actor to.entity (inside (kept k peer x))) ∙ walked.next;
-        later = walked.later;
-        made = walked.made;
-      }
+  walked_sync : (to : Cap) (o : Option Plain) (x : Admitting) → HasWalked k w x
+      → HasWalked k w (after_sync w to o x)
+  walked_sync to None x walked = walked
+  walked_sync to (Some v) x walked = record {
+    next = next_with x.acts (act.Sync to.actor to.entity v) ∙ walked.next;
+    later = walked.later;
+    made = walked.made;
+  }
 
-  walked_at : (o : Option Cap) (e : Event) (x : Admitting) → HasWalked k w x → HasWalked k w (after_at k w o e x)
-  walked_at None e x walked = walked
-  walked_at (Some to) e x walked = walked_event to e x walked
+  walked_event : (to : Cap) (e : Event) (x : Admitting) → HasWalked k w x → HasWalked k w (after_event k w to e x)
+  walked_event to (Assert v h) x walked = walked_assertion to (through k w to v x) h x walked
+  walked_event to (Retract h) x walked = walked_retraction h (inbound_of h x.ports) x walked
+  walked_event to (Message v) x walked = walked_message to (through k w to v x) x walked
+  walked_event to (Sync peer) x walked = walked_sync to (peer_kept k peer x) x walked
+
+  walked_stale : (e : Event) (x : Admitting) → HasWalked k w x → HasWalked k w (after_stale w e x)
+  walked_stale (Assert v h) x walked = record {
+    next = walked.next;
+    later = walked.later;
+    made = each_with (StandsForMade x.next) h Refused x.ports.handles tt walked.made;
+  }
+  walked_stale (Retract h) x walked = walked_retraction h (inbound_of h x.ports) x walked
+  walked_stale (Message v) x walked = walked
+  walked_stale (Sync peer) x walked = walked
+
+  walked_at : (o : Aim) (e : Event) (x : Admitting) → HasWalked k w x → HasWalked k w (after_at k w o e x)
+  walked_at (object to) e x walked = walked_event to e x walked
+  walked_at stale e x walked = walked_stale e x walked
+  walked_at unknown e x walked = walked
 
   all_walked : (es : List TurnEvent) (x y : Admitting) → HasWalked k w x → all_admitted k w es x ≡ admitted y
       → HasWalked k w y
   all_walked [] x y walked is = let same : x ≡ y = cc in subst (HasWalked k w) same walked
   all_walked (e ∷ es) x y walked is =
       by (cause_of k w e x) is
-      (all_walked es (after k w e x) y (walked_at (cap_at e.oid x.ports) e.event x walked))
+      (all_walked es (after k w e x) y (walked_at (aim_at e.oid x.ports) e.event x walked))
     where
       by : (c : Option Fault) → unless c (all_admitted k w es (after k w e x)) ≡ admitted y
           → (all_admitted k w es (after k w e x) ≡ admitted y → HasWalked k w y) → HasWalked k w y
@@ -267,8 +284,8 @@ told_names : (o : Option Fault) (k : ℕ) (ports : PortsState) (b : Batch) (s : 
 told_names (Some f) k ports b s all is = finished_names [] (failed k f s) (failed_names k f s all)
 told_names None k ports b s all is =
     finished_names [] (exporting k b ports s)
-    (each_with (NamesMade s.world.table.next) k (with_exports (exports_after k b ports) ports) s.connections
-    (named_made k ports s all is) all)
+    (each_with (NamesMade s.world.table.next) k (names_after k b ports) s.connections
+    (subst (AreMade s.world.table.next) (sym (handles_after k b ports)) (named_made k ports s all is)) all)
 
 tell_names : (k : ℕ) (o : Option PortsState) (b : Batch) (s : State) → NameMade s → ports_of k s ≡ o
     → NameMade (tell k o b s).state

@@ -7,7 +7,6 @@ use Rattle.std.specs.List.Sorted.{IsStrictlySortedBy}
 use Rattle.std.specs.Ordering.{nat_cmp}
 use Rattle.std.proofs.lemmas.Bool.Decides.{nat_tests}
 use Rattle.std.proofs.lemmas.Grind.{flat_map-append}
-use Rattle.pv_value.specs.Plain.{Plain}
 use Rattle.gk_sturdy.specs.declared.bound.Binding.{Binding}
 use Rattle.ps_schema.specs.declared.Definition.{Definition}
 use Rattle.ac_table.specs.declared.batches.Batch.{Batch}
@@ -23,7 +22,7 @@ use Rattle.ac_world.specs.Lemmas.Entries.{ascend_none, all_append}
 use Rattle.rl_packet.specs.Holding.{events_in}
 use Rattle.rl_packet.specs.declared.packets.Dialect.{Dialect}
 use Rattle.rl_packet.specs.declared.packets.TurnEvent.{TurnEvent}
-use Rattle.rl_ports.specs.Ports.{PortsState, ports_to}
+use Rattle.rl_ports.specs.Ports.{PortsState, ExportTable, ports_to}
 use Rattle.hub_machine.specs.Endings.{failed, finished}
 use Rattle.hub_machine.specs.declared.faults.Fault.{Fault}
 use Rattle.hub_machine.specs.Machine.{After, unchanged, sent_event, packet_to, bind_unless, is_barred, is_unwatchable}
@@ -66,7 +65,7 @@ use Rattle.hub_handles.specs.Laws.{AssertionsAreSentOnce}
 -- ---- what is told of events
 
 -- the handles of the assertions that are sent are those of the events
-asserted_sent : (exports : List Plain) (k : ℕ) (es : List Event)
+asserted_sent : (exports : ExportTable) (k : ℕ) (es : List Event)
     → asserted_in (map (sent_event exports k) es) ≡ made_in es
 asserted_sent exports k [] = refl
 asserted_sent exports k (Assert h entity v ∷ es) = ap (λ hs. h ∷ hs) (asserted_sent exports k es)
@@ -75,7 +74,7 @@ asserted_sent exports k (Message entity v ∷ es) = asserted_sent exports k es
 asserted_sent exports k (Sync entity peer ∷ es) = asserted_sent exports k es
 
 -- each handle of which valid events tell was drawn
-told_drawn : (n : Lived) (next : ℕ) (exports : List Plain) (k : ℕ) (es : List Event)
+told_drawn : (n : Lived) (next : ℕ) (exports : ExportTable) (k : ℕ) (es : List Event)
     → AllByRecursion (IsValidEvent n next) es → WereDrawn next (told_in (map (sent_event exports k) es))
 told_drawn n next exports k [] valid = tt
 told_drawn n next exports k (Assert h entity v ∷ es) valid = (valid.0.0, told_drawn n next exports k es valid.1)
@@ -179,7 +178,7 @@ none_by k a r none = by (a == actor_of k)
 other_tells : (k a : ℕ) (r : Reply) → actor_of k ≢ a → events_by k (does.Turn a) r ≡ []
 other_tells k a r apart = let other : (a == actor_of k) ≡ false = grind (arith, nat_tests, apart) in rw other refl
 
-own_tells : (k : ℕ) (exports : List Plain) (d : Option Dialect) (b : Batch)
+own_tells : (k : ℕ) (exports : ExportTable) (d : Option Dialect) (b : Batch)
     → events_by k (does.Turn (actor_of k)) (packet_to exports d k b) ≡ map (sent_event exports k) b.events
 own_tells k exports d b =
     let own : (actor_of k == actor_of k) ≡ true = grind (arith, nat_tests) in
@@ -203,16 +202,16 @@ module _ (k : ℕ) (since : 1 ≤ k) (es : List TurnEvent) (s : State) (hub : Is
     abbrev taking : State
     taking = record s { world = deliver own b.events (without_first own s.world) }
 
-    abbrev more : List Plain → List TurnEvent
+    abbrev more : ExportTable → List TurnEvent
     more exports = map (sent_event exports k) b.events
 
-    asserted_more : (exports : List Plain)
+    asserted_more : (exports : ExportTable)
         → asserted_in (es ++ more exports) ≡ asserted_in es ++ made_in b.events
     asserted_more exports =
         flat_map-append _ es (more exports) ∙ ap (λ hs. asserted_in es ++ hs) (asserted_sent exports k b.events)
 
     -- with the assertions that wait behind the batch
-    all_asserted : (exports : List Plain) (rest : List Batch)
+    all_asserted : (exports : ExportTable) (rest : List Batch)
         → asserted_in es ++ made_in (events_of (b ∷ rest))
         ≡ asserted_in (es ++ more exports) ++ made_in (events_of rest)
     all_asserted exports rest =
@@ -220,7 +219,7 @@ module _ (k : ℕ) (since : 1 ≤ k) (es : List TurnEvent) (s : State) (hub : Is
         ∙ sym (append_assoc (asserted_in es) (made_in b.events) (made_in (events_of rest)))
         ∙ ap (λ hs. hs ++ made_in (events_of rest)) (sym (asserted_more exports))
 
-    log_taken : (exports : List Plain) (rest : List Batch) → IsLog s.world.table.next (asserted_in es) (b ∷ rest)
+    log_taken : (exports : ExportTable) (rest : List Batch) → IsLog s.world.table.next (asserted_in es) (b ∷ rest)
         → IsLog s.world.table.next (asserted_in (es ++ more exports)) rest
     log_taken exports rest log = (
       subst (IsStrictlySortedBy nat_cmp) (all_asserted exports rest) log.0,
@@ -233,7 +232,7 @@ module _ (k : ℕ) (since : 1 ≤ k) (es : List TurnEvent) (s : State) (hub : Is
 
     exporting_sent : (ports : PortsState) → AreSent k (es ++ more (exports_after k b ports)) (exporting k b ports taking)
     exporting_sent ports =
-        let now : List Plain = exports_after k b ports in
+        let now : ExportTable = exports_after k b ports in
         let x : HasFirst own s.world.table b = has_first own s.world.table b first in
         let log : IsLog s.world.table.next (asserted_in (es ++ more now)) x.rest =
         log_taken now x.rest (before_taking x.rest x.actor x.found x.inbox) in
@@ -261,7 +260,7 @@ module _ (k : ℕ) (since : 1 ≤ k) (es : List TurnEvent) (s : State) (hub : Is
     unless_sent : (o : Option Fault) (ports : PortsState)
         → AreSentBy k (does.Turn own) es (told_unless o k ports b taking)
     unless_sent None ports =
-        let now : List Plain = exports_after k b ports in
+        let now : ExportTable = exports_after k b ports in
         subst (λ ds. AreSent k (es ++ ds) (finished [] (exporting k b ports taking)))
         (sym (own_tells k now ports.dialect b))
         (sent_finished k (es ++ more now) [] (exporting k b ports taking) (exporting_sent ports))
@@ -373,7 +372,7 @@ done_sent k since does.Work es s hub valid rises sent =
 done_sent k since does.Stop es s hub valid rises sent =
     let t : State = record s { stopped = true } in
     sent_nothing k es [] s _ refl
-    (stays_on k s t _ (record { grows = (stays_not k s).grows; exports = λ x found. refl }) (finished_stays k [] t))
+    (stays_on k s t _ (record { grows = (stays_not k s).grows; names = λ x found. refl }) (finished_stays k [] t))
     rises sent
 
 -- where the numbers are used up nothing is sent

@@ -1,5 +1,5 @@
 -- Where nothing is pending, what a live connection holds is what is captured from scratch.
-use Rattle.std.proofs.Common.{◌≡◌, ℕ, ◌+◌, ◌<◌, ◌≤◌, List, [], ◌∷◌, ◌++◌, map, Bool, true, false, cond, not, ◌&&◌}
+use Rattle.std.proofs.Common.{◌≡◌, ℕ, ◌<◌, ◌≤◌, List, [], ◌∷◌, ◌++◌, map, Bool, true, false, cond, not, ◌&&◌}
 use Rattle.std.proofs.Common.{nat_lt, suc, zero}
 use Rattle.std.proofs.Common.{◌==◌, nat_le, length, filter, flat_map, Option, Some, None, is_some, refl, ap, sym, ◌∙◌}
 use Rattle.std.proofs.Common.{subst, arith, rules, IsPermutation}
@@ -24,6 +24,7 @@ use Rattle.ac_table.specs.Lemmas.Lists.{all_weaker}
 use Rattle.ac_world.specs.declared.held.Held.{Held}
 use Rattle.ac_world.specs.Worlds.{WorldState, resident_of, held_by, actor_of, is_system}
 use Rattle.ac_world.specs.Behaviours.{Behaviour, behaviour_of, other}
+use Rattle.rl_ports.specs.Ports.{ExportTable}
 use Rattle.hub_machine.specs.State.{State, opening}
 use Rattle.hub_machine.specs.Replays.{replay, IsSettled}
 use Rattle.hub_machine.specs.declared.steps.Step.{Step}
@@ -86,7 +87,7 @@ stands_map f g h each a (r ∷ rs) = by (r.target == a) refl (stands_map f g h e
     by false other rest = rw other rest
 
 -- n is the number of a connection, which has these exports
-abbrev pub pair_held : List Plain → ℕ → ℕ × Held → Pair
+abbrev pub pair_held : ExportTable → ℕ → ℕ × Held → Pair
 pair_held exports n e = pair_at exports n e.1.entity e.1.value
 
 -- the gatekeeper and the dataspaces
@@ -120,7 +121,7 @@ low_system d low = grind (arith, nat_tests, low)
 
 -- ---- a sound world in which nothing waits
 
-module _ (exports : List Plain) (w : WorldState) (s : IsSound [] w) (quiet : waiting_in w.table.actors ≡ 0) where
+module _ (exports : ExportTable) (w : WorldState) (s : IsSound [] w) (quiet : waiting_in w.table.actors ≡ 0) where
   abbrev rows : List Row
   rows = w.table.rows
 
@@ -281,7 +282,7 @@ in_order_permutes (x ∷ xs) =
     IsPermutation-trans (x ∷ xs) (x ∷ holdings_in_order xs) (insert_holding x (holdings_in_order xs))
     (IsPermutation-cons x xs (holdings_in_order xs) (in_order_permutes xs)) (inserted x (holdings_in_order xs))
 
-pairs_of_holdings : (exports : List Plain) (n : ℕ) (es : List (ℕ × Held))
+pairs_of_holdings : (exports : ExportTable) (n : ℕ) (es : List (ℕ × Held))
     → map pair_of (map (holding_of exports n) es) ≡ map (pair_held exports n) es
 pairs_of_holdings exports n [] = refl
 pairs_of_holdings exports n (e ∷ es) = ap (λ l. pair_held exports n e ∷ l) (pairs_of_holdings exports n es)
@@ -294,7 +295,7 @@ pub settled_from : Holdings
 settled_from holdings hubs ds k steps allowed since settled live =
     let a = actor_of k in
     let s = replay ds steps in
-    let exports : List Plain = exports_of k s in
+    let exports : ExportTable = exports_of k s in
     let got : List Holding = map (holding_of exports k) (held_by a s.world) in
     subst (λ hs. IsPermutation (map pair_of hs) (scratch k s)) (sym (holdings ds k steps allowed live).0)
     (IsPermutation-trans (map pair_of (holdings_in_order got)) (map pair_of got) (scratch k s)

@@ -1,3 +1,5 @@
+pub mod Agreeing
+pub mod Among
 pub mod Arriving
 pub mod Asked
 pub mod Bags
@@ -34,6 +36,7 @@ pub mod Posting
 pub mod Presence
 pub mod Promised
 pub mod Refusing
+pub mod Released
 pub mod Said
 pub mod Saying
 pub mod Sending

@@ -19,6 +19,7 @@ use Rattle.ac_table.specs.Lemmas.Lists.{all_filter, all_weaker}
 use Rattle.ac_world.specs.Turns.{handle_for}
 use Rattle.ac_world.specs.Worlds.{actor_of}
 use Rattle.ac_world.specs.Behaviours.{Behaviour}
+use Rattle.rl_ports.specs.Ports.{ExportTable}
 use Rattle.hub_laws.specs.Scratch.{Pair, pair_at}
 use Rattle.hub_laws.proofs.Distinct.{distinct_none, same_members}
 use Rattle.hub_laws.proofs.Finding.{Ascend, found_handle, all_from_found, ascend_filter}
@@ -161,14 +162,14 @@ values_apart met (e ∷ es) apart d found =
 
 -- ---- the rows of system actor d at connection n, which has these exports
 
-abbrev pub pair_of_row : List Plain → ℕ → Row → Pair
+abbrev pub pair_of_row : ExportTable → ℕ → Row → Pair
 pair_of_row exports n r = pair_at exports n r.entity r.value
 
-abbrev pair_found : List Plain → ℕ → Option Row → Pair
+abbrev pair_found : ExportTable → ℕ → Option Row → Pair
 pair_found exports n None = record { oid = 0; value = boolean false }
 pair_found exports n (Some r) = pair_of_row exports n r
 
-module _ (y : Behaviour) (exports : List Plain) (n d : ℕ) (met : List (Plain × ℕ)) (rows : List Row)
+module _ (y : Behaviour) (exports : ExportTable) (n d : ℕ) (met : List (Plain × ℕ)) (rows : List Row)
     (rise : Ascend rows)
     (keys : IsDistinct same (keys_of met)) (has : HasRows y None d met rows) where
   abbrev is_own : Row → Bool

@@ -9,12 +9,12 @@ use Rattle.ac_world.specs.Turns.{turn}
 use Rattle.ac_world.specs.declared.watched.Watched.{Watched}
 use Rattle.ac_world.specs.Worlds.{WorldState, actor_of, entry_of, without_entry, ended_of, sent, watching}
 use Rattle.ac_world.specs.Lemmas.Entries.{each_with, each_without, each_found}
-use Rattle.rl_ports.specs.Ports.{PortsState, ports_to, with_exports}
+use Rattle.rl_ports.specs.Ports.{PortsState, ports_to}
 use Rattle.hub_machine.specs.declared.faults.Fault.{Fault}
 use Rattle.hub_machine.specs.State.{State, opening, is_there}
 use Rattle.hub_machine.specs.Admission.{Admitting}
 use Rattle.hub_machine.specs.Endings.{nameless, closed, failed, dismissed}
-use Rattle.hub_machine.specs.Machine.{is_unwatchable, opened, accepted, exports_after, actor_reference}
+use Rattle.hub_machine.specs.Machine.{is_unwatchable, opened, accepted, names_after, actor_reference}
 use Rattle.hub_machine.specs.Replays.{replay}
 use Rattle.hub_machine.specs.declared.steps.Step.{Step}
 use Rattle.hub_valid.specs.Validity.{HasCome}
@@ -194,8 +194,8 @@ keeps_place = record {
   closes = λ k s there p. place_closed k s p;
   accepts = place_accepted;
   exports = λ k b ports s there p. record {
-    named = each_with (λ e. HasCome s.world.opened e.0) k (with_exports (exports_after k b ports) ports)
-        s.connections (come_there k s p there) p.named;
+    named = each_with (λ e. HasCome s.world.opened e.0) k (names_after k b ports) s.connections
+        (come_there k s p there) p.named;
     faults = p.faults;
   };
   turns = place_turned;

@@ -4,109 +4,84 @@ use Rattle.std.proofs.Common.{Option, Some, None, is_some, inl, inr, refl, sym, 
 use Rattle.std.proofs.Common.{append_assoc, suc, zero}
 use Rattle.std.specs.Prelude.{unwrap_or}
 use Rattle.std.specs.List.{flat_map, AllByRecursion}
+use Rattle.std.specs.List.Sorted.{IsStrictlySortedBy}
+use Rattle.std.specs.Map.{keys_of}
+use Rattle.std.specs.Ordering.{nat_cmp}
 use Rattle.std.proofs.lemmas.Bool.Decides.{nat_tests}
 use Rattle.std.proofs.lemmas.Grind.{flat_map-append}
-use Rattle.std.proofs.lemmas.List.{map-append}
-use Rattle.pv_value.specs.Plain.{embedded}
-use Rattle.pv_value.specs.Plain.{Plain}
 use Rattle.gk_sturdy.specs.declared.bound.Binding.{Binding}
 use Rattle.ps_schema.specs.declared.Definition.{Definition}
 use Rattle.ac_table.specs.declared.batches.Event.{Event}
-use Rattle.ac_table.specs.declared.batches.Event.TheVariants.{Assert, Retract, Message, Sync}
 use Rattle.ac_table.specs.declared.batches.Batch.{Batch}
 use Rattle.ac_table.specs.Tables.{Actor, find_actor, is_live, lowest, first_batch}
-use Rattle.ac_table.specs.Lemmas.Lists.{all_weaker}
 use Rattle.ac_world.specs.declared.turns.Turned.TheVariants as turned
 use Rattle.ac_world.specs.Turns.{After as TurnOf, deliver, turn_with, turn_first}
 use Rattle.ac_world.specs.Worlds.{WorldState, held_by, entry_of, is_system, actor_of, all_delivered, arrived, binding}
-use Rattle.ac_world.specs.Lemmas.Entries.{put_found, ascend_none, all_append}
+use Rattle.ac_world.specs.declared.held.Held.{Held}
+use Rattle.ac_world.specs.Lemmas.Entries.{put_found, ascend_none}
 use Rattle.rl_packet.specs.Holding.{events_in, all_kept, holdings_in_order, held}
-use Rattle.rl_packet.specs.declared.packets.Event.TheVariants as wire
 use Rattle.rl_packet.specs.declared.packets.TurnEvent.{TurnEvent}
 use Rattle.rl_packet.specs.declared.packets.Dialect.{Dialect}
-use Rattle.rl_ports.specs.Ports.{PortsState, ports_to}
-use Rattle.rl_wire.specs.Crossing.{all_exported}
-use Rattle.rl_wire.specs.Lemmas.Exporting.{IsExported, exported_later, are_exported}
-use Rattle.rl_wire.specs.Lemmas.Later.{all_of_front, all_of_rest, crossed_out_later}
+use Rattle.rl_ports.specs.Ports.{PortsState, ExportTable, ports_to}
 use Rattle.hub_machine.specs.Endings.{failed, finished}
 use Rattle.hub_machine.specs.Faults.{error_of}
 use Rattle.hub_machine.specs.declared.faults.Fault.{Fault}
 use Rattle.hub_machine.specs.declared.faults.Fault.TheVariants as fault
-use Rattle.hub_machine.specs.Machine.{After, unchanged, told_value, foreign_told, foreign_to, sent_event, packet_to}
+use Rattle.hub_machine.specs.Machine.{After, unchanged, foreign_to, sent_event, packet_to, all_named, names_after}
 use Rattle.hub_machine.specs.Machine.{bind_unless, is_barred, is_unwatchable}
 use Rattle.hub_machine.specs.Machine.{exports_after, exporting, telling_fault, told_unless, tell, opened, refusal}
 use Rattle.hub_machine.specs.Machine.{arrive_unless, fault_for, tell_fault, after_turn, turn_of, is_worn, done, step}
 use Rattle.hub_machine.specs.Machine.{actor_reference}
+use Rattle.hub_machine.specs.Lemmas.Naming.{named_exports}
 use Rattle.hub_machine.specs.Replays.{run_from, replay, packet_in, sent_by, sent_from, sent_to}
 use Rattle.hub_machine.specs.State.{State, opening, ports_of}
 use Rattle.hub_machine.specs.declared.steps.Step.{Step}
 use Rattle.hub_machine.specs.declared.steps.Step.TheVariants.{Bind, Watch, Arrive, Packet, Bad, Close, Turn, Work, Stop}
 use Rattle.hub_machine.specs.declared.steps.Reply.{Reply}
 use Rattle.hub_machine.specs.declared.steps.Reply.TheVariants.{Worn, Gone, Idle, Sent, Refused}
-use Rattle.hub_laws.specs.Laws.{AreAllowed, Holdings}
+use Rattle.hub_valid.specs.Lemmas.Admitted.{names_of}
+use Rattle.hub_laws.specs.Laws.{AreAllowed, Holdings, Notes}
+use Rattle.hub_laws.specs.Noting.{note_of}
 use Rattle.hub_laws.specs.Scratch.{exports_in, exports_of}
 use Rattle.hub_laws.specs.Settled.{holding_of, HasNumbers, AreWhatItGot, HoldsWhatItGot}
-use Rattle.hub_laws.proofs.Numbered.{numbered}
+use Rattle.hub_laws.proofs.Agreeing.{AllAgree, agrees_later, holdings_same}
+use Rattle.hub_laws.proofs.Numbered.{AreNoted, all_noted}
+use Rattle.hub_laws.proofs.Released.{swept_agrees, swept_noted}
 use Rattle.hub_laws.specs.Standing.{took_all, events_of, at_object}
 use Rattle.hub_laws.proofs.Growing.{arrived_grows, grows_alike}
-use Rattle.hub_laws.proofs.Holding.{kept_is_taken}
+use Rattle.hub_laws.proofs.Holding.{kept_after}
 use Rattle.hub_laws.proofs.Joining.{above_is_new, joined_new}
 use Rattle.hub_laws.proofs.Kept.{made_in, IsLog, IsSound, IsHub}
 use Rattle.hub_laws.proofs.Leaving.{one_or_not}
 use Rattle.hub_laws.proofs.Lists.{took_all_append}
-use Rattle.hub_laws.proofs.Logs.{connection_took}
+use Rattle.hub_laws.proofs.Logs.{connection_took, log_took_all}
 use Rattle.hub_laws.proofs.Moving.{made_in-append}
 use Rattle.hub_laws.proofs.Posting.{found-popped, live-popped}
-use Rattle.hub_laws.proofs.Staying.{exports_kept, Stays, stays_not, stays_on, world_stays, other_stays, ended_not_found}
+use Rattle.hub_laws.proofs.Staying.{names_in, names_kept, Stays, stays_not, stays_on, world_stays, other_stays, ended_not_found}
 use Rattle.hub_laws.proofs.Staying.{failing_stays, finished_stays, bad_stays, close_stays, packet_stays, fault_stays}
 use Rattle.hub_laws.proofs.Staying.{other_turn_stays, work_stays, watch_stays}
+use Rattle.hub_laws.proofs.Steps.{IsNamed, named_of, come_of}
 use Rattle.hub_laws.proofs.Turns.{without_first, ascend_before}
 use Rattle.hub_laws.proofs.Zeroth.{zeroth_unsent}
 
 -- ---- what a connection is told, by its exports
 
--- the objects of others that events tell connection k of
-abbrev pub foreign_in_all : ℕ → List Event → List Plain
-foreign_in_all k es = flat_map (λ e. foreign_told k (told_value e)) es
-
-abbrev pub AreExported : List Plain → List Plain → Type 0
-AreExported exports rs = AllByRecursion (IsExported exports) rs
-
--- an event of which all is exported is told the same by later exports
-event_later : (exports more : List Plain) (k : ℕ) (e : Event)
-    → AreExported exports (foreign_told k (told_value e))
-    → sent_event (all_exported exports more) k e ≡ sent_event exports k e
-event_later exports more k (Assert h entity v) there =
-    ap (λ x. record { oid = entity; event = wire.Assert x h }) (crossed_out_later exports more k v there)
-event_later exports more k (Retract h entity) there = refl
-event_later exports more k (Message entity v) there =
-    ap (λ x. record { oid = entity; event = wire.Message x }) (crossed_out_later exports more k v there)
-event_later exports more k (Sync entity peer) there =
-    ap (λ x. record { oid = entity; event = wire.Sync x }) (crossed_out_later exports more k (embedded peer) there)
-
-events_later : (exports more : List Plain) (k : ℕ) (es : List Event) → AreExported exports (foreign_in_all k es)
-    → map (sent_event (all_exported exports more) k) es ≡ map (sent_event exports k) es
-events_later exports more k [] there = refl
-events_later exports more k (e ∷ es) there =
-    let now = foreign_told k (told_value e) in
-    (λ i. event_later exports more k e (all_of_front _ now (foreign_in_all k es) there) i
-    ∷ events_later exports more k es (all_of_rest _ now (foreign_in_all k es) there) i)
-
--- The events es that connection k, which has these exports, was sent are those that its actor took since it came. All
--- that they tell of is exported, and their handles, and then those of its inbox, ascend.
-pub record IsTold (k : ℕ) (exports : List Plain) (es : List TurnEvent) (w : WorldState) (inbox : List Batch)
+-- What connection k, which names this, holds by the events es that it was sent is what its actor took since it came, as
+-- it goes out by the exports of now. All that it got of others is exported, and noted. The handles that it was told, and
+-- then those of its inbox, ascend.
+pub record IsTold (k : ℕ) (names : PortsState) (es : List TurnEvent) (w : WorldState) (inbox : List Batch)
     : Type 0 where
   pub taken : List Event
-  pub sent : es ≡ map (sent_event exports k) taken
-  pub exported : AreExported exports (foreign_in_all k taken)
   pub held : held_by (actor_of k) w ≡ took_all at_object taken []
+  pub holds : all_kept es ≡ map (holding_of names.exports k) (held_by (actor_of k) w)
+  pub noted : AreNoted k names (held_by (actor_of k) w)
   pub log : IsLog w.table.next (made_in taken) inbox
 
 -- what connection k was sent: nothing before it came, and of one that has gone nothing is said
 pub record AreSent (k : ℕ) (es : List TurnEvent) (s : State) : Type 0 where
   pub none : s.world.opened < k → es ≡ []
   pub live : (x : Actor) → find_actor (actor_of k) s.world.table.actors ≡ Some x
-      → IsTold k (exports_kept k s) es s.world x.inbox
+      → IsTold k (names_kept k s) es s.world x.inbox
 
 sent_alike : (k : ℕ) (es : List TurnEvent) (s t : State) → Stays k s t → AreSent k es s → AreSent k es t
 sent_alike k es s t stays sent = record {
@@ -114,12 +89,13 @@ sent_alike k es s t stays sent = record {
   live = λ x is.
       let i = stays.grows.still x is in
       let was = sent.live i.before i.found in
-      subst (λ exports. IsTold k exports es t.world x.inbox) (sym (stays.exports x is))
+      let names : PortsState = names_kept k s in
+      subst (λ p. IsTold k p es t.world x.inbox) (sym (stays.names x is))
       (record {
         taken = was.taken;
-        sent = was.sent;
-        exported = was.exported;
         held = i.held ∙ was.held;
+        holds = was.holds ∙ ap (map (holding_of names.exports k)) (sym i.held);
+        noted = subst (λ got. AreNoted k names got) (sym i.held) was.noted;
         log = i.log (made_in was.taken) was.log;
       });
 }
@@ -132,19 +108,21 @@ sent_nothing k es ds s t none stays sent =
 
 -- ---- a connection comes
 
-told_first : (exports : List Plain) (w : WorldState) (x : Actor)
+told_first : (names : PortsState) (w : WorldState) (x : Actor) → names.notes ≡ []
     → is_live (actor_of (w.opened + 1)) w.table ≡ false → IsSound [] w
     → find_actor (actor_of (w.opened + 1)) (arrived w).table.actors ≡ Some x
-    → IsTold (w.opened + 1) exports [] (arrived w) x.inbox
-told_first exports w x dead sound is =
-    let a = actor_of (w.opened + 1) in
+    → IsTold (w.opened + 1) names [] (arrived w) x.inbox
+told_first names w x no_notes dead sound is =
+    let k : ℕ = w.opened + 1 in
+    let a = actor_of k in
+    let none : held_by a (arrived w) ≡ [] = ap (λ o. unwrap_or o []) (sound.unheld a dead) in
     let new : Some (record { number = a; inbox = [] }) ≡ Some x = sym (joined_new a w.table dead) ∙ is in
     let same : record { number = a; inbox = [] } ≡ x = cc in
     record {
       taken = [];
-      sent = refl;
-      exported = tt;
-      held = ap (λ o. unwrap_or o []) (sound.unheld a dead);
+      held = none;
+      holds = sym (ap (map (holding_of names.exports k)) none);
+      noted = subst (λ got. AreNoted k names got) (sym none) (record { numbers = tt; notes = no_notes });
       log = subst (λ (y : Actor). IsLog w.table.next [] y.inbox) same (ascend_none, tt);
     }
 
@@ -168,9 +146,10 @@ sent_arrived k space es s sound sent = elim (one_or_not (actor_of k) (actor_of (
       record {
         none = λ before. absurd (omega (arith, before, number));
         live = λ x is.
-            subst (λ j. IsTold j (exports_kept j (opened space s)) es (arrived s.world) x.inbox) (sym number)
-            (subst (λ ds. IsTold new (exports_kept new (opened space s)) ds (arrived s.world) x.inbox) (sym none)
-            (told_first (exports_kept new (opened space s)) s.world x dead sound
+            subst (λ j. IsTold j (names_kept j (opened space s)) es (arrived s.world) x.inbox) (sym number)
+            (subst (λ ds. IsTold new (names_kept new (opened space s)) ds (arrived s.world) x.inbox) (sym none)
+            (told_first (names_kept new (opened space s)) s.world x
+            (ap (λ o. (names_in o).notes) (put_found new (ports_to (actor_reference space)) s.connections)) dead sound
             (ap (λ a. find_actor a (arrived s.world).table.actors) (sym same) ∙ is)));
       })
 ]
@@ -207,7 +186,7 @@ fault_tells k a (Some f) s = none_by k a (Sent (error_of f)) (ap (λ es. es ++ [
 other_tells : (k a : ℕ) (r : Reply) → actor_of k ≢ a → events_by k (Turn a) r ≡ []
 other_tells k a r apart = let other : (a == actor_of k) ≡ false = grind (arith, nat_tests, apart) in rw other refl
 
-own_tells : (k : ℕ) (exports : List Plain) (d : Option Dialect) (b : Batch)
+own_tells : (k : ℕ) (exports : ExportTable) (d : Option Dialect) (b : Batch)
     → events_by k (Turn (actor_of k)) (packet_to exports d k b) ≡ map (sent_event exports k) b.events
 own_tells k exports d b =
     let own : (actor_of k == actor_of k) ≡ true = grind (arith, nat_tests) in
@@ -235,46 +214,83 @@ module _ (k : ℕ) (since : 1 ≤ k) (es : List TurnEvent) (s : State) (hub : Is
     abbrev ports : PortsState
     ports = (hub.named k since lives).0
 
-    abbrev now : List Plain
+    abbrev now : ExportTable
     now = exports_after k b ports
 
-    told_more : (inbox : List Batch) → IsTold k ports.exports es s.world (b ∷ inbox)
-        → IsTold k now (es ++ map (sent_event now k) b.events) taking.world inbox
-    told_more inbox t =
-        let more : made_in (t.taken ++ b.events) ++ made_in (events_of inbox)
-        ≡ made_in t.taken ++ made_in (events_of (b ∷ inbox)) =
-        sym (made_in-append (t.taken ++ b.events) (events_of inbox))
-        ∙ ap made_in (append_assoc t.taken b.events (events_of inbox))
-        ∙ made_in-append t.taken (b.events ++ events_of inbox) in
-        let before : AreExported now (foreign_in_all k t.taken) =
-        all_weaker (IsExported ports.exports) (IsExported now)
-        (λ r there. exported_later r ports.exports (foreign_to k b) there) (foreign_in_all k t.taken) t.exported in
-        record {
-          taken = t.taken ++ b.events;
-          sent = ap (λ ds. ds ++ map (sent_event now k) b.events)
-              (t.sent ∙ sym (events_later ports.exports (foreign_to k b) k t.taken t.exported))
-              ∙ sym (map-append (sent_event now k) t.taken b.events);
-          exported = subst (AreExported now)
-              (sym (flat_map-append (λ e. foreign_told k (told_value e)) t.taken b.events))
-              (all_append (IsExported now) (foreign_in_all k t.taken) (foreign_to k b) before
-              (are_exported ports.exports (foreign_to k b)));
-          held = ap (λ o. unwrap_or o [])
-              (put_found own (all_delivered b.events (held_by own s.world)) s.world.held)
-              ∙ connection_took b.events (held_by own s.world) ∙ ap (took_all at_object b.events) t.held
-              ∙ sym (took_all_append _ at_object t.taken b.events []);
-          log = rw more t.log;
-        }
+    -- before what nothing mentions is released
+    abbrev named_all : PortsState
+    named_all = all_named k b.events ports
+
+    abbrev after : PortsState
+    after = names_after k b ports
+
+    told_more : (inbox : List Batch) → IsTold k (names_of ports) es s.world (b ∷ inbox)
+        → IsTold k (names_of after) (es ++ map (sent_event now k) b.events) taking.world inbox
+    told_more inbox t = record {
+      taken = t.taken ++ b.events;
+      held = held ∙ ap (took_all at_object b.events) t.held ∙ sym (took_all_append _ at_object t.taken b.events []);
+      holds = kept_after now k es b.events got ascend (t.holds ∙ sym (holdings_same ports.exports now k got agrees))
+          ∙ ap (λ x. map (holding_of x k) later) (sym (named_exports k b.events ports))
+          ∙ sym (holdings_same named_all.exports after.exports k later (swept_agrees k named_all later told))
+          ∙ ap (map (holding_of after.exports k)) (sym held);
+      noted = subst (λ ds. AreNoted k (names_of after) ds) (sym held)
+          (record { numbers = left.numbers; notes = left.notes });
+      log = rw more t.log;
+    }
+      where
+        got : List (ℕ × Held)
+        got = held_by own s.world
+
+        later : List (ℕ × Held)
+        later = took_all at_object b.events got
+
+        held : held_by own taking.world ≡ later
+        held =
+            ap (λ o. unwrap_or o []) (put_found own (all_delivered b.events (held_by own s.world)) s.world.held)
+            ∙ connection_took b.events (held_by own s.world)
+
+        was : AreNoted k ports got
+        was = record { numbers = t.noted.numbers; notes = t.noted.notes }
+
+        agrees : AllAgree ports.exports now k got
+        agrees = agrees_later ports.exports (foreign_to k b) k got was.numbers
+
+        told : AreNoted k named_all later
+        told = all_noted k b.events ports got was
+
+        left : AreNoted k after later
+        left = swept_noted k named_all later told
+
+        more : made_in (t.taken ++ b.events) ++ made_in (events_of inbox)
+            ≡ made_in t.taken ++ made_in (events_of (b ∷ inbox))
+        more =
+            sym (made_in-append (t.taken ++ b.events) (events_of inbox))
+            ∙ ap made_in (append_assoc t.taken b.events (events_of inbox))
+            ∙ made_in-append t.taken (b.events ++ events_of inbox)
+
+        split : made_in t.taken ++ made_in (events_of (b ∷ inbox))
+            ≡ made_in t.taken ++ (made_in b.events ++ made_in (events_of inbox))
+        split = ap (λ hs. made_in t.taken ++ hs) (made_in-append b.events (events_of inbox))
+
+        ascend : IsStrictlySortedBy nat_cmp (keys_of got ++ made_in b.events)
+        ascend =
+            subst (λ (ds : List (ℕ × Held)). IsStrictlySortedBy nat_cmp (keys_of ds ++ made_in b.events)) (sym t.held)
+            (ascend_before (keys_of (took_all at_object t.taken []) ++ made_in b.events) (made_in (events_of inbox))
+            (subst (IsStrictlySortedBy nat_cmp)
+            (sym (append_assoc (keys_of (took_all at_object t.taken [])) (made_in b.events) (made_in (events_of inbox))))
+            (log_took_all at_object t.taken [] (made_in b.events ++ made_in (events_of inbox))
+            (subst (IsStrictlySortedBy nat_cmp) split t.log.0))))
 
     exporting_sent : AreSent k (es ++ map (sent_event now k) b.events) (exporting k b ports taking)
     exporting_sent = record {
       none = λ before. absurd (omega (arith, before, has_come));
       live = λ x is.
           let y = found-popped own s.world.table b x first is in
-          let was : IsTold k ports.exports es s.world (b ∷ x.inbox) =
-          subst (λ exports. IsTold k exports es s.world (b ∷ x.inbox)) (ap exports_in (hub.named k since lives).1)
-          (subst (λ bs. IsTold k (exports_kept k s) es s.world bs) y.2 (sent.live y.0 y.1)) in
-          subst (λ exports. IsTold k exports (es ++ map (sent_event now k) b.events) taking.world x.inbox)
-          (sym (ap exports_in (put_found k _ s.connections))) (told_more x.inbox was);
+          let was : IsTold k (names_of ports) es s.world (b ∷ x.inbox) =
+          subst (λ p. IsTold k p es s.world (b ∷ x.inbox)) (ap names_in (hub.named k since lives).1)
+          (subst (λ bs. IsTold k (names_kept k s) es s.world bs) y.2 (sent.live y.0 y.1)) in
+          subst (λ p. IsTold k p (es ++ map (sent_event now k) b.events) taking.world x.inbox)
+          (sym (ap names_in (put_found k _ s.connections))) (told_more x.inbox was);
     }
 
     -- it fails, and isn't found any more
@@ -367,7 +383,7 @@ bind_sent k false b es s sent =
     (stays_on k s t _
     (record {
       grows = grows_alike (actor_of k) s.world (binding b s.world) (omega arith) refl refl refl;
-      exports = λ x found. refl;
+      names = λ x found. refl;
     })
     (finished_stays k [] t))
     sent
@@ -389,7 +405,7 @@ done_sent k since Work es s hub sent =
 done_sent k since Stop es s hub sent =
     let t : State = record s { stopped = true } in
     sent_nothing k es [] s _ refl
-    (stays_on k s t _ (record { grows = (stays_not k s).grows; exports = λ x found. refl }) (finished_stays k [] t))
+    (stays_on k s t _ (record { grows = (stays_not k s).grows; names = λ x found. refl }) (finished_stays k [] t))
     sent
 
 -- where the numbers are used up nothing is sent
@@ -445,6 +461,16 @@ sent_first ds k since sound = record {
       absurd (omega (arith, low, since));
 }
 
+-- what was sent to connection k
+after_run : HubAfter → (ds : List Definition) (k : ℕ) → 1 ≤ k → (steps : List Step) → AreAllowed (opening ds) steps
+    → AreSent k (flat_map events_in (sent_to ds k steps)) (replay ds steps)
+after_run hubs ds k since steps allowed =
+    run_sent k since steps [] (opening ds) (hubs ds) allowed (sent_first ds k since (hubs ds [] tt).sound)
+
+exports_named : (o : Option PortsState) → (names_in o).exports ≡ exports_in o
+exports_named None = refl
+exports_named (Some p) = refl
+
 connection_holds : HubAfter → (ds : List Definition) (k : ℕ) → 1 ≤ k → (steps : List Step) → AreAllowed (opening ds) steps
     → HoldsWhatItGot ds k steps
 connection_holds hubs ds k since steps allowed lives = by (find_actor (actor_of k) s.world.table.actors) refl lives
@@ -452,28 +478,20 @@ connection_holds hubs ds k since steps allowed lives = by (find_actor (actor_of 
     s : State
     s = replay ds steps
 
-    all : AreSent k (flat_map events_in (sent_to ds k steps)) s
-    all = run_sent k since steps [] (opening ds) (hubs ds) allowed (sent_first ds k since (hubs ds [] tt).sound)
-
     -- a live connection's exports are those kept for it
-    kept_now : exports_kept k s ≡ exports_of k s
-    kept_now = ap (λ c. exports_in (cond c (entry_of k s.connections) None)) (sym lives)
+    kept_now : (names_kept k s).exports ≡ exports_of k s
+    kept_now =
+        exports_named (entry_of k s.connections)
+        ∙ ap (λ c. exports_in (cond c (entry_of k s.connections) None)) (sym lives)
 
     by : (o : Option Actor) → find_actor (actor_of k) s.world.table.actors ≡ o → is_some o ≡ true
         → AreWhatItGot (exports_of k s) k (held_by (actor_of k) s.world) (held (sent_to ds k steps))
     by None found live = absurd cc
     by (Some x) found live =
-        let t = all.live x found in
-        let ascend = ascend_before (made_in t.taken) (made_in (events_of x.inbox)) t.log.0 in
-        let got = held_by (actor_of k) s.world in
-        let known : AllByRecursion (HasNumbers (exports_kept k s) k) (took_all at_object t.taken []) =
-        numbered (exports_kept k s) k t.taken [] tt t.exported in (
-          ap holdings_in_order
-              (ap all_kept t.sent ∙ kept_is_taken (exports_kept k s) k t.taken ascend
-              ∙ ap (map (holding_of (exports_kept k s) k)) (sym t.held)
-              ∙ ap (λ exports. map (holding_of exports k) got) kept_now),
-          subst (λ exports. AllByRecursion (HasNumbers exports k) got) kept_now
-              (subst (AllByRecursion (HasNumbers (exports_kept k s) k)) (sym t.held) known),
+        let t = (after_run hubs ds k since steps allowed).live x found in
+        let got = held_by (actor_of k) s.world in (
+          ap holdings_in_order (t.holds ∙ ap (λ exports. map (holding_of exports k) got) kept_now),
+          subst (λ exports. AllByRecursion (HasNumbers exports k) got) kept_now t.noted.numbers,
         )
 
 -- the actor that connection 0 would have is the system's: nothing was delivered to it, nor was it sent anything
@@ -489,3 +507,23 @@ zeroth_holds hubs ds steps allowed lives =
 pub holdings_hold : HubAfter → Holdings
 holdings_hold hubs ds zero steps allowed = zeroth_holds hubs ds steps allowed
 holdings_hold hubs ds (suc k) steps allowed = connection_holds hubs ds (suc k) (omega arith) steps allowed
+
+-- ---- what is noted
+
+pub notes_hold : HubAfter → Notes
+notes_hold hubs ds k steps allowed ports is = by (find_actor (actor_of k) s.world.table.actors) refl named.live
+  where
+    s : State
+    s = replay ds steps
+
+    named : IsNamed k ports s
+    named = named_of k ports s is
+
+    by : (o : Option Actor) → find_actor (actor_of k) s.world.table.actors ≡ o → is_some o ≡ true
+        → ports.notes ≡ map (note_of ports.exports k) (held_by (actor_of k) s.world)
+    by None found live = absurd cc
+    by (Some x) found live =
+        let since : 1 ≤ k = come_of k ports s (hubs ds steps allowed) named in
+        let t = (after_run hubs ds k since steps allowed).live x found in
+        subst (λ (p : PortsState). p.notes ≡ map (note_of p.exports k) (held_by (actor_of k) s.world))
+        (ap names_in named.kept) t.noted.notes

@@ -1,9 +1,8 @@
--- What each step keeps of a connection that stays, but for its own turn: what it has got, and its exports.
+-- What each step keeps of a connection that stays, but for its own turn: what it has got, and what it names of others.
 use Rattle.std.proofs.Common.{◌≡◌, ◌≢◌, ℕ, ◌-◌, ◌<◌, ◌≤◌, nat_lt, List, [], ◌∷◌, Bool, true, false, cond}
 use Rattle.std.proofs.Common.{Option, Some, None, is_some, inl, inr, refl, sym, ap, ◌∙◌, arith}
 use Rattle.std.specs.Map.{keys_of}
 use Rattle.std.proofs.lemmas.Bool.Decides.{nat_tests}
-use Rattle.pv_value.specs.Plain.{Plain}
 use Rattle.ac_table.specs.declared.batches.Batch.{Batch}
 use Rattle.ac_table.specs.Tables.{Actor, IsTable, find_actor, is_live, rows_of, ended, first_batch}
 use Rattle.ac_world.specs.declared.spreads.Spread.{Spread as SpreadOf}
@@ -30,7 +29,7 @@ use Rattle.hub_machine.specs.Machine.{unchanged, accepted, judged, packet_at, ba
 use Rattle.hub_machine.specs.Machine.{exporting, told_unless, tell, fault_for, tell_fault, after_turn, turn_of, rest}
 use Rattle.hub_machine.specs.Machine.{work_by, is_unwatchable, watch_unless}
 use Rattle.hub_machine.specs.declared.steps.Reply.TheVariants.{Halted, Idle}
-use Rattle.hub_valid.specs.Lemmas.Admitted.{exports_stay}
+use Rattle.hub_valid.specs.Lemmas.Admitted.{names_of, names_stay}
 use Rattle.hub_laws.specs.Scratch.{exports_in}
 use Rattle.hub_laws.proofs.EndingActors.{retractions_ascend, ended_none}
 use Rattle.hub_laws.proofs.Beginning.{may_begin, nobody_yet}
@@ -41,39 +40,43 @@ use Rattle.hub_laws.proofs.Leaving.{one_or_not}
 use Rattle.hub_laws.proofs.Posting.{posted_to}
 use Rattle.hub_laws.proofs.Steps.{IsNamed, named_of}
 
--- the exports that are kept for a connection
-abbrev pub exports_kept : ℕ → State → List Plain
-exports_kept k s = exports_in (entry_of k s.connections)
+abbrev pub names_in : Option PortsState → PortsState
+names_in None = record { exports = exports_in None; pinned = []; notes = []; handles = []; dialect = None }
+names_in (Some p) = names_of p
 
--- Connection k, found in the later state, was there in the earlier one. It has taken nothing since, and its exports are
--- the same.
+-- what is kept of a connection's references
+abbrev pub names_kept : ℕ → State → PortsState
+names_kept k s = names_in (entry_of k s.connections)
+
+-- Connection k, found in the later state, was there in the earlier one. It has taken nothing since, and it names the
+-- same.
 pub record Stays (k : ℕ) (s t : State) : Type 0 where
   pub grows : Grows (actor_of k) s.world t.world
-  pub exports : (x : Actor) → find_actor (actor_of k) t.world.table.actors ≡ Some x
-      → exports_kept k t ≡ exports_kept k s
+  pub names : (x : Actor) → find_actor (actor_of k) t.world.table.actors ≡ Some x
+      → names_kept k t ≡ names_kept k s
 
 pub stays_not : (k : ℕ) (s : State) → Stays k s s
-stays_not k s = record { grows = grows_not (actor_of k) s.world; exports = λ x found. refl }
+stays_not k s = record { grows = grows_not (actor_of k) s.world; names = λ x found. refl }
 
 pub stays_on : (k : ℕ) (s t u : State) → Stays k s t → Stays k t u → Stays k s u
 stays_on k s t u first later = record {
   grows = grows_on (actor_of k) s.world t.world u.world first.grows later.grows;
-  exports = λ x found.
+  names = λ x found.
       let before = later.grows.still x found in
-      later.exports x found ∙ first.exports before.before before.found;
+      later.names x found ∙ first.names before.before before.found;
 }
 
 -- where the world alone changes
 pub world_stays : (k : ℕ) (s : State) (w : WorldState) → Grows (actor_of k) s.world w
     → Stays k s (record s { world = w })
-world_stays k s w grows = record { grows = grows; exports = λ x found. refl }
+world_stays k s w grows = record { grows = grows; names = λ x found. refl }
 
 -- where another connection names other things
 pub other_stays : (k j : ℕ) (p : PortsState) (s : State) → k ≢ j
     → Stays k s (record s { connections = with_entry j p s.connections })
 other_stays k j p s apart = record {
   grows = grows_not (actor_of k) s.world;
-  exports = λ x found. ap exports_in (put_other j k p s.connections apart);
+  names = λ x found. ap names_in (put_other j k p s.connections apart);
 }
 
 -- ---- a connection ends
@@ -92,10 +95,10 @@ ended_not_found a w x = by (is_live a w.table) refl
 closed_stays : (k j : ℕ) (fs : List (ℕ × Fault)) (s : State) → Stays k s (record (closed j s) { faults = fs })
 closed_stays k j fs s = record {
   grows = ended_grows (actor_of j) (actor_of k) s.world;
-  exports = λ x found. elim (one_or_not k j) [
+  names = λ x found. elim (one_or_not k j) [
     | inl same ↦ absurd (ended_not_found (actor_of j) s.world x
         (ap (λ i. find_actor (actor_of i) (ended_of (actor_of j) s.world).table.actors) (sym same) ∙ found))
-    | inr apart ↦ ap exports_in (out_other j k s.connections apart)
+    | inr apart ↦ ap names_in (out_other j k s.connections apart)
   ];
 }
 
@@ -147,20 +150,20 @@ close_stays k j None s = stays_not k s
 close_stays k j (Some p) s =
     stays_on k s (closed j s) _ (closed_stays k j s.faults s) (finished_stays k [] (closed j s))
 
--- ---- a packet is taken: it exports nothing
+-- ---- a packet is taken: it exports nothing, pins nothing and notes nothing
 
 accepted_stays : (k j : ℕ) (p : PortsState) (x : Admitting) (s : State) → IsTable s.world.table → IsNamed j p s
-    → x.ports.exports ≡ p.exports → Stays k s (accepted j x (nameless j s))
+    → names_of x.ports ≡ names_of p → Stays k s (accepted j x (nameless j s))
 accepted_stays k j p x s table named is = record {
   grows = sent_grows (actor_of j) (actor_of k) x.acts s.world table named.live;
-  exports = λ y found. elim (one_or_not k j) [
+  names = λ y found. elim (one_or_not k j) [
     | inl same ↦
-        (let names = without_entry j s.connections in
-        ap (λ i. exports_in (entry_of i (with_entry j x.ports names))) same
-        ∙ ap exports_in (put_found j x.ports names) ∙ is ∙ sym (ap exports_in named.kept)
-        ∙ ap (λ i. exports_in (entry_of i s.connections)) (sym same))
+        (let others = without_entry j s.connections in
+        ap (λ i. names_in (entry_of i (with_entry j x.ports others))) same
+        ∙ ap names_in (put_found j x.ports others) ∙ is ∙ sym (ap names_in named.kept)
+        ∙ ap (λ i. names_in (entry_of i s.connections)) (sym same))
     | inr apart ↦
-        ap exports_in (put_other j k x.ports (without_entry j s.connections) apart ∙ out_other j k s.connections apart)
+        ap names_in (put_other j k x.ports (without_entry j s.connections) apart ∙ out_other j k s.connections apart)
   ];
 }
 
@@ -171,7 +174,7 @@ admitted_stays k j p t s (refused f) table named is = failing_stays k j f s
 admitted_stays k j p t s (admitted x) table named is =
     let after : State = accepted j x (nameless j s) in
     stays_on k s after _
-    (accepted_stays k j p x s table named (exports_stay j (speaking t.dialect p) s.world t.events x is))
+    (accepted_stays k j p x s table named (names_stay j (speaking t.dialect p) s.world t.events x is))
     (finished_stays k [] after)
 
 pub packet_stays : (k j : ℕ) (o : Option PortsState) (t : TurnRecord) (s : State) → IsTable s.world.table
@@ -202,7 +205,7 @@ pub fault_stays : (k a : ℕ) (o : Option Fault) (s : State) → Stays k s (tell
 fault_stays k a None s = stays_not k s
 fault_stays k a (Some f) s =
     let t : State = record s { faults = without_entry (a - 16) s.faults } in
-    stays_on k s t _ (record { grows = grows_not (actor_of k) s.world; exports = λ x found. refl })
+    stays_on k s t _ (record { grows = grows_not (actor_of k) s.world; names = λ x found. refl })
     (finished_stays k [] t)
 
 unless_stays : (k j : ℕ) (o : Option Fault) (p : PortsState) (b : Batch) (s : State) → k ≢ j

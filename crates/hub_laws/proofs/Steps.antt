@@ -167,7 +167,7 @@ named_of k p s is = by (is_live (actor_of k) s.world.table) refl is
     by false dead found = absurd cc
 
 -- it is a connection
-come_of : (k : ℕ) (p : PortsState) (s : State) → IsHub [] s → IsNamed k p s → 1 ≤ k
+pub come_of : (k : ℕ) (p : PortsState) (s : State) → IsHub [] s → IsNamed k p s → 1 ≤ k
 come_of zero p s h n = absurd (let clash : None ≡ Some p = sym h.first ∙ n.kept in cc)
 come_of (suc k) p s h n = omega arith
 

@@ -25,6 +25,7 @@ use Rattle.ac_world.specs.Worlds.{actor_of}
 use Rattle.ac_world.specs.Behaviours.{Behaviour, answer_for, asks, dataspace, gatekeeper}
 use Rattle.ac_world.specs.Aims.{aim_at, observer_in}
 use Rattle.ac_world.specs.Lemmas.Asking.{among_asked}
+use Rattle.rl_ports.specs.Ports.{ExportTable}
 use Rattle.hub_laws.specs.Wanting.{passing}
 use Rattle.hub_laws.specs.Scratch.{Pair, distinct, as_sequence, captures_by, pair_at, pair_aimed, told_by, told_over}
 use Rattle.hub_laws.specs.Scratch.{told_replies, told_reply}
@@ -56,12 +57,12 @@ goes_passing y a (k ∷ ks) = by (y.aim k) refl (goes_passing y a ks)
         is ∙ ap (λ l. cond (aim.at.actor == a) (k ∷ l) l) rest
 
 -- n is the number of a connection, which has these exports
-abbrev pub pair_or : List Plain → ℕ → Plain → Option Aim → Pair
+abbrev pub pair_or : ExportTable → ℕ → Plain → Option Aim → Pair
 pair_or exports n k None = record { oid = 0; value = k }
 pair_or exports n k (Some aim) = pair_at exports n aim.at.entity aim.value
 
 -- what the connection holds by the key
-abbrev pub pair_by : Behaviour → List Plain → ℕ → Plain → Pair
+abbrev pub pair_by : Behaviour → ExportTable → ℕ → Plain → Pair
 pair_by y exports n k = pair_or exports n k (y.aim k)
 
 -- ---- each value once
@@ -119,13 +120,13 @@ abbrev all_told : List Definition → ℕ → List Plain → List Plain
 all_told ds a vs = flat_map (told_of ds a vs) (distinct vs)
 
 -- the keys of these lists of captures are told as the pairs of what gets through
-abbrev AreTold : List Definition → List Plain → ℕ → Plain → Plain → List Plain → Type 0
+abbrev AreTold : List Definition → ExportTable → ℕ → Plain → Plain → List Plain → Type 0
 AreTold ds exports n o r cs =
     map (pair_by (dataspace ds) exports n) (map (key_with o) (filter (gets_to ds (actor_of n) r) cs))
     ≡ flat_map (λ c. pair_aimed exports n (aim_at ds c r)) cs
 
 -- each is told as its pair
-pairs_told : (ds : List Definition) (exports : List Plain) (n : ℕ) (vs : List Plain) (o : Plain)
+pairs_told : (ds : List Definition) (exports : ExportTable) (n : ℕ) (vs : List Plain) (o : Plain)
     → map (pair_by (dataspace ds) exports n) (told_of ds (actor_of n) vs o)
     ≡ told_by ds exports n vs (observer_in o) (observer_of o)
 pairs_told ds exports n vs o = by (observer_in o) (observer_of o) refl
@@ -306,7 +307,7 @@ told_wanted ds a vs k =
     ∙ any_same _ _ vs (λ o. told_where ds a vs o k)
     ∙ any_and (goes_to (dataspace ds) a k) (λ o. list_any (gives k o) vs) vs)
 
-pub wants_are_told : (ds : List Definition) (exports : List Plain) (n : ℕ) (vs : List Plain)
+pub wants_are_told : (ds : List Definition) (exports : ExportTable) (n : ℕ) (vs : List Plain)
     → IsPermutation (map (pair_by (dataspace ds) exports n) (filter (goes_to (dataspace ds) (actor_of n)) (wants vs)))
     (told_over ds exports n vs)
 wants_are_told ds exports n vs =
@@ -331,7 +332,7 @@ wants_are_told ds exports n vs =
 
 -- ---- what the gatekeeper replies
 
-module _ (ds : List Definition) (exports : List Plain) (n : ℕ) (bs : List Binding) where
+module _ (ds : List Definition) (exports : ExportTable) (n : ℕ) (bs : List Binding) where
   abbrev to_here : Plain → Bool
   to_here k = goes_to (gatekeeper ds bs) (actor_of n) k
 

@@ -18,6 +18,7 @@ use Rattle.hub_laws.specs.Endings.{HaveEnded}
 use Rattle.hub_laws.specs.Presence.{ArePresent}
 use Rattle.hub_laws.specs.Refusals.{whose, IsLeft, IsDismissed, spreads_of, HasFailed}
 use Rattle.hub_laws.specs.Refusals.{IsSpread, IsOver, is_named}
+use Rattle.hub_laws.specs.Noting.{NotesWhatItGot}
 use Rattle.hub_laws.specs.Settled.{HoldsWhatItGot, HoldsFromScratch}
 
 -- each step meets its condition in the state that the steps before it leave
@@ -46,6 +47,12 @@ Endings = AfterAll HaveEnded
 abbrev pub Holdings : Type 0
 Holdings =
     (ds : List Definition) (k : ℕ) (steps : List Step) → AreAllowed (opening ds) steps → HoldsWhatItGot ds k steps
+
+-- what a live connection notes is exactly what the rows mention that it has got
+abbrev pub Notes : Type 0
+Notes =
+    (ds : List Definition) (k : ℕ) (steps : List Step) → AreAllowed (opening ds) steps
+    → NotesWhatItGot k (replay ds steps)
 
 -- where nothing is pending, it holds exactly what is captured from scratch
 abbrev pub SettledHoldings : Type 0

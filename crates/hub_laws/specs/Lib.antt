@@ -1,6 +1,7 @@
 pub mod Delivery
 pub mod Endings
 pub mod Laws
+pub mod Noting
 pub mod Posting
 pub mod Presence
 pub mod Refusals

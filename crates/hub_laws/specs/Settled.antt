@@ -7,24 +7,23 @@ use Rattle.rl_packet.specs.declared.holding.Holding.{Holding}
 use Rattle.ac_table.specs.Tables.{is_live}
 use Rattle.ac_world.specs.Worlds.{Deliveries, held_by, actor_of}
 use Rattle.ac_world.specs.declared.held.Held.{Held}
-use Rattle.pv_value.specs.Plain.{Plain}
 use Rattle.ps_schema.specs.declared.Definition.{Definition}
-use Rattle.rl_ports.specs.Ports.{place_of}
+use Rattle.rl_ports.specs.Ports.{ExportTable, place_of}
 use Rattle.rl_wire.specs.Crossing.{crossed_out, foreign_in}
 use Rattle.hub_machine.specs.Replays.{replay, sent_to, IsSettled}
 use Rattle.hub_machine.specs.declared.steps.Step.{Step}
 use Rattle.hub_laws.specs.Scratch.{Pair, scratch, exports_of}
 
 -- a delivery as connection k knows it, which has these exports
-abbrev pub holding_of : List Plain → ℕ → ℕ × Held → Holding
+abbrev pub holding_of : ExportTable → ℕ → ℕ × Held → Holding
 holding_of exports k e = record { oid = e.1.entity; handle = e.0; value = crossed_out exports k e.1.value }
 
 -- the references in a delivery, those to its own objects excepted, are exported: each has a number of its own
-abbrev pub HasNumbers : List Plain → ℕ → ℕ × Held → Type 0
-HasNumbers exports k e = AllByRecursion (λ r. is_some (place_of r exports) ≡ true) (foreign_in k e.1.value)
+abbrev pub HasNumbers : ExportTable → ℕ → ℕ × Held → Type 0
+HasNumbers exports k e = AllByRecursion (λ r. is_some (place_of r exports.in_force) ≡ true) (foreign_in k e.1.value)
 
 -- holdings are what was got, as the connection knows it by these exports, each reference by a number of its own
-abbrev pub AreWhatItGot : List Plain → ℕ → Deliveries → List Holding → Type 0
+abbrev pub AreWhatItGot : ExportTable → ℕ → Deliveries → List Holding → Type 0
 AreWhatItGot exports k got holdings =
     (holdings ≡ holdings_in_order (map (holding_of exports k) got)) × AllByRecursion (HasNumbers exports k) got
 

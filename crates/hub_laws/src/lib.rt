@@ -8,8 +8,9 @@
 #![tactic(auto)]
 
 ghost use Rattle.hub_laws.specs.Laws.{Delivery, SettledDelivery, Wants, Endings};
-ghost use Rattle.hub_laws.specs.Laws.{Holdings, SettledHoldings, Presence, Handles, Refusals};
-ghost use Rattle.hub_laws.specs.Laws.{WhoEnds, WhichWatchersEnd, EndsAtOnce, EndingsSpareOthers};
+ghost use Rattle.hub_laws.specs.Laws.{Holdings, Notes, SettledHoldings, Presence, Handles};
+ghost use Rattle.hub_laws.specs.Laws.{Refusals, WhoEnds, WhichWatchersEnd, EndsAtOnce};
+ghost use Rattle.hub_laws.specs.Laws.{EndingsSpareOthers};
 ghost use Rattle.hub_laws.specs.Posting.{PostedOnce, AreOutboxes};
 ghost use Rattle.hub_laws.specs.Saying.{SaysMessages, AnswersSyncs, MessagesArrive};
 
@@ -36,9 +37,11 @@ pub fn endings_leave_nothing()
     ensures { Endings }
 {}
 
-/// Holdings: what each live connection holds by the packets that it was sent is what it has got.
+/// Holdings: what each live connection holds by the packets that it was sent is what it has got, by
+/// its exports of now; and it notes exactly which numbers the rows mention that it has got.
 pub fn holdings_are_what_was_got()
-    ensures { Holdings }
+    ensures holdings { Holdings }
+    ensures notes { Notes }
 {}
 
 /// Settled holdings: where nothing is pending, each live connection holds exactly what is captured

@@ -14,8 +14,9 @@ use Rattle.ac_world.specs.Worlds.{WorldState, actor_of, is_system, entry_of, wit
 use Rattle.ac_world.specs.Lemmas.Entries.{KeysAscend, ascend_none, ascend_with, put_found, put_other}
 use Rattle.ac_world.specs.Lemmas.Entries.{out_other, out_gone}
 use Rattle.rl_packet.specs.declared.packets.Dialect.{Dialect}
+use Rattle.rl_ports.specs.declared.ports.Inbound.{Inbound}
 use Rattle.rl_ports.specs.declared.ports.Inbound.TheVariants.{Row}
-use Rattle.rl_ports.specs.Ports.{PortsState, speaking, inbound_of, ports_to, with_exports}
+use Rattle.rl_ports.specs.Ports.{PortsState, speaking, inbound_of, ports_to}
 use Rattle.hub_machine.specs.Admission.{Admitting, before_all, weight_of_row}
 use Rattle.hub_valid.specs.Lemmas.Lives.{rows_posted}
 use Rattle.hub_laws.proofs.EndingActors.{others_found, others_keep}
@@ -51,11 +52,12 @@ still_entered k old new ports s t keeps e = record {
   light = subst (λ n. n ≤ 4194304) (sym (same_weight (actor_of k) old new s t keeps)) e.light;
 }
 
--- exports are no handles
-pub exports_entered : (k : ℕ) (rows : List TableRow) (exports : List Plain) (ports : PortsState)
-    → IsEntered k rows ports → IsEntered k rows (with_exports exports ports)
-exports_entered k rows exports ports e =
-    record { come = e.come; ascend = e.ascend; stand = e.stand; apart = e.apart; light = e.light }
+-- what isn't handles doesn't matter
+pub handles_entered : (k : ℕ) (rows : List TableRow) (ports after : PortsState) → after.handles ≡ ports.handles
+    → IsEntered k rows ports → IsEntered k rows after
+handles_entered k rows ports after same e =
+    let f = subst (λ (hs : List (ℕ × Inbound)). IsEntered k rows (record ports { handles = hs })) (sym same) e in
+    record { come = f.come; ascend = f.ascend; stand = f.stand; apart = f.apart; light = f.light }
 
 -- nor is a dialect one
 pub speaking_entered : (k : ℕ) (rows : List TableRow) (d : Option Dialect) (ports : PortsState)

@@ -16,14 +16,14 @@ use Rattle.ac_world.specs.declared.watched.Watched.{Watched}
 use Rattle.ac_world.specs.Worlds.{entry_of, with_entry, without_entry, is_system, binding, watching}
 use Rattle.ac_world.specs.Lemmas.Entries.{KeysAscend, ascend_none, ascend_with, ascend_without, put_back}
 use Rattle.rl_packet.specs.declared.packets.Turn.{Turn as TurnRecord}
-use Rattle.rl_ports.specs.Ports.{PortsState, ports_to, with_exports}
+use Rattle.rl_ports.specs.Ports.{PortsState, ports_to}
 use Rattle.hub_machine.specs.declared.faults.Fault.{Fault}
 use Rattle.hub_machine.specs.State.{State, opening, ports_of}
 use Rattle.hub_machine.specs.Admission.{Admitted, refused, admitted, turn_admission}
 use Rattle.hub_machine.specs.Endings.{nameless, closed, failed, finished}
 use Rattle.hub_machine.specs.Machine.{opened, refusal, arrive_unless, accepted, judged, packet_at, bind_unless}
 use Rattle.hub_machine.specs.Machine.{is_barred, is_unwatchable, watch_unless, bad_at, close_at, telling_fault}
-use Rattle.hub_machine.specs.Machine.{exporting, exports_after, told_unless, tell, fault_for, tell_fault, after_turn}
+use Rattle.hub_machine.specs.Machine.{exporting, names_after, told_unless, tell, fault_for, tell_fault, after_turn}
 use Rattle.hub_machine.specs.Machine.{turn_of, rest, work_by, is_worn, done, step, unchanged, actor_reference}
 use Rattle.hub_machine.specs.Replays.{run_from, replay}
 use Rattle.hub_machine.specs.declared.steps.Step.{Step}
@@ -156,7 +156,7 @@ unless_few : (o : Option Fault) (k : ℕ) (p : PortsState) (b : Batch) (s : Stat
 unless_few (Some fault) k p b s found f = ends_few [] (failed k fault s) (few_without k s.connections f)
 unless_few None k p b s found f =
     ends_few [] (exporting k b p s)
-    (few_renamed k (with_exports (exports_after k b p) p) p s.connections found f)
+    (few_renamed k (names_after k b p) p s.connections found f)
 
 tell_few : (k : ℕ) (o : Option PortsState) (b : Batch) (s : State) → ports_of k s ≡ o → IsFew s
     → IsFew (tell k o b s).state

@@ -17,7 +17,7 @@ use Rattle.ac_world.specs.Lemmas.Entries.{ascend_none, ascend_without, each_foun
 use Rattle.rl_packet.specs.declared.packets.Dialect.{Dialect}
 use Rattle.rl_packet.specs.declared.packets.Turn.{Turn as TurnRecord}
 use Rattle.rl_packet.specs.declared.packets.TurnEvent.{TurnEvent}
-use Rattle.rl_ports.specs.Ports.{PortsState, speaking, ports_to, with_exports}
+use Rattle.rl_ports.specs.Ports.{PortsState, speaking, ports_to}
 use Rattle.hub_machine.specs.Limits.{most_events}
 use Rattle.hub_machine.specs.declared.faults.Fault.{Fault}
 use Rattle.hub_machine.specs.declared.faults.Fault.TheVariants.{BadPacket}
@@ -32,9 +32,10 @@ use Rattle.hub_machine.specs.Admission.{all_admitted}
 use Rattle.hub_machine.specs.Causes.{after_all}
 use Rattle.hub_machine.specs.Endings.{nameless, closed, failed, dismissed, finished}
 use Rattle.hub_machine.specs.Lemmas.Dialects.{by_dialect}
+use Rattle.hub_machine.specs.Lemmas.Naming.{handles_after}
 use Rattle.hub_machine.specs.Machine.{unchanged, opened, refusal, arrive_unless, accepted, judged, packet_at, bad_at}
 use Rattle.hub_machine.specs.Machine.{bind_unless, is_barred, is_unwatchable, watch_unless, actor_reference}
-use Rattle.hub_machine.specs.Machine.{close_at, exports_after, exporting, telling_fault, told_unless, tell, fault_for}
+use Rattle.hub_machine.specs.Machine.{close_at, names_after, exporting, telling_fault, told_unless, tell, fault_for}
 use Rattle.hub_machine.specs.Machine.{tell_fault, after_turn, turn_of, rest, work_by, is_worn, done, step}
 use Rattle.hub_machine.specs.Replays.{run_from, replay}
 use Rattle.hub_valid.specs.Validity.{IsValid, IsValidEntry, lived}
@@ -54,7 +55,7 @@ use Rattle.hub_laws.proofs.Steps.{named_of, step_hub}
 use Rattle.hub_laws.proofs.Turns.{still_met}
 use Rattle.hub_limits.specs.Weighing.{RowsAreWeighed}
 use Rattle.hub_limits.proofs.Entered.{AreEntered, IsEntered, still_all, one_named, were_named, moved_keeps}
-use Rattle.hub_limits.proofs.Entered.{start_so_far, entered_then, ended_entered, come_entered, exports_entered}
+use Rattle.hub_limits.proofs.Entered.{start_so_far, entered_then, ended_entered, come_entered, handles_entered}
 use Rattle.hub_limits.proofs.Entered.{speaking_entered, turn_keeps}
 use Rattle.hub_limits.proofs.Weights.{weighs}
 use Rattle.hub_limits.proofs.Within.{plan_of, IsSoFar, all_so_far, admitted_free}
@@ -214,8 +215,8 @@ told_named : (o : Option Fault) (k : ℕ) (ports : PortsState) (b : Batch) (s : 
 told_named (Some f) k ports b s e one = finished_named [] (failed k f s) (failed_named k f s e)
 told_named None k ports b s e one =
     finished_named [] (exporting k b ports s)
-    (one_named k s.world.table.rows (with_exports (exports_after k b ports) ports) s.connections
-    (exports_entered k s.world.table.rows (exports_after k b ports) ports one.entered) e)
+    (one_named k s.world.table.rows (names_after k b ports) s.connections
+    (handles_entered k s.world.table.rows ports (names_after k b ports) (handles_after k b ports) one.entered) e)
 
 -- to whoever it is
 tell_named : (k : ℕ) (o : Option PortsState) (b : Batch) (s : State) → AreNamed s → ports_of k s ≡ o

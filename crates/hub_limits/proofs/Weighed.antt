@@ -68,10 +68,10 @@ pub record IsWeighed (k : ℕ) (w : WorldState) (x : Admitting) (t : TableState)
   pub rows : x.rows ≡ weighs (actor_of k) t.rows
   pub few : x.rows ≤ 4194304
 
--- a handle of a value that the caveats refused
-pub refused_weighed : (k h : ℕ) (w : WorldState) (to : Cap) (x : Admitting) (t : TableState) → IsWeighed k w x t
-    → IsWeighed k w (after_assertion w to None h x) t
-refused_weighed k h w to x t i = record {
+-- a handle of a value that is stale, or that the caveats refused
+pub refused_weighed : (k h : ℕ) (w : WorldState) (x : Admitting) (t : TableState) → IsWeighed k w x t
+    → IsWeighed k w (record x { ports = taken_into_use h Refused x.ports }) t
+refused_weighed k h w x t i = record {
   table = i.table;
   live = i.live;
   next = i.next;

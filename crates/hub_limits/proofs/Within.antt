@@ -20,10 +20,10 @@ use Rattle.rl_ports.specs.Ports.{inbound_of}
 use Rattle.hub_machine.specs.declared.faults.Fault.{Fault}
 use Rattle.hub_machine.specs.declared.faults.Fault.TheVariants.{Limit}
 use Rattle.hub_machine.specs.Faults.{where_it_is}
-use Rattle.hub_machine.specs.Admission.{Admitting, admitted, unless, all_admitted, cap_at, cause_of, cause_at}
-use Rattle.hub_machine.specs.Admission.{event_cause, row_cause, rows_with, weighed, load_with, let_through, kept}
-use Rattle.hub_machine.specs.Admission.{inside}
-use Rattle.hub_machine.specs.Admission.{after, after_at, after_event, after_assertion, after_retraction, after_message}
+use Rattle.hub_machine.specs.Admission.{Admitting, admitted, unless, all_admitted, Aim, object, stale, unknown, aim_at}
+use Rattle.hub_machine.specs.Admission.{cause_of, cause_at, event_cause, row_cause, rows_with, weighed, load_with}
+use Rattle.hub_machine.specs.Admission.{through, peer_kept, after, after_at, after_event, after_stale}
+use Rattle.hub_machine.specs.Admission.{after_assertion, after_retraction, after_message, after_sync}
 use Rattle.hub_machine.specs.Causes.{after_all, NoneAgainst}
 use Rattle.hub_laws.proofs.Finding.{found_handle}
 use Rattle.hub_limits.proofs.Weighed.{IsWeighed, refused_weighed, freed_weighed, said_weighed, made_weighed}
@@ -76,7 +76,7 @@ not_over false f is = refl
 -- an assertion, of a value that gets through or that the caveats refuse
 assertion_so_far : (k h : ℕ) (w : WorldState) (to : Cap) (o : Option Plain) (x : Admitting) → row_cause w to o x ≡ None
     → IsSoFar k w x → IsSoFar k w (after_assertion w to o h x)
-assertion_so_far k h w to None x free i = refused_weighed k h w to x (plan_of k w x).table i
+assertion_so_far k h w to None x free i = refused_weighed k h w x (plan_of k w x).table i
 assertion_so_far k h w to (Some v) x free i =
     let light : nat_lt 4194304 (rows_with (weighed v) x) ≡ false =
     not_over (nat_lt 4194304 (rows_with (weighed v) x)) (Limit 5 (rows_with (weighed v) x)) (or_none _ _ free).0 in
@@ -105,19 +105,32 @@ message_so_far k w to (Some v) x i =
     (said_weighed k w (x.acts ++ act.Message to.actor to.entity v ∷ []) (load_with w to (weighed v) x) x
     (plan_of k w x).table i)
 
+-- a sync
+sync_so_far : (k : ℕ) (w : WorldState) (to : Cap) (o : Option Plain) (x : Admitting) → IsSoFar k w x
+    → IsSoFar k w (after_sync w to o x)
+sync_so_far k w to None x i = i
+sync_so_far k w to (Some v) x i =
+    subst (IsWeighed k w (after_sync w to (Some v) x))
+    (sym (table_more k w x.acts (act.Sync to.actor to.entity v)))
+    (said_weighed k w (x.acts ++ act.Sync to.actor to.entity v ∷ []) (load_with w to (weighed v) x) x
+    (plan_of k w x).table i)
+
 -- whatever the event
 event_so_far : (k : ℕ) (w : WorldState) (to : Cap) (e : Event) (x : Admitting) → event_cause k w to e x ≡ None
     → IsSoFar k w x → IsSoFar k w (after_event k w to e x)
 event_so_far k w to (Assert v h) x free i =
-    assertion_so_far k h w to (let_through w to (kept k v x)) x (or_none _ _ free).1 i
+    assertion_so_far k h w to (through k w to v x) x (or_none _ _ free).1 i
 event_so_far k w to (Retract h) x free i = retraction_so_far k h w (inbound_of h x.ports) x refl i
-event_so_far k w to (Message v) x free i = message_so_far k w to (let_through w to (kept k v x)) x i
-event_so_far k w to (Sync peer) x free i =
-    let v : Plain = inside (kept k peer x) in
-    subst (IsWeighed k w (after_event k w to (Sync peer) x))
-    (sym (table_more k w x.acts (act.Sync to.actor to.entity v)))
-    (said_weighed k w (x.acts ++ act.Sync to.actor to.entity v ∷ []) (load_with w to (weighed v) x) x
-    (plan_of k w x).table i)
+event_so_far k w to (Message v) x free i = message_so_far k w to (through k w to v x) x i
+event_so_far k w to (Sync peer) x free i = sync_so_far k w to (peer_kept k peer x) x i
+
+-- whatever the event is at a released export
+stale_so_far : (k : ℕ) (w : WorldState) (e : Event) (x : Admitting) → IsSoFar k w x
+    → IsSoFar k w (after_stale w e x)
+stale_so_far k w (Assert v h) x i = refused_weighed k h w x (plan_of k w x).table i
+stale_so_far k w (Retract h) x i = retraction_so_far k h w (inbound_of h x.ports) x refl i
+stale_so_far k w (Message v) x i = i
+stale_so_far k w (Sync peer) x i = i
 
 -- ---- all events
 
@@ -125,11 +138,12 @@ event_so_far k w to (Sync peer) x free i =
 pub all_so_far : (k : ℕ) (w : WorldState) (es : List TurnEvent) (x : Admitting) → NoneAgainst k w es x → IsSoFar k w x
     → IsSoFar k w (after_all k w es x)
 all_so_far k w [] x free i = i
-all_so_far k w (e ∷ es) x free i = all_so_far k w es (after k w e x) free.1 (at (cap_at e.oid x.ports) free.0)
+all_so_far k w (e ∷ es) x free i = all_so_far k w es (after k w e x) free.1 (at (aim_at e.oid x.ports) free.0)
   where
-    at : (o : Option Cap) → cause_at k w o e x ≡ None → IsSoFar k w (after_at k w o e.event x)
-    at None none = absurd cc
-    at (Some to) none = event_so_far k w to e.event x none i
+    at : (o : Aim) → cause_at k w o e x ≡ None → IsSoFar k w (after_at k w o e.event x)
+    at (object to) none = event_so_far k w to e.event x none i
+    at stale none = stale_so_far k w e.event x i
+    at unknown none = absurd cc
 
 -- against the events of a packet that is taken there is no cause, and they leave what it leaves
 pub admitted_free : (k : ℕ) (w : WorldState) (es : List TurnEvent) (x y : Admitting)

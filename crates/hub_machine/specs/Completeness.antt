@@ -13,12 +13,12 @@ use Rattle.rl_packet.specs.declared.packets.Event.TheVariants.{Assert, Retract, 
 use Rattle.rl_packet.specs.declared.packets.TurnEvent.{TurnEvent}
 use Rattle.rl_packet.specs.declared.packets.Turn.{Turn as TurnRecord}
 use Rattle.rl_ports.specs.Ports.{PortsState, speaking, is_in_use}
-use Rattle.rl_wire.specs.Crossing.{held_in, first_fault, nested}
+use Rattle.rl_wire.specs.Crossing.{references_fault, nested}
 use Rattle.hub_machine.specs.Limits.{most_events, most_handles, most_rows_weight, most_backlog, most_backlog_weight}
 use Rattle.hub_machine.specs.Faults.{Fault}
 use Rattle.hub_machine.specs.State.{State, ports_of}
-use Rattle.hub_machine.specs.Admission.{Admitting, before_all, after, kept, weighed, rows_with, load_with, inside}
-use Rattle.hub_machine.specs.Admission.{let_through, cap_at, differ}
+use Rattle.hub_machine.specs.Admission.{Admitting, before_all, after, kept, weighed, rows_with, load_with}
+use Rattle.hub_machine.specs.Admission.{through, peer_kept, Aim, object, stale, unknown, aim_at, differ}
 use Rattle.hub_machine.specs.Machine.{is_worn, packet_to, telling_fault, exports_after}
 use Rattle.hub_machine.specs.declared.steps.Step.{Step}
 use Rattle.hub_machine.specs.declared.steps.Step.TheVariants.{Bind, Watch, Arrive, Packet, Bad, Close, Turn, Work, Stop}
@@ -33,20 +33,30 @@ IsLight v = (weighed v ≤ value_weight) × (nested v ≤ value_depth)
 abbrev pub MayWait : Load → Type 0
 MayWait l = (l.count ≤ most_backlog) × (l.weight ≤ most_backlog_weight)
 
--- each export that it names is there, no reference in it has too many caveats or is too heavy, and as the server keeps
--- it the value is neither too heavy nor too deep
-abbrev pub IsFineValue : ℕ → Plain → Admitting → Type 0
-IsFineValue k v x = (first_fault x.ports.exports (held_in v) ≡ None) × IsLight (kept k v x)
+-- each export that it names was given, and no reference in it that is in force has too many caveats or is too heavy
+abbrev pub AreFineReferences : Plain → Admitting → Type 0
+AreFineReferences v x = references_fault x.ports.exports v ≡ None
 
--- the row is light enough and may wait; where the caveats refuse the value there is none
+-- as the server keeps it the value is neither too heavy nor too deep; of a stale one it keeps nothing
+abbrev pub IsLightWhere : Option Plain → Type 0
+IsLightWhere None = Unit {0}
+IsLightWhere (Some v) = IsLight v
+
+abbrev pub IsFineValue : ℕ → Plain → Admitting → Type 0
+IsFineValue k v x = AreFineReferences v x × IsLightWhere (kept k v x)
+
+-- the handle isn't in use, and there is one more to have
+abbrev pub IsFineHandle : ℕ → Admitting → Type 0
+IsFineHandle h x = (is_in_use h x.ports ≡ false) × (length x.ports.handles + 1 ≤ most_handles)
+
+-- the row is light enough and may wait; where the value is stale, or the caveats refuse it, there is none
 abbrev pub IsFineRow : WorldState → Cap → Option Plain → Admitting → Type 0
 IsFineRow w to None x = Unit {0}
 IsFineRow w to (Some v) x = (rows_with (weighed v) x ≤ most_rows_weight) × MayWait (load_with w to (weighed v) x)
 
 abbrev pub IsFineAssertion : ℕ → WorldState → Cap → Plain → ℕ → Admitting → Type 0
 IsFineAssertion k w to v h x =
-    IsFineValue k v x × (is_in_use h x.ports ≡ false) × (length x.ports.handles + 1 ≤ most_handles)
-    × IsFineRow w to (let_through w to (kept k v x)) x
+    IsFineValue k v x × IsFineHandle h x × IsFineRow w to (through k w to v x) x
 
 abbrev pub IsFineMessage : WorldState → Cap → Option Plain → Admitting → Type 0
 IsFineMessage w to None x = Unit {0}
@@ -56,19 +66,27 @@ IsFineMessage w to (Some v) x = MayWait (load_with w to (weighed v) x)
 abbrev pub IsFineEvent : ℕ → WorldState → Cap → Event → Admitting → Type 0
 IsFineEvent k w to (Assert v h) x = IsFineAssertion k w to v h x
 IsFineEvent k w to (Retract h) x = is_in_use h x.ports ≡ true
-IsFineEvent k w to (Message v) x = IsFineValue k v x × IsFineMessage w to (let_through w to (kept k v x)) x
+IsFineEvent k w to (Message v) x = IsFineValue k v x × IsFineMessage w to (through k w to v x) x
 IsFineEvent k w to (Sync peer) x =
-    IsFineValue k peer x × MayWait (load_with w to (weighed (inside (kept k peer x))) x)
+    IsFineValue k peer x × IsFineMessage w to (peer_kept k peer x) x
 
--- and its object is an export
-abbrev pub IsFineAt : ℕ → WorldState → Option Cap → Event → Admitting → Type 0
-IsFineAt k w None e x = ⊥
-IsFineAt k w (Some to) e x = IsFineEvent k w to e x
+-- the same of an event at a released export
+abbrev pub IsFineStale : Event → Admitting → Type 0
+IsFineStale (Assert v h) x = AreFineReferences v x × IsFineHandle h x
+IsFineStale (Retract h) x = is_in_use h x.ports ≡ true
+IsFineStale (Message v) x = AreFineReferences v x
+IsFineStale (Sync peer) x = AreFineReferences peer x
+
+-- and its object is or was an export
+abbrev pub IsFineAt : ℕ → WorldState → Aim → Event → Admitting → Type 0
+IsFineAt k w (object to) e x = IsFineEvent k w to e x
+IsFineAt k w stale e x = IsFineStale e x
+IsFineAt k w unknown e x = ⊥
 
 -- each event, as those before it leave what is counted
 abbrev pub AreFine : ℕ → WorldState → List TurnEvent → Admitting → Type 0
 AreFine k w [] x = Unit {0}
-AreFine k w (e ∷ es) x = IsFineAt k w (cap_at e.oid x.ports) e.event x × AreFine k w es (after k w e x)
+AreFine k w (e ∷ es) x = IsFineAt k w (aim_at e.oid x.ports) e.event x × AreFine k w es (after k w e x)
 
 -- the turn is in the connection's dialect, where both have one, and has no more events than it may, each of them fine
 pub record IsFineTurn (k : ℕ) (ports : PortsState) (t : TurnRecord) (w : WorldState) : Type 0 where

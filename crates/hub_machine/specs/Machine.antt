@@ -31,8 +31,8 @@ use Rattle.rl_packet.specs.declared.packets.Packet.TheVariants as packet
 use Rattle.ds_space.specs.References.{reference_value}
 use Rattle.rl_ports.specs.declared.ports.PortsFault.{PortsFault}
 use Rattle.rl_ports.specs.declared.ports.PortsFault.TheVariants.{Exports, Weight, NoMemory}
-use Rattle.rl_ports.specs.Ports.{PortsState, ports_to, with_exports}
-use Rattle.rl_wire.specs.Crossing.{crossed_out, foreign_in, all_exported, fault_out}
+use Rattle.rl_ports.specs.Ports.{ExportTable, PortsState, ports_to, with_exports, noted, forgotten, pinned_with, swept}
+use Rattle.rl_wire.specs.Crossing.{crossed_out, foreign_in, all_exported, exports_with, numbers_out, fault_out}
 use Rattle.hub_machine.specs.Limits.{most_connections, last_dataspace, worn_handle, worn_connections}
 use Rattle.hub_machine.specs.Faults.{Fault, Overrun, error_of}
 use Rattle.rl_packet.specs.Wired.{IsTurnEvent}
@@ -163,7 +163,7 @@ abbrev pub foreign_to : ℕ → Batch → List Plain
 foreign_to k b = flat_map (λ e. foreign_told k (told_value e)) b.events
 
 -- an event as connection k is told of it, its references as the connection knows them by its exports
-abbrev pub sent_event : List Plain → ℕ → Told → TurnEvent
+abbrev pub sent_event : ExportTable → ℕ → Told → TurnEvent
 sent_event exports k (told.Assert h entity v) =
     record { oid = entity; event = Assert (crossed_out exports k v) h }
 sent_event exports k (told.Retract h entity) = record { oid = entity; event = Retract h }
@@ -173,7 +173,7 @@ sent_event exports k (told.Sync entity peer) =
     record { oid = entity; event = Sync (crossed_out exports k (embedded peer)) }
 
 -- a connection without a dialect is told in the newer one
-abbrev pub packet_to : List Plain → Option Dialect → ℕ → Batch → Reply
+abbrev pub packet_to : ExportTable → Option Dialect → ℕ → Batch → Reply
 packet_to exports d k b =
     Sent (packet.Turn (spoken (unwrap_or d Newer) (map (sent_event exports k) b.events)))
 
@@ -186,13 +186,36 @@ overrun_by NoMemory = None
 abbrev pub telling_fault : ℕ → Batch → PortsState → Option Fault
 telling_fault k b ports = option_and_then overrun_by (fault_out ports.exports (foreign_to k b))
 
--- the exports once the batch is told
-abbrev pub exports_after : ℕ → Batch → PortsState → List Plain
+-- the exports as the batch is told
+abbrev pub exports_after : ℕ → Batch → PortsState → ExportTable
 exports_after k b ports = all_exported ports.exports (foreign_to k b)
 
+-- the references in a value that connection k is told of are exported
+abbrev pub exporting_in : ℕ → Plain → PortsState → PortsState
+exporting_in k v ports = with_exports (exports_with ports.exports k v) ports
+
+-- the numbers by which they are told
+abbrev pub numbers_told : ℕ → Plain → PortsState → List ℕ
+numbers_told k v ports = numbers_out (exports_with ports.exports k v) k v
+
+-- a row that connection k is told of mentions exports until it is taken back; those in what is said are pinned
+abbrev pub naming : ℕ → Told → PortsState → PortsState
+naming k (told.Assert h entity v) ports = noted h (numbers_told k v ports) (exporting_in k v ports)
+naming k (told.Retract h entity) ports = forgotten h ports
+naming k (told.Message entity v) ports = pinned_with (numbers_told k v ports) (exporting_in k v ports)
+naming k (told.Sync entity peer) ports =
+    pinned_with (numbers_told k (embedded peer) ports) (exporting_in k (embedded peer) ports)
+
+abbrev pub all_named : ℕ → List Told → PortsState → PortsState
+all_named k [] ports = ports
+all_named k (e ∷ es) ports = all_named k es (naming k e ports)
+
+-- once the batch is told, the exports go that are neither pinned nor mentioned by a row
+abbrev pub names_after : ℕ → Batch → PortsState → PortsState
+names_after k b ports = swept (all_named k b.events ports)
+
 abbrev pub exporting : ℕ → Batch → PortsState → State → State
-exporting k b ports s =
-    record s { connections = with_entry k (with_exports (exports_after k b ports) ports) s.connections }
+exporting k b ports s = record s { connections = with_entry k (names_after k b ports) s.connections }
 
 -- the packet is sent, and what it tells of is exported; or the connection ends
 abbrev pub told_unless : Option Fault → ℕ → PortsState → Batch → State → After

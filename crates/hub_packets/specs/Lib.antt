@@ -1,3 +1,4 @@
+pub mod Aims
 pub mod Counting
 pub mod Refusals
 pub mod Telling

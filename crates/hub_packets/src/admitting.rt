@@ -1,18 +1,20 @@
 //! The admission of a packet: what its events do, or why one of them is refused.
 ghost use Rattle.std.specs.Prelude.{◌≡◌, ◌<◌, ◌≤◌, ◌+◌, ◌^◌, length, None, Some};
-ghost use Rattle.std.specs.Prelude.{IfOk, IfErr, OnOk};
+ghost use Rattle.std.specs.Prelude.{IfOk, IfErr, OnOk, option_map};
 ghost use Rattle.rl_ports.specs.Ports.{inbound_of};
 ghost use Rattle.hub_machine.specs.Limits.{most_events, worn_handle};
-ghost use Rattle.hub_machine.specs.Admission.{before_all, weighed, rows_with, load_with, waits_at};
-ghost use Rattle.hub_machine.specs.Admission.{inside, kept, let_through, cap_at, value_cause};
+ghost use Rattle.hub_machine.specs.Admission.{before_all, rows_with, load_with, waits_at};
+ghost use Rattle.hub_machine.specs.Admission.{inside, kept, let_through, through, aim_at, value_cause};
+ghost use Rattle.hub_machine.specs.Admission.{references_cause, taking_cause, stale_cause};
 ghost use Rattle.hub_machine.specs.Admission.{load_cause, handle_cause, row_cause, said_cause};
 ghost use Rattle.hub_machine.specs.Admission.{retraction_cause, event_cause, cause_of, row_weighs};
 ghost use Rattle.hub_machine.specs.Admission.{after_assertion, after_retraction, after_message};
-ghost use Rattle.hub_machine.specs.Admission.{after_sync, after_event, after, all_admitted};
+ghost use Rattle.hub_machine.specs.Admission.{after_sync, after_event, after_stale, after, all_admitted};
 ghost use Rattle.hub_machine.specs.Admission.{admission, admitted};
 ghost use Rattle.hub_machine.specs.Faults.{◌<|>◌};
 ghost use Rattle.hub_packets.specs.Refusals.{IsWhyRefused, IsRefusedFor};
-ghost use Rattle.hub_packets.specs.Counting.{taking_cause, counted_cause};
+ghost use Rattle.hub_packets.specs.Aims.{aim_shown};
+ghost use Rattle.hub_packets.specs.Counting.{counted_cause};
 
 use crate::refusals::{Refusal, refuse_for};
 use ac_world::{Act, BEFORE_CONNECTIONS, FIRST_CONNECTION, Load, World};
@@ -21,8 +23,8 @@ use hub_machine::{BACKLOG, BACKLOG_WEIGHT, Fault, HANDLES, ROWS_WEIGHT, TURN_EVE
 use lc_watch::Behaves;
 use pv_value::{NoMemory, Node, Value, weight};
 use rl_packet::{Event, TurnEvent, TurnEvents};
-use rl_ports::{Inbound, Ports};
-use rl_wire::wire_in;
+use rl_ports::{Exported, Inbound, Ports};
+use rl_wire::{Crossed, references_in, wire_in};
 use sr_caveat::Cap;
 use sr_pass::{Judge, pass};
 use std::alloc::Global;
@@ -61,6 +63,17 @@ impl Model for Admitting {
       load = x.load;
       next = x.next;
     } };
+}
+
+/// Where an event is.
+#[derive(Drop)]
+pub(crate) enum Aim {
+    /// At an object.
+    Object(Cap),
+    /// At an export that was released.
+    Stale,
+    /// At none that ever was.
+    Unknown,
 }
 
 /// More than may wait for the system's actors.
@@ -158,24 +171,61 @@ impl Admitting {
         }
     }
 
-    /// The reference that an export of this number is.
-    fn cap_at(&self, oid: u64) -> Result<Option<Cap>, NoMemory>
-        ensures { IfOk result (λ c. c ≡ cap_at oid self.now.ports) }
+    /// Where an event at the export of this number is.
+    fn aim_at(&self, oid: u64) -> Result<Aim, NoMemory>
+        ensures { IfOk result (λ a. aim_shown a ≡ aim_at oid self.now.ports) }
     {
-        match self.ports.reference_at(oid) {
-            Some(cap) => Ok(Some(cap.copy()?)),
-            None => Ok(None),
+        match self.ports.cap_of(oid) {
+            Exported::InForce(export) => match export.cap() {
+                Some(cap) => Ok(Aim::Object(cap.copy()?)),
+                None => Ok(Aim::Unknown),
+            },
+            Exported::Released => Ok(Aim::Stale),
+            Exported::Never => Ok(Aim::Unknown),
         }
     }
 
-    /// A value that the connection sent, as the server keeps it.
-    fn kept(&self, alloc: Global, connection: u32, value: &Value) -> Result<Value, Refusal>
+    /// A value that the connection sent, as the server keeps it; nothing where it is stale.
+    fn kept(&self, alloc: Global, connection: u32, value: &Value) -> Result<Option<Value>, Refusal>
         requires { connection ≤ 2 ^ 31 }
         ensures kept { IfOk result (λ v. v ≡ kept connection value.now self.now) }
         ensures free { OnOk result (value_cause connection value.now self.now ≡ None) }
         ensures cause { IfErr result (IsWhyRefused (value_cause connection value.now self.now)) }
     {
-        Ok(wire_in(alloc, &self.ports, connection, value)?)
+        match wire_in(alloc, &self.ports, connection, value)? {
+            Crossed::Whole(value) => Ok(Some(value)),
+            Crossed::Stale => Ok(None),
+        }
+    }
+
+    /// The references alone in a value that the connection sent are looked at.
+    fn check_references(&self, alloc: Global, value: &Value) -> Result<(), Refusal>
+        ensures free { OnOk result (references_cause value.now self.now ≡ None) }
+        ensures cause { IfErr result (IsWhyRefused (references_cause value.now self.now)) }
+    {
+        references_in(alloc, &self.ports, value)?;
+        Ok(())
+    }
+
+    /// What gets through to an object of a value that the connection sent.
+    fn through<S: Space + Drop, J: Judge + Drop, B: Behaves + Drop>(
+        &self,
+        alloc: Global,
+        connection: u32,
+        to: &Cap,
+        value: &Value,
+        world: &World<S, J, B>,
+    ) -> Result<Option<Value>, Refusal>
+        requires { connection ≤ 2 ^ 31 }
+        ensures through { IfOk result
+            (λ v. v ≡ through connection world.now to.now value.now self.now) }
+        ensures free { OnOk result (value_cause connection value.now self.now ≡ None) }
+        ensures cause { IfErr result (IsWhyRefused (value_cause connection value.now self.now)) }
+    {
+        match self.kept(alloc, connection, value)? {
+            Some(value) => Ok(let_through(alloc, to, &value, world)?),
+            None => Ok(None),
+        }
     }
 
     /// A handle that is in use.
@@ -275,26 +325,24 @@ impl Admitting {
         }
     }
 
-    /// A value is asserted, where nothing refuses it.
+    /// What got through of a value is asserted, where nothing refuses it.
     fn admit_assertion<S: Space + Drop, J: Judge + Drop, B: Behaves + Drop>(
         &mut self,
-        alloc: Global,
         to: &Cap,
-        value: &Value,
+        passed: Option<Value>,
         handle: u64,
         world: &World<S, J, B>,
     ) -> Result<(), Refusal>
         requires { self.old.next < 2 ^ 63 }
-        ensures free { OnOk result ((taking_cause handle self.old
-            <|> row_cause world.now to.now (let_through world.now to.now value.now) self.old)
+        ensures free { OnOk result
+            ((taking_cause handle self.old <|> row_cause world.now to.now passed self.old)
             ≡ None) }
-        ensures cause { IfErr result (IsWhyRefused (taking_cause handle self.old
-            <|> row_cause world.now to.now (let_through world.now to.now value.now) self.old)) }
-        ensures after { OnOk result (self.new ≡ after_assertion world.now to.now
-            (let_through world.now to.now value.now) handle self.old) }
+        ensures cause { IfErr result (IsWhyRefused
+            (taking_cause handle self.old <|> row_cause world.now to.now passed self.old)) }
+        ensures after { OnOk result
+            (self.new ≡ after_assertion world.now to.now passed handle self.old) }
     {
         self.check_handle(handle)?;
-        let passed = let_through(alloc, to, value, world)?;
         self.admit_passed(to, passed, handle, world)
     }
 
@@ -370,40 +418,55 @@ impl Admitting {
         Ok(())
     }
 
-    /// A value is said, where nothing refuses it; one that doesn't get through is dropped.
+    /// What got through of a value is said, where nothing refuses it; what didn't is dropped.
     fn admit_message<S: Space + Drop, J: Judge + Drop, B: Behaves + Drop>(
         &mut self,
-        alloc: Global,
         to: &Cap,
-        value: &Value,
+        passed: Option<Value>,
         world: &World<S, J, B>,
     ) -> Result<(), Refusal>
-        ensures free { OnOk result
-            (said_cause world.now to.now (let_through world.now to.now value.now) self.old ≡ None) }
-        ensures cause { IfErr result (IsWhyRefused
-            (said_cause world.now to.now (let_through world.now to.now value.now) self.old)) }
-        ensures after { OnOk result
-            (self.new
-            ≡ after_message world.now to.now (let_through world.now to.now value.now) self.old) }
+        ensures free { OnOk result (said_cause world.now to.now passed self.old ≡ None) }
+        ensures cause { IfErr result (IsWhyRefused (said_cause world.now to.now passed self.old)) }
+        ensures after { OnOk result (self.new ≡ after_message world.now to.now passed self.old) }
     {
-        match let_through(alloc, to, value, world)? {
+        match passed {
             Some(value) => self.say(to, value, world),
             None => Ok(()),
         }
     }
 
-    /// A peer asks for an answer, where nothing refuses it.
+    /// A peer asks for an answer, where nothing refuses it; a stale one is dropped.
     fn admit_sync<S: Space + Drop, J: Judge + Drop, B: Behaves + Drop>(
+        &mut self,
+        to: &Cap,
+        peer: Option<Value>,
+        world: &World<S, J, B>,
+    ) -> Result<(), Refusal>
+        ensures free { OnOk result
+            (said_cause world.now to.now (option_map inside peer) self.old ≡ None) }
+        ensures cause { IfErr result
+            (IsWhyRefused (said_cause world.now to.now (option_map inside peer) self.old)) }
+        ensures after { OnOk result
+            (self.new ≡ after_sync world.now to.now (option_map inside peer) self.old) }
+    {
+        match peer {
+            Some(peer) => self.ask(to, inside(&peer), world),
+            None => Ok(()),
+        }
+    }
+
+    /// A peer asks for an answer, where nothing refuses it.
+    fn ask<S: Space + Drop, J: Judge + Drop, B: Behaves + Drop>(
         &mut self,
         to: &Cap,
         peer: &Value,
         world: &World<S, J, B>,
     ) -> Result<(), Refusal>
-        ensures free { OnOk result
-            (load_cause (load_with world.now to.now (weighed peer.now) self.old) ≡ None) }
-        ensures cause { IfErr result (IsWhyRefused
-            (load_cause (load_with world.now to.now (weighed peer.now) self.old))) }
-        ensures after { OnOk result (self.new ≡ after_sync world.now to.now peer.now self.old) }
+        ensures free { OnOk result (said_cause world.now to.now (Some peer.now) self.old ≡ None) }
+        ensures cause { IfErr result
+            (IsWhyRefused (said_cause world.now to.now (Some peer.now) self.old)) }
+        ensures after { OnOk result
+            (self.new ≡ after_sync world.now to.now (Some peer.now) self.old) }
     {
         let load = self.load_with(to, weight(peer), world);
         refuse_for(load_cause(load))?;
@@ -433,18 +496,42 @@ impl Admitting {
     {
         match event {
             Event::Assert(value, handle) => {
-                let value = self.kept(alloc, connection, value)?;
-                self.admit_assertion(alloc, to, &value, *handle, world)
+                let passed = self.through(alloc, connection, to, value, world)?;
+                self.admit_assertion(to, passed, *handle, world)
             }
             Event::Retract(handle) => self.admit_retraction(*handle, world),
             Event::Message(value) => {
-                let value = self.kept(alloc, connection, value)?;
-                self.admit_message(alloc, to, &value, world)
+                let passed = self.through(alloc, connection, to, value, world)?;
+                self.admit_message(to, passed, world)
             }
             Event::Sync(peer) => {
                 let peer = self.kept(alloc, connection, peer)?;
-                self.admit_sync(to, inside(&peer), world)
+                self.admit_sync(to, peer, world)
             }
+        }
+    }
+
+    /// An event at a released export, where nothing refuses it: it says nothing, but a handle is
+    /// noted, or given back.
+    fn admit_stale<S: Space + Drop, J: Judge + Drop, B: Behaves + Drop>(
+        &mut self,
+        alloc: Global,
+        event: &Event,
+        world: &World<S, J, B>,
+    ) -> Result<(), Refusal>
+        ensures free { OnOk result (stale_cause event.now self.old ≡ None) }
+        ensures cause { IfErr result (IsWhyRefused (stale_cause event.now self.old)) }
+        ensures after { OnOk result (self.new ≡ after_stale world.now event.now self.old) }
+    {
+        match event {
+            Event::Assert(value, inbound) => {
+                self.check_references(alloc, value)?;
+                self.check_handle(*inbound)?;
+                Ok(self.ports.take_handle(*inbound, Inbound::Refused)?)
+            }
+            Event::Retract(handle) => self.admit_retraction(*handle, world),
+            Event::Message(value) => self.check_references(alloc, value),
+            Event::Sync(peer) => self.check_references(alloc, peer),
         }
     }
 
@@ -463,9 +550,10 @@ impl Admitting {
             (IsWhyRefused (cause_of connection world.now event.now self.old)) }
         ensures after { OnOk result (self.new ≡ after connection world.now event.now self.old) }
     {
-        match self.cap_at(event.oid)? {
-            Some(to) => self.admit_event(alloc, connection, &to, &event.event, world),
-            None => Err(Refusal::Cause(Fault::UnknownOid(event.oid))),
+        match self.aim_at(event.oid)? {
+            Aim::Object(to) => self.admit_event(alloc, connection, &to, &event.event, world),
+            Aim::Stale => self.admit_stale(alloc, &event.event, world),
+            Aim::Unknown => Err(Refusal::Cause(Fault::UnknownOid(event.oid))),
         }
     }
 

@@ -1,5 +1,5 @@
 -- What the parts of the proof promise one another, and what the hub's code rests on.
-use Rattle.std.specs.Prelude.{◌≡◌, ℕ, ◌^◌, ◌<◌, ◌≤◌, List, false, Some, length, map}
+use Rattle.std.specs.Prelude.{◌≡◌, ℕ, ◌^◌, ◌<◌, ◌≤◌, List, false, Some, map}
 use Rattle.std.specs.List.{AllByRecursion}
 use Rattle.pv_value.specs.Plain.{Plain}
 use Rattle.ps_schema.specs.declared.Definition.{Definition}
@@ -11,8 +11,7 @@ use Rattle.ac_world.specs.Turns.{turn}
 use Rattle.ac_world.specs.declared.turns.Turned.TheVariants as turned
 use Rattle.rl_packet.specs.declared.packets.TurnEvent.{TurnEvent}
 use Rattle.rl_packet.specs.Wired.{IsTurnEvent}
-use Rattle.rl_ports.specs.Limits.{most_exports}
-use Rattle.rl_ports.specs.Ports.{PortsState}
+use Rattle.rl_ports.specs.Ports.{PortsState, ExportTable, AreNumbered}
 use Rattle.sr_caveat.specs.declared.caps.Cap.{Cap}
 use Rattle.sr_caveat.specs.Caps.{cap_of, IsSound}
 use Rattle.sr_pass.specs.Passing.{passed}
@@ -84,5 +83,5 @@ ExportingIsValid =
 -- what a connection is told of such a batch may stand in a packet
 abbrev pub SentIsSound : Type 0
 SentIsSound =
-    (n : Lived) (next k : ℕ) (exports : List Plain) (b : Batch) → IsValidBatch n next b → next ≤ 2 ^ 63
-    → length exports ≤ most_exports → AllByRecursion IsTurnEvent (map (sent_event exports k) b.events)
+    (n : Lived) (next k : ℕ) (exports : ExportTable) (b : Batch) → IsValidBatch n next b → next ≤ 2 ^ 63
+    → AreNumbered exports → AllByRecursion IsTurnEvent (map (sent_event exports k) b.events)

@@ -109,9 +109,9 @@ pub record IsValidWorld (w : WorldState) : Type 0 where
 abbrev pub HasCome : ℕ → ℕ → Type 0
 HasCome opened k = (1 ≤ k) × (k ≤ opened)
 
--- the connection has come, and its exports are references to such objects
+-- the connection has come, and its exports in force are references to such objects
 abbrev pub IsValidEntry : Lived → ℕ × PortsState → Type 0
-IsValidEntry n e = HasCome n.opened e.0 × AllByRecursion (IsObjectValue n) e.1.exports
+IsValidEntry n e = HasCome n.opened e.0 × AllByRecursion (λ x. IsObjectValue n x.1) e.1.exports.in_force
 
 -- What a world and the names of its connections are in a valid state. Few enough connections have come that the number
 -- of each one's actor can stand in a reference, and there are no more watchers than may be.

@@ -19,7 +19,7 @@ use Rattle.ds_space.specs.Wants.{wants, key_of}
 use Rattle.ds_space.specs.Changes.{among, without}
 use Rattle.ds_space.specs.Laws.{IsOfTheRule}
 use Rattle.ds_space.specs.Lemmas.Lists.{of_the_rule, by_the_rule, wants_ascend}
-use Rattle.load_laws.proofs.Captures.{IsOf, IsItem, key_for, captures, capture_of}
+use Rattle.load_laws.proofs.Captures.{IsOf, IsItem, key_for, capture_of}
 
 -- ---- members
 

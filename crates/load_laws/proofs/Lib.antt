@@ -1,3 +1,4 @@
+pub mod Alone
 pub mod Captures
 pub mod Costs
 pub mod Course

@@ -1,9 +1,8 @@
 -- A server in which nothing but a load goes on, and what its steps send: no more than what may come of the world.
 use Rattle.std.proofs.Common.{◌≡◌, ℕ, ◌+◌, ◌*◌, ◌-◌, ◌≤◌, List, [], length}
-use Rattle.std.proofs.Common.{Option, Some, None, refl, ◌∙◌, arith}
+use Rattle.std.proofs.Common.{Option, Some, None, refl, arith}
 use Rattle.std.specs.Prelude.{unwrap_or}
 use Rattle.std.specs.List.{AllByRecursion}
-use Rattle.pv_value.specs.Plain.{Plain}
 use Rattle.pv_binary.specs.Written.{written}
 use Rattle.ps_schema.specs.declared.Definition.{Definition}
 use Rattle.ac_table.specs.declared.batches.Batch.{Batch}
@@ -17,21 +16,22 @@ use Rattle.rl_packet.specs.declared.packets.Dialect.TheVariants.{Newer}
 use Rattle.rl_packet.specs.declared.packets.TurnEvent.{TurnEvent}
 use Rattle.rl_packet.specs.declared.packets.Turn.{Turn as TurnRecord}
 use Rattle.rl_packet.specs.Packets.{packet_value}
-use Rattle.rl_ports.specs.Ports.{PortsState, ports_to, with_exports}
+use Rattle.rl_ports.specs.Ports.{PortsState, ExportTable, ports_to}
 use Rattle.hub_machine.specs.declared.faults.Fault.{Fault}
 use Rattle.hub_machine.specs.State.{State, opening, ports_of}
 use Rattle.hub_machine.specs.Admission.{Admitted, refused, admitted, turn_admission}
 use Rattle.hub_machine.specs.Endings.{nameless, failed, dismissed, finished}
 use Rattle.hub_machine.specs.Machine.{After, actor_reference, opened, accepted, judged, packet_at, exporting}
-use Rattle.hub_machine.specs.Machine.{exports_after, telling_fault, told_unless, tell, fault_for, tell_fault}
+use Rattle.hub_machine.specs.Machine.{exports_after, names_after, telling_fault, told_unless, tell, fault_for, tell_fault}
 use Rattle.hub_machine.specs.Machine.{after_turn, turn_of}
 use Rattle.hub_machine.specs.declared.steps.Reply.{Reply}
 use Rattle.hub_machine.specs.declared.steps.Reply.TheVariants as reply
 use Rattle.hub_valid.specs.Lemmas.StepEnds.{finished_keeps}
 use Rattle.load_laws.proofs.Costs.{table_cost, events_cost, Fits}
 use Rattle.load_laws.proofs.Opened.{kept_of}
-use Rattle.load_laws.proofs.Packets.{first_export, IsEvent, IsGood, packet_admits}
-use Rattle.load_laws.proofs.Told.{no_fault, same_exports, packet_short, fault_short}
+use Rattle.load_laws.proofs.Alone.{IsFirstAlone}
+use Rattle.load_laws.proofs.Packets.{IsEvent, IsGood, packet_admits}
+use Rattle.load_laws.proofs.Told.{no_fault, still_alone, packet_short, fault_short}
 use Rattle.load_laws.proofs.Worlds.{IsLoading, IsTold, paid, world_turns, world_sends, world_arrives, world_ends}
 
 -- how many bytes a reply sends
@@ -42,9 +42,9 @@ reply_size r = 0
 abbrev pub may_come : State → ℕ
 may_come s = table_cost s.world.table
 
--- each name is that of dataspace 1
+-- each names dataspace 1 alone
 abbrev pub IsNamed : ℕ × PortsState → Type 0
-IsNamed e = e.1.exports ≡ first_export
+IsNamed e = IsFirstAlone e.1
 
 module _ (start n : ℕ) (few : n ≤ 20000) where
   pub record IsLoaded (s : State) : Type 0 where
@@ -110,7 +110,7 @@ module _ (start n : ℕ) (few : n ≤ 20000) where
       let w : IsWithin c (accepted j x (nameless j s)) = record {
         loaded = record {
           world = sends.world;
-          names = each_with IsNamed j x.ports (without_entry j s.connections) good.exports
+          names = each_with IsNamed j x.ports (without_entry j s.connections) good.names
               (each_without IsNamed j s.connections l.names);
         };
         cost = let y = sends.cost in omega (arith, y, count);
@@ -130,17 +130,17 @@ module _ (start n : ℕ) (few : n ≤ 20000) where
 
   -- a batch is told
   unless_pays : (a c : ℕ) (o : Option Fault) (ports : PortsState) (b : Batch) (s : State) → o ≡ None → 17 ≤ a
-      → AllByRecursion (Fits start n a) b.events → ports.exports ≡ first_export → IsLoaded s
+      → AllByRecursion (Fits start n a) b.events → IsFirstAlone ports → IsLoaded s
       → may_come s + events_cost a b.events ≤ c → Pays c (told_unless o (a - 16) ports b s)
   unless_pays a c (Some f) ports b s none far fit own l less = absurd cc
   unless_pays a c None ports b s none far fit own l less =
       let k : ℕ = a - 16 in
-      let exports : List Plain = exports_after k b ports in
-      let named : exports ≡ first_export = same_exports start n a far k b ports fit ∙ own in
+      let exports : ExportTable = exports_after k b ports in
       let w : IsWithin (may_come s) (exporting k b ports s) = record {
         loaded = record {
           world = l.world;
-          names = each_with IsNamed k (with_exports exports ports) s.connections named l.names;
+          names = each_with IsNamed k (names_after k b ports) s.connections
+              (still_alone start n a far k b ports fit own) l.names;
         };
         cost = omega arith;
       } in
@@ -196,7 +196,7 @@ module _ (start n : ℕ) (few : n ≤ 20000) where
       let w : IsWithin (may_come s) (opened 1 s) = record {
         loaded = record {
           world = arrives.world;
-          names = each_with IsNamed (s.world.opened + 1) (ports_to (actor_reference 1)) s.connections refl l.names;
+          names = each_with IsNamed (s.world.opened + 1) (ports_to (actor_reference 1)) s.connections (refl, refl) l.names;
         };
         cost = arrives.cost;
       } in

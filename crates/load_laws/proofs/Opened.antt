@@ -18,14 +18,14 @@ use Rattle.ac_world.specs.Lemmas.Entries.{each_without, each_found}
 use Rattle.ac_world.specs.Turns.{turn}
 use Rattle.ac_world.specs.Worlds.{with_entry, without_entry, entry_of, actor_of}
 use Rattle.rl_packet.specs.declared.packets.Turn.{Turn as TurnRecord}
-use Rattle.rl_ports.specs.Ports.{PortsState, ports_to, with_exports}
+use Rattle.rl_ports.specs.Ports.{PortsState, ports_to}
 use Rattle.hub_machine.specs.declared.faults.Fault.{Fault}
 use Rattle.hub_machine.specs.Limits.{most_connections}
 use Rattle.hub_machine.specs.State.{State, opening, ports_of}
 use Rattle.hub_machine.specs.Admission.{Admitted, refused, admitted, turn_admission}
 use Rattle.hub_machine.specs.Endings.{nameless, closed, failed, dismissed, finished}
 use Rattle.hub_machine.specs.Machine.{unchanged, opened, refusal, arrive_unless, accepted, judged, packet_at, bad_at}
-use Rattle.hub_machine.specs.Machine.{close_at, telling_fault, exporting, exports_after, told_unless, tell, fault_for}
+use Rattle.hub_machine.specs.Machine.{close_at, telling_fault, exporting, names_after, told_unless, tell, fault_for}
 use Rattle.hub_machine.specs.Machine.{tell_fault, After, after_turn, turn_of, is_worn, done, step, actor_reference}
 use Rattle.hub_machine.specs.declared.steps.Step.{Step}
 use Rattle.hub_machine.specs.declared.steps.Step.TheVariants.{Arrive, Packet, Bad, Close, Turn}
@@ -206,7 +206,7 @@ module _ (k : ℕ) where
     done = tt;
   }
   unless_open None j ports b s is p =
-      let after : PortsState = with_exports (exports_after j b ports) ports in
+      let after : PortsState = names_after j b ports in
       record {
         state = ends_open [] (exporting j b ports s)
             (alike s (exporting j b ports s) refl refl

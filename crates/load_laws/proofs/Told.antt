@@ -1,10 +1,9 @@
 -- What a connection is told in the run of a load, in either dialect: no reference, and few bytes.
 use Rattle.std.proofs.Common.{◌≡◌, ℕ, ◌+◌, ◌*◌, ◌≤◌, inl, inr, List, [], ◌∷◌, ◌++◌, ◌==◌, length, map}
-use Rattle.std.proofs.Common.{false, cond, Some, None, refl, sym, ap, subst, arith}
+use Rattle.std.proofs.Common.{false, cond, Some, None, refl, sym, ap, ◌∙◌, subst, arith}
 use Rattle.std.specs.Prelude.{option_and_then}
 use Rattle.std.specs.List.{AllByRecursion}
 use Rattle.std.proofs.lemmas.Bool.Decides.{nat_tests}
-use Rattle.pv_value.specs.Plain.{Plain}
 use Rattle.pv_binary.specs.Written.{written}
 use Rattle.ac_table.specs.declared.batches.Event.{Event}
 use Rattle.ac_table.specs.declared.batches.Event.TheVariants.{Assert, Retract, Message, Sync}
@@ -13,12 +12,13 @@ use Rattle.rl_packet.specs.declared.packets.Packet.TheVariants.{Turn}
 use Rattle.rl_packet.specs.declared.packets.Dialect.{Dialect}
 use Rattle.rl_packet.specs.declared.packets.TurnEvent.{TurnEvent}
 use Rattle.rl_packet.specs.Packets.{packet_value, aimed_value, spoken}
-use Rattle.rl_ports.specs.Ports.{PortsState}
+use Rattle.rl_ports.specs.Ports.{PortsState, ExportTable}
 use Rattle.hub_machine.specs.declared.faults.Fault.{Fault}
 use Rattle.hub_machine.specs.Faults.{error_of}
 use Rattle.rl_wire.specs.Crossing.{fault_out, all_exported}
-use Rattle.hub_machine.specs.Machine.{foreign_told, told_value, foreign_to, sent_event, telling_fault, exports_after}
-use Rattle.hub_machine.specs.Machine.{overrun_by}
+use Rattle.hub_machine.specs.Machine.{foreign_told, told_value, foreign_to, sent_event, telling_fault, overrun_by}
+use Rattle.hub_machine.specs.Machine.{naming, all_named, names_after}
+use Rattle.load_laws.proofs.Alone.{IsFirstAlone, alone_swept}
 use Rattle.load_laws.proofs.Costs.{event_cost, events_cost, IsOut, Fits}
 use Rattle.load_laws.proofs.Sizes.{told_short, retracting_short, turn_short, error_short}
 
@@ -46,16 +46,31 @@ module _ (start n a : ℕ) (far : 17 ≤ a) where
   no_fault k b ports all =
       ap (λ rs. option_and_then overrun_by (fault_out ports.exports rs)) (nothing_foreign k b.from b.events all)
 
-  pub same_exports : (k : ℕ) (b : Batch) (ports : PortsState) → AllByRecursion (Fits start n a) b.events
-      → exports_after k b ports ≡ ports.exports
-  same_exports k b ports all = ap (λ rs. all_exported ports.exports rs) (nothing_foreign k b.from b.events all)
+  alone_after : (k : ℕ) (e : Event) (p : PortsState) → IsOut start n e → IsFirstAlone p → IsFirstAlone (naming k e p)
+  alone_after k (Assert h entity v) p own alone =
+      (ap (λ rs. all_exported p.exports rs) (none_told k (Assert h entity v) own) ∙ alone.0, alone.1)
+  alone_after k (Retract h entity) p own alone = alone
+  alone_after k (Message entity v) p own alone = absurd own
+  alone_after k (Sync entity peer) p own alone = absurd own
+
+  all_alone : (k : ℕ) (es : List Event) (p : PortsState) → AllByRecursion (Fits start n a) es → IsFirstAlone p
+      → IsFirstAlone (all_named k es p)
+  all_alone k [] p all alone = alone
+  all_alone k (e ∷ es) p all alone =
+      all_alone k es (naming k e p) all.1 (alone_after k e p (is_out e all.0) alone)
+
+  -- it names what it did
+  pub still_alone : (k : ℕ) (b : Batch) (ports : PortsState) → AllByRecursion (Fits start n a) b.events
+      → IsFirstAlone ports → IsFirstAlone (names_after k b ports)
+  still_alone k b ports all alone =
+      alone_swept (all_named k b.events ports) (all_alone k b.events ports all alone)
 
   -- ---- few bytes
 
   abbrev IsShort : Dialect → TurnEvent → Type 0
   IsShort d e = length (written (aimed_value d e)) ≤ 100
 
-  event_short : (exports : List Plain) (d : Dialect) (k : ℕ) (e : Event) → IsOut start n e
+  event_short : (exports : ExportTable) (d : Dialect) (k : ℕ) (e : Event) → IsOut start n e
       → IsShort d (sent_event exports k e)
   event_short exports d k (Assert h entity v) own =
       subst (λ x. IsShort d (sent_event exports k (Assert h entity x))) (sym own.1) (told_short d entity own.0 h)
@@ -63,7 +78,7 @@ module _ (start n a : ℕ) (far : 17 ≤ a) where
   event_short exports d k (Message entity v) own = absurd own
   event_short exports d k (Sync entity peer) own = absurd own
 
-  events_short : (exports : List Plain) (d : Dialect) (k : ℕ) (es : List Event) → AllByRecursion (Fits start n a) es
+  events_short : (exports : ExportTable) (d : Dialect) (k : ℕ) (es : List Event) → AllByRecursion (Fits start n a) es
       → AllByRecursion (IsShort d) (map (sent_event exports k) es)
   events_short exports d k [] all = tt
   events_short exports d k (e ∷ es) all =
@@ -79,13 +94,13 @@ module _ (start n a : ℕ) (far : 17 ≤ a) where
   event_costs (Message entity v) = omega arith
   event_costs (Sync entity peer) = omega arith
 
-  events_count : (exports : List Plain) (k : ℕ) (es : List Event)
+  events_count : (exports : ExportTable) (k : ℕ) (es : List Event)
       → length (map (sent_event exports k) es) ≤ events_cost a es
   events_count exports k [] = omega arith
   events_count exports k (e ∷ es) =
       let one = event_costs e in let later = events_count exports k es in omega (arith, one, later)
 
-  pub packet_short : (exports : List Plain) (d : Dialect) (k : ℕ) (b : Batch) → AllByRecursion (Fits start n a) b.events
+  pub packet_short : (exports : ExportTable) (d : Dialect) (k : ℕ) (b : Batch) → AllByRecursion (Fits start n a) b.events
       → length (written (packet_value (Turn (spoken d (map (sent_event exports k) b.events)))))
       ≤ 2 + 100 * events_cost a b.events
   packet_short exports d k b all =

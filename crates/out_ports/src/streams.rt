@@ -9,8 +9,8 @@ use crate::ports::{Host, Put, Sink, Source, Took};
 use std::alloc::{AllocError, Global};
 use thiserror::Error;
 
-/// How many bytes one take asks for.
-const PIECE: usize = 4096;
+/// How many bytes one take asks for: as many as a pipe holds.
+const PIECE: usize = 65_536;
 
 /// Why a source couldn't be read to its end.
 #[derive(Clone, Copy, Debug, PartialEq, Eq, Error)]

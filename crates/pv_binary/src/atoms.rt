@@ -84,6 +84,7 @@ fn ascii_text(bytes: &[u8]) -> &str
 /// The integer behind its count, in as few bytes as will do, and the bytes behind it. Most have at
 /// most four, which are looked at where they stand.
 #[tactic(auto, unfolding(crate::specs::Reading::int_at))]
+#[inline(always)]
 pub fn read_int(bytes: &[u8]) -> Result<(i128, &[u8]), BinKind>
     ensures { Answers (λ x. (x.0, x.1.now)) result (int_at bytes.now) }
 {
@@ -132,6 +133,7 @@ fn read_long_int(bytes: &[u8]) -> Result<(i128, &[u8]), BinKind>
 
 /// The bytes behind their count, and those behind them.
 #[tactic(auto, unfolding(crate::specs::Reading::counted_at))]
+#[inline(always)]
 pub fn read_counted(bytes: &[u8]) -> Result<(&[u8], &[u8]), BinKind>
     ensures { Answers (λ x. (x.0.now, x.1.now)) result (counted_at bytes.now) }
 {
@@ -140,6 +142,7 @@ pub fn read_counted(bytes: &[u8]) -> Result<(&[u8], &[u8]), BinKind>
 }
 
 /// The first `count` bytes, and the others.
+#[inline(always)]
 fn split(bytes: &[u8], count: u64) -> Result<(&[u8], &[u8]), BinKind>
     ensures { Answers (λ x. (x.0.now, x.1.now)) result (split_at count bytes.now) }
 {
@@ -150,7 +153,7 @@ fn split(bytes: &[u8], count: u64) -> Result<(&[u8], &[u8]), BinKind>
 }
 
 /// A count in its shortest form, which most often is one byte.
-#[inline]
+#[inline(always)]
 fn read_count(bytes: &[u8]) -> Result<(u64, &[u8]), BinKind>
     ensures { Answers (λ x. (x.0, x.1.now)) result (varint_at 9 bytes.now) }
 {

@@ -13,4 +13,4 @@ pub use atoms::{read_counted, read_double, read_int, read_text};
 pub use faults::{BinFault, BinKind};
 pub use laws::{one_of_three, reading_tells, spellings_are_unique};
 pub use reading::{read, read_within};
-pub use writing::{write, write_integer_into, write_into};
+pub use writing::{push_counted, write, write_integer_into, write_into};

@@ -17,12 +17,13 @@ ghost use Rattle.pv_binary.specs.declared.tag.Tag.TheVariants as kind;
 use crate::atoms::{read_counted, read_double, read_int, read_text};
 use crate::faults::{BinFault, BinKind};
 use crate::tag::Tag;
-use crate::tags::END;
+use crate::tags::{self, END};
 use pv_read::{READ_DEPTH, at};
 use pv_value::{Blob, Entry, Items, NoMemory, SetFault, Text, Value};
 use std::alloc::Global;
 
 /// The value that the bytes begin with, and how many bytes spell it. Bytes may follow.
+#[inline(always)]
 pub fn read(alloc: Global, bytes: &[u8]) -> Result<(Value, usize), BinFault>
     // What is read is spelled so.
     ensures found { IfOk result (λ x. BeginsWith bytes.now x.1 x.0) }
@@ -47,6 +48,7 @@ pub fn read(alloc: Global, bytes: &[u8]) -> Result<(Value, usize), BinFault>
 
 /// The value that the bytes begin with, where it nests at most `budget` deep, and the bytes behind
 /// it. For who reads what stands around it; why there is none, `read` tells.
+#[inline(always)]
 pub fn read_within(
     alloc: Global,
     bytes: &[u8],
@@ -295,20 +297,34 @@ fn read_pairs(
     Err(BinFault::Bad(BinKind::Truncated, total))
 }
 
-/// Appends what stands before these bytes. The first item takes room for itself alone where the end
-/// follows, and else for three, so that a short list takes memory once and keeps what it took.
+/// Appends what stands before these bytes. The first item takes room for the items that the list is
+/// likely to have, so that a short list takes memory once and keeps what it took.
 fn append<T: Drop>(list: &mut Vec<T>, item: T, after: &[u8]) -> Result<(), NoMemory>
     ensures { IfOk result (λ _. list.new.items ≡ list.old.items ++ item ∷ []) }
 {
     if list.is_empty() {
-        let room = match after {
-            [byte, ..] if *byte == END => 1,
-            _ => 3,
-        };
-        list.reserve_exact(room)?;
+        list.reserve_exact(likely_items(after))?;
     }
     list.push(item)?;
     Ok(())
+}
+
+/// How many items a list is likely to have of which the first stands before these bytes: one where
+/// the end follows, two where a compound follows, or one short atom and then the end, and else
+/// three.
+#[inline(always)]
+fn likely_items(after: &[u8]) -> usize
+    ensures { (1 ≤ result) × (result ≤ 3) }
+{
+    match after {
+        [tag, ..] if *tag == END => 1,
+        [tag, ..] if *tag >= tags::RECORD || *tag == tags::EMBEDDED => 2,
+        [_, count, rest @ ..] => match rest.get(usize::from(*count)) {
+            Some(byte) if *byte == END => 2,
+            _ => 3,
+        },
+        _ => 3,
+    }
 }
 
 /// What the elements or entries of a compound make, whose tag stands at this place.

@@ -219,8 +219,8 @@ pub(crate) fn repeats_sign(b: u8, next: u8) -> bool
     (b == 0 && next < 128) || (b == 255 && next >= 128)
 }
 
-/// A tag, a count, and as many bytes.
-fn push_counted(out: &mut Vec<u8>, tag: u8, bytes: &[u8]) -> Result<(), NoMemory>
+/// Appends a tag, a count, and as many bytes. Where memory runs out, a part of it may stand there.
+pub fn push_counted(out: &mut Vec<u8>, tag: u8, bytes: &[u8]) -> Result<(), NoMemory>
     ensures all { OnOk result (out.new.items ≡ out.old.items ++ tag ∷ counted bytes.now) }
     ensures front { StartsWith out.new.items out.old.items }
 {

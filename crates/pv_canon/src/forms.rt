@@ -9,7 +9,7 @@ ghost use Rattle.pv_value.specs.View.{key_and_value};
 ghost use Rattle.pv_canon.specs.Canonical.{canonical, forms, entry_forms, sorted_by, byte_order};
 ghost use Rattle.pv_canon.specs.Canonical.{form_order, joined};
 
-use pv_binary::{tags, write_into};
+use pv_binary::{push_counted, tags, write_integer_into, write_into};
 use pv_value::{Blob, Entry, NoMemory, Node, Value, canonical_size, push_byte, push_bytes};
 use std::alloc::Global;
 
@@ -38,8 +38,11 @@ pub fn canon_into(alloc: Global, out: &mut Vec<u8>, v: &Value) -> Result<(), NoM
     ensures front { StartsWith out.new.items out.old.items }
 {
     match &v.node {
-        Node::Bool(_) | Node::Double(_) | Node::Int(_) => write_into(out, v),
-        Node::Str(_) | Node::Bytes(_) | Node::Sym(_) => write_into(out, v),
+        Node::Bool(_) | Node::Double(_) => write_into(out, v),
+        Node::Int(n) => write_integer_into(out, *n),
+        Node::Str(text) => push_counted(out, tags::STRING, text.as_bytes()),
+        Node::Bytes(bytes) => push_counted(out, tags::BYTE_STRING, bytes.as_slice()),
+        Node::Sym(text) => push_counted(out, tags::SYMBOL, text.as_bytes()),
         Node::Rec(rec) => push_record(alloc, out, &rec.label, rec.fields.as_slice()),
         Node::Seq(items) => push_sequence(alloc, out, items.as_slice()),
         Node::Set(set) => push_set(alloc, out, set.as_slice()),

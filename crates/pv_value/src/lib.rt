@@ -6,6 +6,9 @@
 //!
 //! A value never changes once it is made, and what is inside is shared: a copy costs one count,
 //! whatever the value's size.
+//!
+//! What makes records, lists and texts has the hint `inline(always)`: a reader makes one of each
+//! few bytes, and by a call their parts move through memory.
 #![tactic(auto)]
 
 mod appending;

@@ -46,6 +46,7 @@ impl Blob {
 }
 
 impl Items {
+    #[inline(always)]
     pub fn from_vec(alloc: Global, list: Vec<Value>) -> Result<Items, NoMemory>
         ensures { IfOk result (λ xs. xs ≡ list.items) }
     {
@@ -75,6 +76,7 @@ impl Items {
 }
 
 /// The same list, without the room for more where it has room for as many again.
+#[inline(always)]
 pub(crate) fn fitted<T: Drop>(mut list: Vec<T>) -> Vec<T>
     ensures { result.items ≡ list.items }
 {
@@ -85,6 +87,7 @@ pub(crate) fn fitted<T: Drop>(mut list: Vec<T>) -> Vec<T>
 }
 
 /// Each value keeps what is true of all values.
+#[inline(always)]
 pub(crate) fn see_all(values: &[Value])
     ensures { AreWellFormed (plains values.now) }
 {

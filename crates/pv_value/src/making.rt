@@ -59,6 +59,7 @@ impl Value {
         }
     }
 
+    #[inline(always)]
     pub fn record(alloc: Global, label: Value, fields: Vec<Value>) -> Result<Value, NoMemory>
         ensures { IfOk result (λ v. v ≡ record_of label (plains fields.items)) }
     {

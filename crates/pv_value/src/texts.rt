@@ -8,6 +8,7 @@ use std::sync::ArcStr;
 
 impl Text {
     /// The same text.
+    #[inline(always)]
     pub fn from_str(alloc: Global, text: &str) -> Result<Text, NoMemory>
         ensures { IfOk result (λ t. t ≡ text.now) }
     {
@@ -78,6 +79,7 @@ impl Text {
 }
 
 /// A text that stands in place.
+#[inline(always)]
 fn short(text: &str) -> Text
     requires { length text.now ≤ 22 }
     ensures { result ≡ text.now }

@@ -1,3 +1,5 @@
 pub mod Kept
 pub mod Limits
+pub mod Oids
 pub mod Ports
+pub mod Shown

@@ -12,7 +12,7 @@ use std::marker::Model;
 ///
 /// Contracts see the value alone: what is read is that of the value.
 #[derive(Drop)]
-pub(crate) struct ReadReference {
+pub struct ReadReference {
     value: Value,
     cap: Option<Cap>,
 }
@@ -41,14 +41,15 @@ impl ReadReference {
         Ok(ReadReference { value, cap })
     }
 
-    pub(crate) fn value(&self) -> &Value
+    /// The value.
+    pub fn value(&self) -> &Value
         ensures { result.now ≡ self.now }
     {
         &self.value
     }
 
     /// What is read of the value.
-    pub(crate) fn cap(&self) -> Option<&Cap>
+    pub fn cap(&self) -> Option<&Cap>
         ensures { option_copied result ≡ cap_of self.now }
     {
         self.cap.as_ref()

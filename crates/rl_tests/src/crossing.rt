@@ -10,7 +10,8 @@ use std::test::Fail;
 /// What connection 1 is told of the value.
 fn told(alloc: Global, value: &Value) -> Result<Value, Fail> {
     let mut ports = ports(alloc)?;
-    Ok(wire_out(alloc, &mut ports, 1, value)?)
+    let (told, _) = wire_out(alloc, &mut ports, 1, value)?;
+    Ok(told)
 }
 
 /// Whether a deep value that holds a reference to another's object is told as one that nests so

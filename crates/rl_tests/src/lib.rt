@@ -10,6 +10,8 @@ mod dialects;
 #[cfg(test)]
 mod making;
 #[cfg(test)]
+mod releasing;
+#[cfg(test)]
 mod spelled;
 #[cfg(test)]
 mod turns;

@@ -19,6 +19,28 @@ pub(crate) fn ports(alloc: Global) -> Result<Ports, Fail> {
     Ok(Ports::new(alloc, object(alloc, 1, 0)?)?)
 }
 
+/// The embedded reference to object `entity` of actor 18.
+pub(crate) fn embedded(alloc: Global, entity: u64) -> Result<Value, Fail> {
+    Ok(Value::embedded(alloc, object(alloc, 18, entity)?)?)
+}
+
+/// The value `#:[1 n]`.
+pub(crate) fn wire(alloc: Global, n: i64) -> Result<Value, Fail> {
+    let mut items = Vec::new(alloc);
+    items.push(Value::integer(1))?;
+    items.push(Value::integer(i128::from(n)))?;
+    let inside = Value::sequence(Items::from_vec(alloc, items)?);
+    Ok(Value::embedded(alloc, inside)?)
+}
+
+/// The sequence of these two.
+pub(crate) fn both(alloc: Global, first: Value, second: Value) -> Result<Value, Fail> {
+    let mut items = Vec::new(alloc);
+    items.push(first)?;
+    items.push(second)?;
+    Ok(Value::sequence(Items::from_vec(alloc, items)?))
+}
+
 /// The sequence of this value alone.
 fn around(alloc: Global, value: Value) -> Result<Value, Fail> {
     let mut items = Vec::new(alloc);

@@ -2,13 +2,15 @@
 -- Inside the server an embedded value holds a reference's `[actor entity caveat ..]`. At connection k, whose actor is
 -- 16 + k, `[0 e]` that comes in is its own object e, and `[1 n caveat ..]` its export n with these caveats behind the
 -- export's own; `[1 e]` that goes out is its own object e without caveats, and `[0 n]` any other reference, by the
--- number of the export that it is or becomes. Values are gone through in the order of their written spelling.
+-- number of the export that it is or becomes. A value that names a released export is stale: nothing stands for it in
+-- the server. Values are gone through in the order of their written spelling.
 use Rattle.std.specs.Prelude.{◌≡◌, ℕ, zero, suc, pos, ◌+◌, ◌-◌, ◌^◌, ◌==◌, ◌&&◌, min, nat_lt, List, [], ◌∷◌, ◌++◌}
-use Rattle.std.specs.Prelude.{Bool, false, length, map, Option, Some, None, option_map, unwrap_or, slice_get}
+use Rattle.std.specs.Prelude.{Bool, true, false, length, map, Option, Some, None, option_map, unwrap_or}
 use Rattle.std.specs.Prelude.{if◌then◌else◌}
-use Rattle.std.specs.List.{flat_map}
+use Rattle.std.specs.List.{flat_map, list_any}
 use Rattle.std.specs.Option.{option_or}
 use Rattle.std.specs.BTreeMap.{insert_entry}
+use Rattle.std.specs.Ordering.{nat_cmp}
 use Rattle.pv_value.specs.Plain.{Plain, integer, record_of, sequence, set_of, dictionary, embedded}
 use Rattle.pv_value.specs.Plain.{Plains, no_more, then_more, PlainPairs, no_pairs, then_pair}
 use Rattle.pv_value.specs.Plain.{plains, listed, pairs, paired}
@@ -23,6 +25,7 @@ use Rattle.sr_caveat.specs.Limits.{value_weight, value_depth, reference_caveats,
 use Rattle.sr_caveat.specs.Spelled.{caveat_value}
 use Rattle.sr_caveat.specs.Written.{caveat_of}
 use Rattle.rl_ports.specs.declared.ports.PortsFault.{PortsFault}
+use Rattle.rl_ports.specs.Ports.{ExportTable, Standing, current, released, never, standing, export_of}
 use Rattle.rl_ports.specs.Ports.{exported, number_of, fault_at, told}
 pub use Rattle.rl_wire.specs.declared.wires.Wire.{Wire}
 pub use Rattle.rl_wire.specs.declared.wires.Wire.TheVariants.{Own, ExportedAs}
@@ -108,17 +111,42 @@ with_caveats ws (sequence xs) = sequence (plains (listed xs ++ map caveat_kept w
 with_caveats ws v = v
 
 -- the reference that an actor's wire reference with these caveats names, where there is one
-abbrev pub named_by : List Plain → ℕ → List Plain → Wire → Option Plain
+abbrev pub named_by : ExportTable → ℕ → List Plain → Wire → Option Plain
 named_by exports actor ws (Own e) = Some (reference_value (record { actor = actor; entity = e }))
-named_by exports actor ws (ExportedAs n) = option_map (with_caveats ws) (slice_get exports n)
+named_by exports actor ws (ExportedAs n) = option_map (with_caveats ws) (export_of n exports)
 
-abbrev pub reference_in : List Plain → ℕ → Plain → Option Wire → Plain
+abbrev pub reference_in : ExportTable → ℕ → Plain → Option Wire → Plain
 reference_in exports actor x None = x
 reference_in exports actor x (Some w) = unwrap_or (named_by exports actor (caveats_in x) w) x
 
 -- a value that comes in at connection k
-abbrev pub crossed_in : List Plain → ℕ → Plain → Plain
+abbrev pub crossed_in : ExportTable → ℕ → Plain → Plain
 crossed_in exports k v = crossed (λ x. reference_in exports (actor_at k) x (wire_of x)) v
+
+-- ---- values that name what was released
+
+abbrev pub is_released : Standing → Bool
+is_released (current r) = false
+is_released released = true
+is_released never = false
+
+abbrev pub names_released : ExportTable → Option Wire → Bool
+names_released exports None = false
+names_released exports (Some (Own e)) = false
+names_released exports (Some (ExportedAs n)) = is_released (standing n exports)
+
+-- whether one of these is a reference by the number of a released export
+abbrev pub any_stale : ExportTable → List Plain → Bool
+any_stale exports xs = list_any (λ x. names_released exports (wire_of x)) xs
+
+abbrev pub is_stale : ExportTable → Plain → Bool
+is_stale exports v = any_stale exports (held_in v)
+
+-- what stands for a value that comes in at connection k; nothing where it is stale
+abbrev pub whole_in : ExportTable → ℕ → Plain → Option Plain
+whole_in exports k v = if is_stale exports v then None else Some (crossed_in exports k v)
+
+-- ---- faults
 
 -- a reference may have so many caveats, and weigh so much
 abbrev pub reference_fault : Plain → Option WireFault
@@ -126,18 +154,20 @@ reference_fault r =
     if nat_lt reference_caveats (length (caveats_in r)) then Some (Limit 8 (length (caveats_in r)))
     else if nat_lt reference_weight (told (weight r)) then Some (Limit 9 (told (weight r))) else None
 
--- why what stands for export n with these caveats isn't taken
-abbrev pub export_fault_in : ℕ → List Plain → Option Plain → Option WireFault
-export_fault_in n ws None = Some (UnknownOid n)
-export_fault_in n ws (Some r) = reference_fault (with_caveats ws r)
+-- why what stands under number n, with these caveats, isn't taken: the number was never given, or the reference has too
+-- many caveats or is too heavy with them; of a released one nothing more is looked at
+abbrev pub export_fault_in : ℕ → List Plain → Standing → Option WireFault
+export_fault_in n ws (current r) = reference_fault (with_caveats ws r)
+export_fault_in n ws released = None
+export_fault_in n ws never = Some (UnknownOid n)
 
-abbrev pub wire_fault : List Plain → Plain → Option Wire → Option WireFault
+abbrev pub wire_fault : ExportTable → Plain → Option Wire → Option WireFault
 wire_fault exports x None = None
 wire_fault exports x (Some (Own e)) = None
-wire_fault exports x (Some (ExportedAs n)) = export_fault_in n (caveats_in x) (slice_get exports n)
+wire_fault exports x (Some (ExportedAs n)) = export_fault_in n (caveats_in x) (standing n exports)
 
 -- the first of these faults
-abbrev pub first_fault : List Plain → List Plain → Option WireFault
+abbrev pub first_fault : ExportTable → List Plain → Option WireFault
 first_fault exports [] = None
 first_fault exports (x ∷ xs) = option_or (wire_fault exports x (wire_of x)) (first_fault exports xs)
 
@@ -147,9 +177,18 @@ size_fault v =
     if nat_lt value_weight (told (weight v)) then Some (Limit 6 (told (weight v)))
     else if nat_lt value_depth (nested v) then Some (Limit 7 (nested v)) else None
 
+-- the same of what stands for a value, where something does
+abbrev pub size_fault_of : Option Plain → Option WireFault
+size_fault_of None = None
+size_fault_of (Some v) = size_fault v
+
+-- why the references in a value can't come in
+abbrev pub references_fault : ExportTable → Plain → Option WireFault
+references_fault exports v = first_fault exports (held_in v)
+
 -- why a value can't come in: a reference in it, before all else
-abbrev pub fault_in : List Plain → ℕ → Plain → Option WireFault
-fault_in exports k v = option_or (first_fault exports (held_in v)) (size_fault (crossed_in exports k v))
+abbrev pub fault_in : ExportTable → ℕ → Plain → Option WireFault
+fault_in exports k v = option_or (references_fault exports v) (size_fault_of (whole_in exports k v))
 
 -- the fault is why; where memory ran out, nothing is said
 abbrev pub IsWhyNotIn : Option WireFault → WireFault → Type 0
@@ -172,27 +211,31 @@ abbrev pub foreign_in : ℕ → Plain → List Plain
 foreign_in k v = flat_map (λ x. foreign_of (actor_at k) x (reference_of x)) (held_in v)
 
 -- each is exported where it isn't, in order of first use
-abbrev pub all_exported : List Plain → List Plain → List Plain
+abbrev pub all_exported : ExportTable → List Plain → ExportTable
 all_exported exports [] = exports
 all_exported exports (r ∷ rs) = all_exported (exported r exports) rs
 
 -- why they can't all be: the first fault
-abbrev pub fault_out : List Plain → List Plain → Option PortsFault
+abbrev pub fault_out : ExportTable → List Plain → Option PortsFault
 fault_out exports [] = None
 fault_out exports (r ∷ rs) = option_or (fault_at r exports) (fault_out (exported r exports) rs)
 
 -- the exports after a value went out
-abbrev pub exports_with : List Plain → ℕ → Plain → List Plain
+abbrev pub exports_with : ExportTable → ℕ → Plain → ExportTable
 exports_with exports k v = all_exported exports (foreign_in k v)
+
+-- the numbers by which the references in a value go out at connection k, ascending, each once
+abbrev pub numbers_out : ExportTable → ℕ → Plain → List ℕ
+numbers_out exports k v = ascending_by nat_cmp (map (λ r. number_of r exports) (foreign_in k v))
 
 abbrev pub wire_value : ℕ → ℕ → Plain
 wire_value whose n = sequence (plains (number whose ∷ number n ∷ []))
 
-abbrev pub reference_out : List Plain → ℕ → Plain → Option Reference → Plain
+abbrev pub reference_out : ExportTable → ℕ → Plain → Option Reference → Plain
 reference_out exports actor x None = x
 reference_out exports actor x (Some r) =
     if is_own actor x r then wire_value 1 r.entity else wire_value 0 (number_of x exports)
 
 -- a value that goes out at connection k, where these are the exports by then
-abbrev pub crossed_out : List Plain → ℕ → Plain → Plain
+abbrev pub crossed_out : ExportTable → ℕ → Plain → Plain
 crossed_out exports k v = crossed (λ x. reference_out exports (actor_at k) x (reference_of x)) v

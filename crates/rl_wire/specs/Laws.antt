@@ -1,5 +1,5 @@
 -- Laws of the definitions.
-use Rattle.std.specs.Prelude.{◌≡◌, ℕ, zero, suc, pos, ◌^◌, ◌≤◌, List, length, map, true, false, is_some, Some}
+use Rattle.std.specs.Prelude.{◌≡◌, ℕ, zero, suc, pos, List, map, true, false, is_some, Some}
 use Rattle.std.specs.List.{AllByRecursion}
 use Rattle.pv_value.specs.Plain.{Plain, integer, sequence, then_more, embedded}
 use Rattle.pv_words.specs.Words.{number}
@@ -7,7 +7,7 @@ use Rattle.ds_space.specs.References.{reference_of}
 use Rattle.sr_caveat.specs.Written.{caveat_of}
 use Rattle.sr_caveat.specs.Caps.{cap_of, attenuated}
 use Rattle.sr_caveat.specs.declared.caps.Cap.{Cap}
-use Rattle.rl_ports.specs.Ports.{place_of}
+use Rattle.rl_ports.specs.Ports.{ExportTable, AreNumbered, place_of}
 use Rattle.rl_wire.specs.Crossing.{with_caveats, crossed, held_in, foreign_of, actor_at, exports_with}
 use Rattle.rl_wire.specs.Crossing.{crossed_in, crossed_out}
 
@@ -22,11 +22,11 @@ AttenuatedReferencesAreCaps = (x : Plain) (c : Cap) (ws : List Plain)
 abbrev pub IsReference : Plain → Type 0
 IsReference x = is_some (reference_of x) ≡ true
 
-abbrev pub IsAmong : List Plain → Plain → Type 0
-IsAmong exports x = is_some (place_of x exports) ≡ true
+abbrev pub IsAmong : ExportTable → Plain → Type 0
+IsAmong exports x = is_some (place_of x exports.in_force) ≡ true
 
 -- a reference is one to an object of the connection's own, or among the exports, as each is that went out there
-pub record HasGoneOut (exports : List Plain) (k : ℕ) (x : Plain) : Type 0 where
+pub record HasGoneOut (exports : ExportTable) (k : ℕ) (x : Plain) : Type 0 where
   pub reference : IsReference x
   pub exported : AllByRecursion (IsAmong exports) (foreign_of (actor_at k) x (reference_of x))
 
@@ -42,16 +42,16 @@ written_back v = crossed turned v
 
 -- what goes out leaves each of its references among the exports
 abbrev pub WhatGoesOutIsExported : Type 0
-WhatGoesOutIsExported = (exports : List Plain) (k : ℕ) (v : Plain) → AllByRecursion IsReference (held_in v)
+WhatGoesOutIsExported = (exports : ExportTable) (k : ℕ) (v : Plain) → AllByRecursion IsReference (held_in v)
     → AllByRecursion (HasGoneOut (exports_with exports k v) k) (held_in v)
 
 -- a reference that went out and is written back is that reference again
 abbrev pub ReferencesComeBack : Type 0
-ReferencesComeBack = (exports : List Plain) (k : ℕ) (x : Plain) → length exports ≤ 2 ^ 63 → HasGoneOut exports k x
+ReferencesComeBack = (exports : ExportTable) (k : ℕ) (x : Plain) → AreNumbered exports → HasGoneOut exports k x
     → crossed_in exports k (written_back (crossed_out exports k (embedded x))) ≡ embedded x
 
 -- so no two are called alike on the wire
 abbrev pub ReferencesStayApart : Type 0
-ReferencesStayApart = (exports : List Plain) (k : ℕ) (x y : Plain) → length exports ≤ 2 ^ 63
+ReferencesStayApart = (exports : ExportTable) (k : ℕ) (x y : Plain) → AreNumbered exports
     → HasGoneOut exports k x → HasGoneOut exports k y
     → crossed_out exports k (embedded x) ≡ crossed_out exports k (embedded y) → x ≡ y

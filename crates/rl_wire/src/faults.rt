@@ -8,7 +8,7 @@ use thiserror::Error;
 /// Why a value can't come in.
 #[derive(Clone, Copy, Debug, PartialEq, Eq, Error)]
 pub enum WireFault {
-    /// No export has this number.
+    /// No export ever had this number.
     #[error("unknown oid {0}")]
     UnknownOid(u64),
     /// As the server would keep it, the value weighs (6) or nests (7) so much, or a reference in

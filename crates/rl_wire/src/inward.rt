@@ -1,8 +1,10 @@
 //! Values that come in.
 ghost use Rattle.std.specs.Prelude.{◌≡◌, ◌≤◌, ◌^◌, true, None, Some, IfOk, IfErr, OnOk};
-ghost use Rattle.rl_wire.specs.Crossing.{crossed_in, fault_in, IsWhyNotIn};
+ghost use Rattle.rl_wire.specs.Crossing.{whole_in, fault_in, IsWhyNotIn, references_fault};
 ghost use Rattle.rl_wire.specs.Crossing.{wire_of, named_by, reference_in, wire_fault, first_fault};
-ghost use Rattle.rl_wire.specs.Crossing.{reference_fault, size_fault};
+ghost use Rattle.rl_wire.specs.Crossing.{reference_fault, size_fault, names_released, any_stale};
+ghost use Rattle.rl_wire.specs.Crossing.{is_stale};
+ghost use Rattle.rl_wire.specs.Changes.{whole_of};
 
 use crate::BEFORE_CONNECTIONS;
 use crate::faults::WireFault;
@@ -11,7 +13,7 @@ use crate::rebuilding::{Way, crossed};
 use crate::wires::{Wire, caveats_in, wire_of, with_caveats};
 use ds_space::{Reference, reference_value};
 use pv_value::{NoMemory, Value, depth, weight};
-use rl_ports::Ports;
+use rl_ports::{Exported, Ports};
 use sr_caveat::{REFERENCE_CAVEATS, REFERENCE_WEIGHT, VALUE_DEPTH, VALUE_WEIGHT};
 use std::alloc::Global;
 
@@ -50,11 +52,22 @@ impl Inward<'_> {
                 Ok(Some(reference_value(alloc, Reference { actor, entity })?))
             }
             Wire::ExportedAs(oid) => match self.ports.cap_of(oid) {
-                Some(cap) => Ok(Some(with_caveats(alloc, cap, caveats)?)),
-                None => Ok(None),
+                Exported::InForce(export) => {
+                    Ok(Some(with_caveats(alloc, export.value(), caveats)?))
+                }
+                Exported::Released | Exported::Never => Ok(None),
             },
         }
     }
+}
+
+/// What stands for a value that came in.
+#[derive(Drop)]
+pub enum Crossed {
+    /// The value, as the server keeps it.
+    Whole(Value),
+    /// Nothing: a reference in it names an export that was released.
+    Stale,
 }
 
 /// A value that connection `connection` sent, as the server keeps it: its own objects as
@@ -65,15 +78,15 @@ pub fn wire_in(
     ports: &Ports,
     connection: u32,
     value: &Value,
-) -> Result<Value, WireFault>
+) -> Result<Crossed, WireFault>
     requires { connection ≤ 2 ^ 31 }
-    ensures crossed { IfOk result (λ v. v ≡ crossed_in ports.now.exports connection value.now) }
-    ensures fits { IfOk result (λ v. fault_in ports.now.exports connection value.now ≡ None) }
+    ensures crossed { IfOk result
+        (λ c. whole_of c ≡ whole_in ports.now.exports connection value.now) }
+    ensures fits { OnOk result (fault_in ports.now.exports connection value.now ≡ None) }
     ensures fault { IfErr result (IsWhyNotIn (fault_in ports.now.exports connection value.now)) }
 {
-    let held = held_in(alloc, value)?;
-    if let Some(fault) = first_fault(alloc, ports, &held)? {
-        return Err(fault);
+    if references_in(alloc, ports, value)? {
+        return Ok(Crossed::Stale);
     }
     let way = Inward {
         ports,
@@ -81,49 +94,70 @@ pub fn wire_in(
     };
     let kept = crossed(alloc, &way, value)?;
     check_size(&kept)?;
-    Ok(kept)
+    Ok(Crossed::Whole(kept))
 }
 
-/// The first fault of what embedded values hold.
-fn first_fault(alloc: Global, ports: &Ports, held: &[Value]) -> Result<Option<WireFault>, NoMemory>
-    ensures { IfOk result (λ f. f ≡ first_fault ports.now.exports held.now) }
+/// Whether a reference in a value that came in names an export that was released. The references
+/// alone are looked at.
+pub fn references_in(alloc: Global, ports: &Ports, value: &Value) -> Result<bool, WireFault>
+    ensures stale { IfOk result (λ b. b ≡ is_stale ports.now.exports value.now) }
+    ensures fits { OnOk result (references_fault ports.now.exports value.now ≡ None) }
+    ensures fault { IfErr result (IsWhyNotIn (references_fault ports.now.exports value.now)) }
 {
-    for x in held {
-        let fault = wire_fault(alloc, ports, x)?;
-        if fault.is_some() {
-            return Ok(fault);
-        }
-    }
-    Ok(None)
+    let held = held_in(alloc, value)?;
+    look_at_all(alloc, ports, &held)
 }
 
-/// Why what an embedded value holds can't come in.
-fn wire_fault(alloc: Global, ports: &Ports, inside: &Value) -> Result<Option<WireFault>, NoMemory>
-    ensures { IfOk result (λ f. f ≡ wire_fault ports.now.exports inside.now (wire_of inside.now)) }
+/// Whether one of the references names an export that was released; or the first fault of one.
+fn look_at_all(alloc: Global, ports: &Ports, held: &[Value]) -> Result<bool, WireFault>
+    ensures stale { IfOk result (λ b. b ≡ any_stale ports.now.exports held.now) }
+    ensures fits { OnOk result (first_fault ports.now.exports held.now ≡ None) }
+    ensures fault { IfErr result (IsWhyNotIn (first_fault ports.now.exports held.now)) }
+{
+    let mut stale = false;
+    for x in held {
+        stale = look_at(alloc, ports, x)? || stale;
+    }
+    Ok(stale)
+}
+
+/// Whether what an embedded value holds names an export that was released; or why it can't come in.
+fn look_at(alloc: Global, ports: &Ports, inside: &Value) -> Result<bool, WireFault>
+    ensures stale { IfOk result
+        (λ b. b ≡ names_released ports.now.exports (wire_of inside.now)) }
+    ensures fits { OnOk result
+        (wire_fault ports.now.exports inside.now (wire_of inside.now) ≡ None) }
+    ensures fault { IfErr result
+        (IsWhyNotIn (wire_fault ports.now.exports inside.now (wire_of inside.now))) }
 {
     let Some(Wire::ExportedAs(oid)) = wire_of(inside) else {
-        return Ok(None);
+        return Ok(false);
     };
-    let Some(cap) = ports.cap_of(oid) else {
-        return Ok(Some(WireFault::UnknownOid(oid)));
-    };
-    let reference = with_caveats(alloc, cap, caveats_in(inside))?;
-    Ok(reference_fault(&reference))
+    match ports.cap_of(oid) {
+        Exported::InForce(export) => {
+            let reference = with_caveats(alloc, export.value(), caveats_in(inside))?;
+            check_reference(&reference)?;
+            Ok(false)
+        }
+        Exported::Released => Ok(true),
+        Exported::Never => Err(WireFault::UnknownOid(oid)),
+    }
 }
 
-/// Why a reference isn't taken: it has too many caveats, or is too heavy.
-fn reference_fault(reference: &Value) -> Option<WireFault>
-    ensures { result ≡ reference_fault reference.now }
+/// Whether a reference has neither too many caveats nor is too heavy.
+fn check_reference(reference: &Value) -> Result<(), WireFault>
+    ensures fits { OnOk result (reference_fault reference.now ≡ None) }
+    ensures fault { IfErr result (λ f. reference_fault reference.now ≡ Some f) }
 {
     let count = caveats_in(reference).len();
     if count > REFERENCE_CAVEATS {
-        return Some(WireFault::Limit(8, count as u64));
+        return Err(WireFault::Limit(8, count as u64));
     }
     let weight = weight(reference);
     if weight > REFERENCE_WEIGHT {
-        return Some(WireFault::Limit(9, weight));
+        return Err(WireFault::Limit(9, weight));
     }
-    None
+    Ok(())
 }
 
 /// Whether a value is neither too heavy nor too deep.

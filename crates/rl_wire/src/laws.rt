@@ -11,7 +11,7 @@ pub fn attenuated_references_are_caps()
 
 /// A reference that went out comes back as itself when its peer writes it, so that what a wire
 /// reference names tells objects apart. In a valid state each embedded value holds a reference, and
-/// a connection has at most 4,096 exports.
+/// a connection's exports are numbered so.
 pub fn references_come_back()
     ensures exported { WhatGoesOutIsExported }
     ensures back { ReferencesComeBack }

@@ -17,7 +17,7 @@ mod rebuilding;
 mod wires;
 
 pub use faults::WireFault;
-pub use inward::wire_in;
+pub use inward::{Crossed, references_in, wire_in};
 pub use laws::{attenuated_references_are_caps, references_come_back};
 pub use outward::wire_out;
 pub use wires::Wire;

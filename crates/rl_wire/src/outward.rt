@@ -1,12 +1,15 @@
 //! Values that go out.
-ghost use Rattle.std.specs.Prelude.{◌≡◌, ◌≤◌, ◌^◌, true, None, IfOk, IfErr, OnOk, OnErr, take};
-ghost use Rattle.std.specs.Prelude.{length, if◌then◌else◌};
+ghost use Rattle.std.specs.Prelude.{◌≡◌, ◌≤◌, ◌<◌, ◌^◌, ◌++◌, ◌∷◌, [], true, None};
+ghost use Rattle.std.specs.Prelude.{IfOk, IfErr, OnOk, OnErr, map, if◌then◌else◌};
+ghost use Rattle.std.specs.Prelude.{vec_len, vec_capacity};
+ghost use Rattle.std.specs.Ordering.{nat_cmp};
+ghost use Rattle.pv_value.specs.Sets.{ascending_by};
 ghost use Rattle.ds_space.specs.References.{reference_of};
-ghost use Rattle.rl_ports.specs.Ports.{with_exports, number_of, IsWhy};
-ghost use Rattle.rl_wire.specs.Crossing.{crossed_out, exports_with, foreign_in};
+ghost use Rattle.rl_ports.specs.Ports.{with_exports, number_of, IsWhy, AreGiven};
+ghost use Rattle.rl_wire.specs.Crossing.{crossed_out, exports_with, foreign_in, numbers_out};
 ghost use Rattle.rl_wire.specs.Crossing.{fault_out, foreign_of, reference_out, all_exported};
 ghost use Rattle.rl_wire.specs.Crossing.{wire_value, crossed, held_in, is_own};
-ghost use Rattle.rl_wire.specs.Changes.{others_in};
+ghost use Rattle.rl_wire.specs.Changes.{others_in, HasGrown};
 
 use crate::BEFORE_CONNECTIONS;
 use crate::held::held_in;
@@ -14,7 +17,7 @@ use crate::rebuilding::{Way, crossed};
 use crate::wires::{caveats_in, wire_value};
 use ds_space::{Reference, reference_of};
 use pv_value::{NoMemory, Value};
-use rl_ports::{Ports, PortsFault};
+use rl_ports::{Oids, Ports, PortsFault};
 use std::alloc::Global;
 
 /// The way out to an actor's connection.
@@ -45,8 +48,8 @@ impl Outward<'_> {
         if is_own(self.actor, inside, object) {
             return wire_value(alloc, 1, object.entity);
         }
-        let count = self.ports.exports() as u64;
-        wire_value(alloc, 0, self.ports.oid_of(inside).unwrap_or(count))
+        let next = self.ports.next_oid();
+        wire_value(alloc, 0, self.ports.oid_of(inside).unwrap_or(next))
     }
 }
 
@@ -58,30 +61,34 @@ fn is_own(actor: u32, inside: &Value, object: Reference) -> bool
 }
 
 /// A value of the server's as connection `connection` is told of it: its own objects without
-/// caveats as `[1 e]`, and every other reference as `[0 n]` by the number of its export. Those that
-/// aren't exported yet are, in order of first use. After a fault no export has come.
+/// caveats as `[1 e]`, and every other reference as `[0 n]` by the number of its export, which is
+/// told too. Those that aren't exported yet are, in order of first use. After a fault no export has
+/// come.
 pub fn wire_out(
     alloc: Global,
     ports: &mut Ports,
     connection: u32,
     value: &Value,
-) -> Result<Value, PortsFault>
+) -> Result<(Value, Oids), PortsFault>
     requires { connection ≤ 2 ^ 31 }
-    ensures crossed { IfOk result (λ v. v
+    ensures crossed { IfOk result (λ told. told.0
         ≡ crossed_out (exports_with ports.old.exports connection value.now) connection value.now) }
-    ensures fits { IfOk result
-        (λ v. fault_out ports.old.exports (foreign_in connection value.now) ≡ None) }
+    ensures numbers { IfOk result (λ told. told.1
+        ≡ numbers_out (exports_with ports.old.exports connection value.now) connection value.now) }
+    ensures given { IfOk result (λ told. AreGiven ports.new.exports.next told.1) }
+    ensures fits { OnOk result
+        (fault_out ports.old.exports (foreign_in connection value.now) ≡ None) }
     ensures exports { OnOk result (ports.new
         ≡ with_exports (exports_with ports.old.exports connection value.now) ports.old) }
     ensures fault { IfErr result
         (IsWhy (fault_out ports.old.exports (foreign_in connection value.now))) }
     ensures undone { OnErr result (ports.new ≡ ports.old) }
 {
-    let count = ports.exports();
+    let next = ports.next_oid();
     match exported_and_crossed(alloc, ports, BEFORE_CONNECTIONS + connection, value) {
         Ok(told) => Ok(told),
         Err(fault) => {
-            ports.forget(count);
+            ports.forget(next);
             Err(fault)
         }
     }
@@ -94,54 +101,67 @@ fn exported_and_crossed(
     ports: &mut Ports,
     actor: u32,
     value: &Value,
-) -> Result<Value, PortsFault>
+) -> Result<(Value, Oids), PortsFault>
     ensures crossed { IfOk result
-        (λ v. v ≡ crossed (λ x. reference_out ports.new.exports actor x (reference_of x))
+        (λ told. told.0 ≡ crossed (λ x. reference_out ports.new.exports actor x (reference_of x))
         value.now) }
+    ensures numbers { IfOk result (λ told. told.1 ≡ ascending_by nat_cmp
+        (map (λ r. number_of r ports.new.exports) (others_in actor (held_in value.now)))) }
+    ensures given { IfOk result (λ told. AreGiven ports.new.exports.next told.1) }
     ensures exports { OnOk result (ports.new ≡ with_exports
         (all_exported ports.old.exports (others_in actor (held_in value.now))) ports.old) }
     ensures fits { OnOk result
         (fault_out ports.old.exports (others_in actor (held_in value.now)) ≡ None) }
     ensures fault { IfErr result
         (IsWhy (fault_out ports.old.exports (others_in actor (held_in value.now)))) }
-    ensures kept { OnErr result
-        (with_exports (take (length ports.old.exports) ports.new.exports) ports.new ≡ ports.old) }
+    ensures kept { OnErr result (HasGrown ports.old ports.new) }
 {
+    let _ = ports.next_oid();
     let held = held_in(alloc, value)?;
-    export_foreign(alloc, ports, actor, &held)?;
+    let numbers = export_foreign(alloc, ports, actor, &held)?;
+    let _ = ports.next_oid();
+    let oids = Oids::of(alloc, &numbers)?;
     let way = Outward { ports, actor };
-    Ok(crossed(alloc, &way, value)?)
+    Ok((crossed(alloc, &way, value)?, oids))
 }
 
-/// Exports the references of others among these, from the first one on. After a fault those before
-/// it are exported.
+/// Exports the references of others among these, from the first one on, and answers their numbers.
+/// After a fault those before it are exported.
 fn export_foreign(
     alloc: Global,
     ports: &mut Ports,
     actor: u32,
     held: &[Value],
-) -> Result<(), PortsFault>
+) -> Result<Vec<u64>, PortsFault>
+    ensures numbers { IfOk result (λ ns. ns.items
+        ≡ map (λ r. number_of r ports.new.exports) (others_in actor held.now)) }
     ensures exports { OnOk result (ports.new ≡ with_exports
         (all_exported ports.old.exports (others_in actor held.now)) ports.old) }
     ensures fits { OnOk result (fault_out ports.old.exports (others_in actor held.now) ≡ None) }
     ensures fault { IfErr result
         (IsWhy (fault_out ports.old.exports (others_in actor held.now))) }
-    ensures kept { OnErr result
-        (with_exports (take (length ports.old.exports) ports.new.exports) ports.new ≡ ports.old) }
+    ensures kept { HasGrown ports.old ports.new }
 {
+    let _ = ports.next_oid();
+    let mut numbers = Vec::new(alloc);
     for x in held {
-        export_if_foreign(alloc, ports, actor, x)?;
+        export_if_foreign(alloc, ports, actor, x, &mut numbers)?;
     }
-    Ok(())
+    Ok(numbers)
 }
 
-/// Exports the reference, where it isn't one to the actor's own object without caveats.
+/// Exports the reference, and adds its number, where it isn't one to the actor's own object without
+/// caveats.
 fn export_if_foreign(
     alloc: Global,
     ports: &mut Ports,
     actor: u32,
     inside: &Value,
+    numbers: &mut Vec<u64>,
 ) -> Result<(), PortsFault>
+    ensures numbers { OnOk result (numbers.new.items
+        ≡ numbers.old.items ++ map (λ r. number_of r ports.old.exports)
+        (foreign_of actor inside.now (reference_of inside.now))) }
     ensures exports { OnOk result (ports.new ≡ with_exports (all_exported ports.old.exports
         (foreign_of actor inside.now (reference_of inside.now))) ports.old) }
     ensures fits { OnOk result (fault_out ports.old.exports
@@ -152,9 +172,20 @@ fn export_if_foreign(
 {
     match reference_of(inside) {
         Some(object) if !is_own(actor, inside, object) => {
-            ports.oid_for(alloc, inside)?;
+            let Ok(()) = numbers.reserve(1) else {
+                return Err(PortsFault::NoMemory);
+            };
+            append(numbers, ports.oid_for(alloc, inside)?);
             Ok(())
         }
         _ => Ok(()),
     }
+}
+
+/// One number more, where there is room for it.
+fn append(numbers: &mut Vec<u64>, number: u64)
+    requires { vec_len numbers.old < vec_capacity numbers.old }
+    ensures { numbers.new.items ≡ numbers.old.items ++ number ∷ [] }
+{
+    let _ = numbers.push(number);
 }

@@ -17,14 +17,14 @@ use Rattle.rl_packet.specs.declared.packets.Event.TheVariants.{Assert, Retract, 
 use Rattle.rl_packet.specs.declared.packets.TurnEvent.{TurnEvent}
 use Rattle.rl_packet.specs.declared.packets.Turn.{Turn as TurnRecord}
 use Rattle.rl_ports.specs.Ports.{PortsState, speaking}
-use Rattle.rl_wire.specs.Crossing.{size_fault}
+use Rattle.rl_wire.specs.Crossing.{size_fault, size_fault_of}
 use Rattle.hub_machine.specs.Limits.{most_events, most_handles, most_rows_weight, most_backlog, most_backlog_weight}
 use Rattle.hub_machine.specs.Faults.{Fault, BadPacket, HandleInUse, over, where_it_is}
 use Rattle.hub_machine.specs.State.{State, ports_of}
 use Rattle.hub_machine.specs.Admission.{Admitting, Admitted, admitted, before_all, after, kept, weighed, rows_with}
-use Rattle.hub_machine.specs.Admission.{load_with, value_cause, load_cause, let_through, row_cause, assertion_cause}
-use Rattle.hub_machine.specs.Admission.{said_cause}
-use Rattle.hub_machine.specs.Admission.{cap_at}
+use Rattle.hub_machine.specs.Admission.{load_with, value_cause, references_cause, load_cause, through, peer_kept}
+use Rattle.hub_machine.specs.Admission.{taking_cause, row_cause, assertion_cause, said_cause, stale_cause}
+use Rattle.hub_machine.specs.Admission.{Aim, object, stale, unknown, aim_at}
 use Rattle.hub_machine.specs.Admission.{event_cause, cause_at, unless, all_admitted, admission}
 use Rattle.hub_machine.specs.Machine.{step, unchanged, packet_at, judged, turn_of, after_turn, tell, told_unless}
 use Rattle.hub_machine.specs.Machine.{telling_fault}
@@ -34,6 +34,7 @@ use Rattle.hub_machine.specs.declared.steps.Step.TheVariants.{Bind, Watch, Arriv
 use Rattle.hub_machine.specs.declared.steps.Reply.{Reply}
 use Rattle.hub_machine.specs.declared.steps.Reply.TheVariants.{Worn, Taken}
 use Rattle.hub_machine.specs.Completeness.{IsLight, MayWait, IsFineValue, IsFineRow, IsFineAssertion, IsFineMessage}
+use Rattle.hub_machine.specs.Completeness.{AreFineReferences, IsLightWhere, IsFineHandle, IsFineStale}
 use Rattle.hub_machine.specs.Completeness.{IsFineEvent, IsFineAt, AreFine}
 use Rattle.hub_machine.specs.Completeness.{IsFineFor, IsTurnReply, IsToldTo, told_reply, IsComplete}
 
@@ -43,8 +44,15 @@ within most which n l = grind (arith, nat_tests, l)
 light : (v : Plain) → IsLight v → size_fault v ≡ None
 light v l = grind (arith, nat_tests, l.0, l.1)
 
+light_where : (o : Option Plain) → IsLightWhere o → size_fault_of o ≡ None
+light_where None l = refl
+light_where (Some v) l = light v l
+
 fine_value : (k : ℕ) (v : Plain) (x : Admitting) → IsFineValue k v x → value_cause k v x ≡ None
-fine_value k v x fine = rw (fine.0, light (kept k v x) fine.1)
+fine_value k v x fine = rw (fine.0, light_where (kept k v x) fine.1)
+
+fine_references : (v : Plain) (x : Admitting) → AreFineReferences v x → references_cause v x ≡ None
+fine_references v x fine = rw fine refl
 
 may_wait : (l : Load) → MayWait l → load_cause l ≡ None
 may_wait l m = rw (within most_backlog 10 l.count m.0, within most_backlog_weight 11 l.weight m.1)
@@ -58,15 +66,17 @@ fine_row w to None x fine = refl
 fine_row w to (Some v) x fine =
     rw (within most_rows_weight 5 (rows_with (weighed v) x) fine.0, may_wait (load_with w to (weighed v) x) fine.1)
 
+fine_handle : (h : ℕ) (x : Admitting) → IsFineHandle h x → taking_cause h x ≡ None
+fine_handle h x fine =
+    rw (
+      ap (λ b. where_it_is b (HandleInUse h)) fine.0,
+      within most_handles 4 (top (length x.ports.handles + 1)) (few (length x.ports.handles + 1) fine.1),
+    )
+
 fine_assertion : (k : ℕ) (w : WorldState) (to : Cap) (v : Plain) (h : ℕ) (x : Admitting)
     → IsFineAssertion k w to v h x → assertion_cause k w to v h x ≡ None
 fine_assertion k w to v h x fine =
-    rw (
-      fine_value k v x fine.0,
-      ap (λ b. where_it_is b (HandleInUse h)) fine.1,
-      within most_handles 4 (top (length x.ports.handles + 1)) (few (length x.ports.handles + 1) fine.2),
-      fine_row w to (let_through w to (kept k v x)) x fine.3,
-    )
+    rw (fine_value k v x fine.0, fine_handle h x fine.1, fine_row w to (through k w to v x) x fine.2)
 
 fine_message : (w : WorldState) (to : Cap) (o : Option Plain) (x : Admitting) → IsFineMessage w to o x
     → said_cause w to o x ≡ None
@@ -78,13 +88,21 @@ fine_event : (k : ℕ) (w : WorldState) (to : Cap) (e : Event) (x : Admitting) �
 fine_event k w to (Assert v h) x fine = fine_assertion k w to v h x fine
 fine_event k w to (Retract h) x fine = rw fine
 fine_event k w to (Message v) x fine =
-    rw (fine_value k v x fine.0, fine_message w to (let_through w to (kept k v x)) x fine.1)
-fine_event k w to (Sync peer) x fine = rw (fine_value k peer x fine.0, may_wait _ fine.1)
+    rw (fine_value k v x fine.0, fine_message w to (through k w to v x) x fine.1)
+fine_event k w to (Sync peer) x fine =
+    rw (fine_value k peer x fine.0, fine_message w to (peer_kept k peer x) x fine.1)
 
-fine_at : (k : ℕ) (w : WorldState) (o : Option Cap) (e : TurnEvent) (x : Admitting) → IsFineAt k w o e.event x
-    → cause_at k w o e x ≡ None
-fine_at k w None e x fine = absurd fine
-fine_at k w (Some to) e x fine = fine_event k w to e.event x fine
+fine_stale : (e : Event) (x : Admitting) → IsFineStale e x → stale_cause e x ≡ None
+fine_stale (Assert v h) x fine = rw (fine_references v x fine.0, fine_handle h x fine.1)
+fine_stale (Retract h) x fine = rw fine
+fine_stale (Message v) x fine = fine_references v x fine
+fine_stale (Sync peer) x fine = fine_references peer x fine
+
+fine_at : (k : ℕ) (w : WorldState) (a : Aim) (e : TurnEvent) (x : Admitting) → IsFineAt k w a e.event x
+    → cause_at k w a e x ≡ None
+fine_at k w (object to) e x fine = fine_event k w to e.event x fine
+fine_at k w stale e x fine = fine_stale e.event x fine
+fine_at k w unknown e x fine = absurd fine
 
 -- all events are admitted, with what they leave
 all_fine : (k : ℕ) (w : WorldState) (es : List TurnEvent) (x : Admitting) → AreFine k w es x
@@ -94,7 +112,7 @@ all_fine k w (e ∷ es) x fine =
     let rest = all_fine k w es (after k w e x) fine.1 in (
       rest.0,
       ap (λ c. unless c (all_admitted k w es (after k w e x)))
-          (fine_at k w (cap_at e.oid x.ports) e x fine.0) ∙ rest.1,
+          (fine_at k w (aim_at e.oid x.ports) e x fine.0) ∙ rest.1,
     )
 
 fine_admission : (k : ℕ) (ports : PortsState) (w : WorldState) (es : List TurnEvent) → length es ≤ most_events

@@ -1,14 +1,15 @@
 -- What is held in values that cross, and that what is sent may stand in a packet.
-use Rattle.std.proofs.Common.{◌≡◌, ℕ, zero, suc, ◌^◌, ◌<◌, ◌≤◌, Bool, true, false, ◌&&◌, List, [], ◌∷◌, ◌++◌, length}
+use Rattle.std.proofs.Common.{◌≡◌, ℕ, ◌^◌, ◌<◌, ◌≤◌, Bool, true, false, ◌&&◌, List, [], ◌∷◌, ◌++◌}
 use Rattle.std.proofs.Common.{map, Option, Some, None, cond, refl, sym, ap, ◌∙◌, subst, arith}
 use Rattle.std.proofs.lemmas.Bool.{and_from, and_parts, lt-ltb}
 use Rattle.std.proofs.lemmas.Bool.Decides.{nat_tests}
-use Rattle.std.specs.Prelude.{IsSomeAnd, option_map, unwrap_or, if◌then◌else◌}
+use Rattle.std.specs.Prelude.{IsSomeAnd, unwrap_or, if◌then◌else◌}
 use Rattle.std.specs.declared.cmp.Ordering.{Ordering}
 use Rattle.std.specs.declared.cmp.Ordering.TheVariants.{Less, Equal, Greater}
 use Rattle.std.specs.Ordering.{match_ordering}
 use Rattle.std.specs.BTreeMap.{insert_entry}
 use Rattle.std.specs.List.{AllByRecursion}
+use Rattle.std.specs.Map.{keys_of}
 use Rattle.pv_value.specs.Plain.{Plain, integer, record_of, sequence, set_of, dictionary, embedded, boolean, double}
 use Rattle.pv_value.specs.Plain.{string, byte_string, symbol, Plains, no_more, then_more, PlainPairs, no_pairs}
 use Rattle.pv_value.specs.Plain.{then_pair, plains, listed, pairs, paired}
@@ -23,8 +24,7 @@ use Rattle.sr_caveat.specs.Lemmas.Capped.{cap_is, cap_sound}
 use Rattle.ac_table.specs.declared.batches.Event.{Event}
 use Rattle.ac_table.specs.declared.batches.Event.TheVariants.{Assert, Retract, Message, Sync}
 use Rattle.rl_packet.specs.Wired.{is_wire_reference, is_wired, all_wired, all_pairs_wired, IsTurnEvent}
-use Rattle.rl_ports.specs.Limits.{most_exports}
-use Rattle.rl_ports.specs.Ports.{place_of, number_of}
+use Rattle.rl_ports.specs.Ports.{ExportTable, AreNumbered, place_of, number_of}
 use Rattle.rl_wire.specs.Crossing.{by_keys, crossed, all_crossed, all_pairs_crossed, held_in, all_held_in}
 use Rattle.rl_wire.specs.Crossing.{all_pairs_held_in, actor_at, wire_value, is_own, reference_out, crossed_out}
 use Rattle.rl_wire.specs.Lemmas.Later.{all_of_front, all_of_rest}
@@ -218,23 +218,23 @@ own_wire e low = grind (arith, nat_tests)
 other_wire : (e : ℕ) → e < 2 ^ 63 → IsWireReference (wire_value 0 e)
 other_wire e low = grind (arith, nat_tests)
 
--- an export's number is at most how many there are
-place_within : (r : Plain) (xs : List Plain) (n : ℕ) → place_of r xs ≡ Some n → n ≤ length xs
-place_within r [] n is = absurd cc
-place_within r (x ∷ xs) n is = by (same r x) (place_of r xs) (place_within r xs) is
+-- the number of what is exported was given
+place_given : (r : Plain) (next : ℕ) (es : List (ℕ × Plain)) (n : ℕ) → AllByRecursion (λ m. m < next) (keys_of es)
+    → place_of r es ≡ Some n → n < next
+place_given r next [] n given is = absurd cc
+place_given r next (e ∷ es) n given is = by (same r e.1) (place_given r next es n given.1) is
   where
-    by : (b : Bool) (o : Option ℕ) → ((m : ℕ) → o ≡ Some m → m ≤ length xs)
-        → (if b then Some zero else option_map suc o) ≡ Some n → n ≤ suc (length xs)
-    by true o later is = let one : zero ≡ n = cc in omega arith
-    by false None later is = absurd cc
-    by false (Some m) later is = let one : suc m ≡ n = cc in omega (arith, later m refl)
+    by : (b : Bool) → (place_of r es ≡ Some n → n < next) → (if b then Some e.0 else place_of r es) ≡ Some n → n < next
+    by true later is = let one : e.0 ≡ n = cc in subst (λ m. m < next) one given.0
+    by false later is = later is
 
-number_within : (r : Plain) (xs : List Plain) → number_of r xs ≤ length xs
-number_within r xs = by (place_of r xs) (place_within r xs)
+number_small : (r : Plain) (exports : ExportTable) → AreNumbered exports → number_of r exports < 2 ^ 63
+number_small r exports are = by (place_of r exports.in_force) refl
   where
-    by : (o : Option ℕ) → ((m : ℕ) → o ≡ Some m → m ≤ length xs) → unwrap_or o (length xs) ≤ length xs
-    by None within = omega arith
-    by (Some n) within = within n refl
+    by : (o : Option ℕ) → place_of r exports.in_force ≡ o → unwrap_or o exports.next < 2 ^ 63
+    by None is = are.few
+    by (Some n) is =
+        let low = place_given r exports.next exports.in_force n are.given is in omega (arith, are.few, low)
 
 -- the object that a reference names
 pub reference_read : (x : Plain) (c : Cap) → cap_of x ≡ Some c
@@ -245,15 +245,14 @@ reference_read x c is =
     ∙ (λ i. cond {A = Option Reference} (lt-ltb c.actor (2 ^ 32) sound.0 i && lt-ltb c.entity (2 ^ 63) sound.1 i)
     (Some (record { actor = c.actor; entity = c.entity })) None)
 
-object_goes_out : (n : Lived) (k : ℕ) (exports : List Plain) (x : Plain) → length exports ≤ most_exports
-    → IsObjectValue n x
-    → IsWireReference (reference_out exports (actor_at k) x (reference_of x))
-object_goes_out n k exports x few h = by (cap_of x) refl h
+object_goes_out : (n : Lived) (k : ℕ) (exports : ExportTable) (x : Plain) → AreNumbered exports
+    → IsObjectValue n x → IsWireReference (reference_out exports (actor_at k) x (reference_of x))
+object_goes_out n k exports x are h = by (cap_of x) refl h
   where
     at : (c : Cap) (b : Bool) → IsObject n c
         → IsWireReference (if b then wire_value 1 c.entity else wire_value 0 (number_of x exports))
     at c true o = own_wire c.entity o.1
-    at c false o = other_wire (number_of x exports) (omega (arith, number_within x exports))
+    at c false o = other_wire (number_of x exports) (number_small x exports are)
 
     by : (o : Option Cap) → cap_of x ≡ o → IsSomeAnd o (IsObject n)
         → IsWireReference (reference_out exports (actor_at k) x (reference_of x))
@@ -262,27 +261,27 @@ object_goes_out n k exports x few h = by (cap_of x) refl h
         subst (λ o. IsWireReference (reference_out exports (actor_at k) x o)) (sym (reference_read x c is))
         (at c (is_own (actor_at k) x (record { actor = c.actor; entity = c.entity })) h)
 
-sent_value : (n : Lived) (k : ℕ) (exports : List Plain) (v : Plain) → length exports ≤ most_exports → HoldsObjects n v
+sent_value : (n : Lived) (k : ℕ) (exports : ExportTable) (v : Plain) → AreNumbered exports → HoldsObjects n v
     → is_wired (crossed_out exports k v) ≡ true
-sent_value n k exports v few h =
+sent_value n k exports v are h =
     wired_by_held (crossed_out exports k v)
     (held_by_crossed (IsObjectValue n) IsWireReference (λ x. reference_out exports (actor_at k) x (reference_of x))
-    (λ x. object_goes_out n k exports x few) v h)
+    (λ x. object_goes_out n k exports x are) v h)
 
-sent_one : (n : Lived) (next k : ℕ) (exports : List Plain) (e : Event) → IsValidEvent n next e → next ≤ 2 ^ 63
-    → length exports ≤ most_exports → IsTurnEvent (sent_event exports k e)
-sent_one n next k exports (Assert h entity v) valid low few =
-    (valid.1, (sent_value n k exports v few valid.2, omega arith))
-sent_one n next k exports (Retract h entity) valid low few = (valid.1, omega arith)
-sent_one n next k exports (Message entity v) valid low few = (valid.0, sent_value n k exports v few valid.1)
-sent_one n next k exports (Sync entity peer) valid low few =
-    (valid.0, object_goes_out n k exports peer few valid.1)
+sent_one : (n : Lived) (next k : ℕ) (exports : ExportTable) (e : Event) → IsValidEvent n next e → next ≤ 2 ^ 63
+    → AreNumbered exports → IsTurnEvent (sent_event exports k e)
+sent_one n next k exports (Assert h entity v) valid low are =
+    (valid.1, (sent_value n k exports v are valid.2, omega arith))
+sent_one n next k exports (Retract h entity) valid low are = (valid.1, omega arith)
+sent_one n next k exports (Message entity v) valid low are = (valid.0, sent_value n k exports v are valid.1)
+sent_one n next k exports (Sync entity peer) valid low are =
+    (valid.0, object_goes_out n k exports peer are valid.1)
 
-sent_all : (n : Lived) (next k : ℕ) (exports : List Plain) (es : List Event) → AllByRecursion (IsValidEvent n next) es
-    → next ≤ 2 ^ 63 → length exports ≤ most_exports → AllByRecursion IsTurnEvent (map (sent_event exports k) es)
-sent_all n next k exports [] valid low few = tt
-sent_all n next k exports (e ∷ es) valid low few =
-    (sent_one n next k exports e valid.0 low few, sent_all n next k exports es valid.1 low few)
+sent_all : (n : Lived) (next k : ℕ) (exports : ExportTable) (es : List Event) → AllByRecursion (IsValidEvent n next) es
+    → next ≤ 2 ^ 63 → AreNumbered exports → AllByRecursion IsTurnEvent (map (sent_event exports k) es)
+sent_all n next k exports [] valid low are = tt
+sent_all n next k exports (e ∷ es) valid low are =
+    (sent_one n next k exports e valid.0 low are, sent_all n next k exports es valid.1 low are)
 
 pub sent_is_sound : SentIsSound
-sent_is_sound n next k exports b valid low few = sent_all n next k exports b.events valid low few
+sent_is_sound n next k exports b valid low are = sent_all n next k exports b.events valid low are

@@ -28,12 +28,13 @@ use Rattle.ac_world.specs.Lemmas.Entries.{each_with, each_without, each_found}
 use Rattle.rl_packet.specs.declared.packets.TurnEvent.{TurnEvent}
 use Rattle.rl_packet.specs.declared.packets.Turn.{Turn as TurnRecord}
 use Rattle.rl_packet.specs.Wired.{IsTurnEvent}
-use Rattle.rl_ports.specs.Ports.{PortsState, speaking, ports_to, with_exports, place_of, exported}
+use Rattle.rl_ports.specs.Ports.{PortsState, ExportTable, speaking, ports_to, with_export, place_of, exported, stays}
 use Rattle.rl_wire.specs.Crossing.{held_in, is_own, foreign_of, actor_at, all_exported}
 use Rattle.hub_machine.specs.Limits.{most_connections, last_dataspace}
 use Rattle.hub_machine.specs.declared.faults.Fault.{Fault}
 use Rattle.hub_machine.specs.declared.faults.Fault.TheVariants.{BadPacket}
 use Rattle.hub_machine.specs.Lemmas.Dialects.{by_dialect}
+use Rattle.hub_machine.specs.Lemmas.Naming.{named_exports}
 use Rattle.hub_machine.specs.State.{State, ports_of}
 use Rattle.hub_machine.specs.Admission.{Admitted, refused, admitted, admission}
 use Rattle.hub_machine.specs.Endings.{nameless, departed_for, closed, failed, finished}
@@ -41,6 +42,7 @@ use Rattle.hub_machine.specs.Machine.{is_to_space, is_barred, bind_unless, is_un
 use Rattle.hub_machine.specs.Machine.{unchanged, actor_reference, opened, refusal, arrive_unless, accepted, judged}
 use Rattle.hub_machine.specs.Machine.{packet_at, bad_at}
 use Rattle.hub_machine.specs.Machine.{close_at, told_value, foreign_told, foreign_to, telling_fault, exports_after}
+use Rattle.hub_machine.specs.Machine.{all_named, names_after}
 use Rattle.hub_machine.specs.Machine.{exporting, told_unless, tell, fault_for, tell_fault, after_turn, turn_of, rest}
 use Rattle.hub_machine.specs.Machine.{work_by, is_worn, done, step, IsAllowed}
 use Rattle.hub_machine.specs.declared.steps.Step.{Step}
@@ -52,6 +54,7 @@ use Rattle.hub_valid.specs.Validity.{IsValidEntry, AreValid, IsValid, StaysValid
 use Rattle.hub_valid.specs.Promises.{OpenedIsValid, AcceptedIsValid, NamelessIsValid, DepartedIsValid, TurnedIsValid}
 use Rattle.hub_valid.specs.Promises.{TakenIsValid, ExportingIsValid, BindingIsValid, WatchingIsValid, DismissedIsValid}
 use Rattle.hub_valid.specs.Lemmas.Admitted.{acts_are_valid, exports_stay}
+use Rattle.hub_valid.specs.Lemmas.Filtered.{all_kept}
 use Rattle.hub_valid.specs.Lemmas.Values.{all_flat, all_weaker, all_append, cap_is_object, IsWithin}
 use Rattle.hub_valid.specs.Lemmas.Values.{later_inside}
 use Rattle.hub_valid.specs.Lemmas.StepEnds.{finished_keeps}
@@ -66,7 +69,7 @@ use Rattle.hub_valid.specs.Lemmas.Turns.{taken_valid_after}
 later_entry : (m n : Lived) (e : ℕ × PortsState) → IsWithin m n → IsValidEntry m e → IsValidEntry n e
 later_entry m n e l v = (
   (v.0.0, omega (arith, l.0, v.0.1)),
-  all_weaker (IsObjectValue m) (IsObjectValue n) (λ x. later_inside m n x l) e.1.exports v.1,
+  all_weaker (λ x. IsObjectValue m x.1) (λ x. IsObjectValue n x.1) (λ x. later_inside m n x.1 l) e.1.exports.in_force v.1,
 )
 
 -- the names that a live connection has
@@ -143,8 +146,8 @@ accepted_is_valid k ports es x s v entry wired is = record {
   world = sent_valid (actor_of k) x.acts s.world (acts_are_valid k ports es x s v entry wired is) v.world;
   named = each_with (IsValidEntry (lived s.world)) k x.ports s.connections (
     entry.0,
-    subst (AllByRecursion (IsObjectValue (lived s.world))) (sym (exports_stay k ports s.world es x is))
-        entry.1,
+    subst (λ (t : ExportTable). AllByRecursion (λ e. IsObjectValue (lived s.world) e.1) t.in_force)
+        (sym (exports_stay k ports s.world es x is)) entry.1,
   )
       v.named;
 }
@@ -173,16 +176,17 @@ told_objects n next k (told.Retract h entity) fits = tt
 told_objects n next k (told.Message entity x) fits = foreign_objects n (actor_at k) (held_in x) fits.1
 told_objects n next k (told.Sync entity peer) fits = foreign_objects n (actor_at k) (peer ∷ []) (fits.1, tt)
 
-exported_pass : (P : Plain → Type 0) (r : Plain) (exports : List Plain) → P r → AllByRecursion P exports
-    → AllByRecursion P (exported r exports)
-exported_pass P r exports p all = by (is_some (place_of r exports))
+exported_pass : (P : Plain → Type 0) (r : Plain) (exports : ExportTable) → P r
+    → AllByRecursion (λ e. P e.1) exports.in_force → AllByRecursion (λ e. P e.1) (exported r exports).in_force
+exported_pass P r exports p all = by (is_some (place_of r exports.in_force))
   where
-    by : (b : Bool) → AllByRecursion P (cond b exports (exports ++ r ∷ []))
+    by : (b : Bool) → AllByRecursion (λ e. P e.1) (cond b exports (with_export r exports)).in_force
     by true = all
-    by false = all_append P exports (r ∷ []) all (p, tt)
+    by false = all_append (λ e. P e.1) exports.in_force _ all (p, tt)
 
-all_exported_pass : (P : Plain → Type 0) (exports rs : List Plain) → AllByRecursion P exports
-    → AllByRecursion P rs → AllByRecursion P (all_exported exports rs)
+all_exported_pass : (P : Plain → Type 0) (exports : ExportTable) (rs : List Plain)
+    → AllByRecursion (λ e. P e.1) exports.in_force → AllByRecursion P rs
+    → AllByRecursion (λ e. P e.1) (all_exported exports rs).in_force
 all_exported_pass P exports [] all more = all
 all_exported_pass P exports (r ∷ rs) all more =
     all_exported_pass P (exported r exports) rs (exported_pass P r exports more.0 all) more.1
@@ -192,15 +196,24 @@ exporting_is_valid k b ports s v entry fits = record {
   few = v.few;
   few_watchers = v.few_watchers;
   world = v.world;
-  named = each_with (IsValidEntry (lived s.world)) k (with_exports (exports_after k b ports) ports) s.connections (
+  named = each_with (IsValidEntry (lived s.world)) k (names_after k b ports) s.connections (
     entry.0,
-    all_exported_pass (IsObjectValue (lived s.world)) ports.exports (foreign_to k b) entry.1
-        (all_flat (IsValidEvent (lived s.world) s.world.table.next) (IsObjectValue (lived s.world))
-        (λ e. foreign_told k (told_value e)) (told_objects (lived s.world) s.world.table.next k) b.events
-        fits),
+    all_kept (λ e. IsObjectValue (lived s.world) e.1) (λ e. stays told e.0) told.exports.in_force
+        (subst (λ (t : ExportTable). AllByRecursion (λ e. IsObjectValue (lived s.world) e.1) t.in_force)
+        (sym (named_exports k b.events ports)) objects),
   )
       v.named;
 }
+  where
+    -- before what nothing mentions is released
+    told : PortsState
+    told = all_named k b.events ports
+
+    objects : AllByRecursion (λ e. IsObjectValue (lived s.world) e.1) (exports_after k b ports).in_force
+    objects =
+        all_exported_pass (IsObjectValue (lived s.world)) ports.exports (foreign_to k b) entry.1
+        (all_flat (IsValidEvent (lived s.world) s.world.table.next) (IsObjectValue (lived s.world))
+        (λ e. foreign_told k (told_value e)) (told_objects (lived s.world) s.world.table.next k) b.events fits)
 
 -- ---- who ends
 

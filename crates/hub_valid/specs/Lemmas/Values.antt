@@ -4,7 +4,9 @@ use Rattle.std.proofs.Common.{sym, subst, arith}
 use Rattle.std.specs.Prelude.{IsSomeAnd, option_map, slice_get, flat_map}
 use Rattle.std.specs.declared.cmp.Ordering.{Ordering}
 use Rattle.std.specs.declared.cmp.Ordering.TheVariants.{Less, Equal, Greater}
-use Rattle.std.specs.Ordering.{match_ordering}
+use Rattle.std.specs.Ordering.{nat_cmp, match_ordering}
+use Rattle.std.specs.BTreeMap.{is_at}
+use Rattle.std.specs.Map.{lookup}
 use Rattle.std.specs.BTreeSet.{insert_key}
 use Rattle.std.specs.List.{AllByRecursion}
 use Rattle.pv_value.specs.Plain.{Plain, record_of, sequence, embedded, no_more, then_more, plains}
@@ -55,6 +57,13 @@ pub all_ascending : {X : Type 0} (P : X → Type 0) (before : X → X → Orderi
 all_ascending P before [] a = tt
 all_ascending P before (x ∷ xs) a =
     all_inserted P before (ascending_by before xs) x (all_ascending P before xs a.1) a.0
+
+-- what stands under a number
+pub all_numbered : {X : Type 0} (P : X → Type 0) (n : ℕ) (es : List (ℕ × X)) → AllByRecursion (λ e. P e.1) es
+    → If (lookup (is_at (nat_cmp n)) es) P
+all_numbered P n [] a = tt
+all_numbered P n (e ∷ es) a =
+    if_cond P (is_at (nat_cmp n) e.0) (Some e.1) (lookup (is_at (nat_cmp n)) es) a.0 (all_numbered P n es a.1)
 
 -- what stands at a place
 pub all_got : {X : Type 0} (P : X → Type 0) (xs : List X) (i : ℕ) → AllByRecursion P xs → If (slice_get xs i) P

@@ -1,7 +1,7 @@
 -- What a connection was told goes out the same by its later exports.
-use Rattle.std.proofs.Common.{◌≡◌, ℕ, List, [], ◌∷◌, ◌++◌, Bool, true, false, length, Option, Some, None}
+use Rattle.std.proofs.Common.{◌≡◌, ℕ, List, [], ◌∷◌, ◌++◌, Bool, true, false, Option, Some, None}
 use Rattle.std.proofs.Common.{refl, ap}
-use Rattle.std.specs.Prelude.{is_some, unwrap_or, if◌then◌else◌}
+use Rattle.std.specs.Prelude.{if◌then◌else◌}
 use Rattle.std.specs.List.{AllByRecursion, flat_map}
 use Rattle.pv_value.specs.Plain.{Plain, integer, record_of, sequence, set_of, dictionary, embedded}
 use Rattle.pv_value.specs.Plain.{boolean, double, string, byte_string, symbol}
@@ -11,12 +11,12 @@ use Rattle.pv_value.specs.Order.{order}
 use Rattle.pv_value.specs.Sets.{ascending_by}
 use Rattle.ds_space.specs.declared.references.Reference.{Reference}
 use Rattle.ds_space.specs.References.{reference_of}
-use Rattle.rl_ports.specs.Ports.{number_of, place_of}
+use Rattle.rl_ports.specs.Ports.{ExportTable, number_of}
 use Rattle.rl_wire.specs.Crossing.{by_keys, crossed, all_crossed, all_pairs_crossed, held_in, all_held_in}
 use Rattle.rl_wire.specs.Crossing.{all_pairs_held_in, is_own, foreign_of, foreign_in, actor_at, reference_out}
 use Rattle.rl_wire.specs.Crossing.{wire_value}
 use Rattle.rl_wire.specs.Crossing.{all_exported, crossed_out}
-use Rattle.rl_wire.specs.Lemmas.Exporting.{IsExported, place_later}
+use Rattle.rl_wire.specs.Lemmas.Exporting.{IsExported, number_stays}
 
 -- ---- lists
 
@@ -73,17 +73,7 @@ mutual
 
 -- ---- what is exported has the same number later
 
-number_later : (r : Plain) (exports more : List Plain) → IsExported exports r
-    → number_of r (all_exported exports more) ≡ number_of r exports
-number_later r exports more there =
-    rw (place_later r exports more there) (by (place_of r exports) there)
-  where
-    by : (o : Option ℕ) → is_some o ≡ true
-        → unwrap_or o (length (all_exported exports more)) ≡ unwrap_or o (length exports)
-    by None is = absurd cc
-    by (Some n) is = refl
-
-reference_later : (exports more : List Plain) (a : ℕ) (x : Plain) (o : Option Reference)
+reference_later : (exports : ExportTable) (more : List Plain) (a : ℕ) (x : Plain) (o : Option Reference)
     → AllByRecursion (IsExported exports) (foreign_of a x o)
     → reference_out (all_exported exports more) a x o ≡ reference_out exports a x o
 reference_later exports more a x None there = refl
@@ -93,9 +83,9 @@ reference_later exports more a x (Some r) there = by (is_own a x r) there
         → (if b then wire_value 1 r.entity else wire_value 0 (number_of x (all_exported exports more)))
         ≡ (if b then wire_value 1 r.entity else wire_value 0 (number_of x exports))
     by true is = refl
-    by false is = ap (wire_value 0) (number_later x exports more is.0)
+    by false is = ap (wire_value 0) (number_stays x exports more is.0)
 
-references_later : (exports more : List Plain) (a : ℕ) (xs : List Plain)
+references_later : (exports : ExportTable) (more : List Plain) (a : ℕ) (xs : List Plain)
     → AllByRecursion (IsExported exports) (flat_map (λ x. foreign_of a x (reference_of x)) xs)
     → AllByRecursion (λ x. reference_out (all_exported exports more) a x (reference_of x)
     ≡ reference_out exports a x (reference_of x)) xs
@@ -108,7 +98,7 @@ references_later exports more a (x ∷ xs) there = (
 )
 
 -- where the references in a value are exported, it goes out the same once more are
-pub crossed_out_later : (exports more : List Plain) (k : ℕ) (v : Plain)
+pub crossed_out_later : (exports : ExportTable) (more : List Plain) (k : ℕ) (v : Plain)
     → AllByRecursion (IsExported exports) (foreign_in k v)
     → crossed_out (all_exported exports more) k v ≡ crossed_out exports k v
 crossed_out_later exports more k v there =

@@ -25,7 +25,7 @@ loop-told-preserved c =
     c.next.new.self.rest.items) (sym c.in_ok-push.ensures.items)
     (one_told c.args.connection c.args.ports.now c.args.events c.loop-told.ports c.to_send.new.ports
     c.loop-told.sent.items c.in-Some.told c.next.new.self.rest.items c.in_ok-to_send.field-0 before
-    c.in_ok-to_send.ensures.exports c.in_ok-to_send.ensures.free c.in_ok-to_send.ensures.sent)
+    c.in_ok-to_send.ensures.names c.in_ok-to_send.ensures.free c.in_ok-to_send.ensures.sent)
 
 pub returns-in_err-to_send-clause-cause : goal.returns-in_err-to_send-clause-cause
 returns-in_err-to_send-clause-cause c =

@@ -1,0 +1,10 @@
+pub mod Answers
+pub mod Asking
+pub mod Clients
+pub mod Hearing
+pub mod Laws
+pub mod Lemmas
+pub mod Lines
+pub mod Reactions
+pub mod States
+pub mod Words

@@ -1,0 +1,10 @@
+//! The program over an outside world that is handed in: all its words.
+//!
+//! [`run_words`] hands them to the crate that does them. It promises what that crate's call
+//! promises: `specs/Does.antt` has a relation for each, of what is told of the world before and
+//! after.
+#![tactic(auto)]
+
+mod running;
+
+pub use running::run_words;

@@ -1,0 +1,14 @@
+-- Marks change neither numbers nor references, and take no pin away.
+use Rattle.std.proofs.Common.{sym, subst, refl, ℕ, List}
+use Rattle.rl_ports.specs.Kept.{Export, with_pin, table_of, IsKept, IsFirstPinned}
+use Rattle.rl_ports.proofs.Keeps.{marked_kept, first_marked}
+use Rattle.rl_ports.proofs.export_list.ExportList.pin.Goals as goal
+
+pub invariant_of-self : goal.invariant_of-self
+invariant_of-self c =
+    let i = c.self.inside in
+    subst (λ (es : List (ℕ × Export)). IsKept (table_of (record { kept = es; next = i.next })) i.numbers.entries i.weight
+    × IsFirstPinned es) (sym c.pin.ensures) (
+      marked_kept with_pin (λ e. refl) c.args.numbers.now i.kept.entries i.next i.numbers.entries i.weight c.self.invariant.0,
+      first_marked with_pin (λ e is. refl) c.args.numbers.now i.kept.entries c.self.invariant.1,
+    )

@@ -1,9 +1,0 @@
--- The first exports stay as they are, while the newest goes.
-use Rattle.std.proofs.Common.{◌≡◌, length, take}
-use Rattle.rl_ports.proofs.export_list.ExportList.truncate.Given as goal
-
-abbrev pub invariant-loop-self : goal.invariant-loop-self
-invariant-loop-self l = take l.count l.self ≡ take l.count l.fn.self
-
-abbrev pub decreases-loop-self : goal.decreases-loop-self
-decreases-loop-self l = length l.self
