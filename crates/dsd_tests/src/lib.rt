@@ -1,8 +1,10 @@
 //! Tests of the top call that no file of rows can bring about: with threads at hand, over a sink of
-//! another kind, sessions of `serve` beside one another, and how deep a value the stack of a thread
-//! holds, which no clause says. Calls of the crates below it are made by rows.
+//! another kind, sessions of `serve` beside one another, a query at them, and how deep a value the
+//! stack of a thread holds, which no clause says. Calls of the crates below it are made by rows.
 #![tactic(auto)]
 
+#[cfg(test)]
+mod asking;
 #[cfg(test)]
 mod beside;
 #[cfg(test)]
@@ -13,6 +15,8 @@ mod fronts;
 mod guests;
 #[cfg(test)]
 mod overlap;
+#[cfg(test)]
+mod pipes;
 #[cfg(test)]
 mod room;
 #[cfg(test)]

@@ -9,13 +9,14 @@ use std::test::Fail;
 use std::thread::Threads;
 
 /// What binds the room's reference.
-const CONFIG: &[u8] = b"<bind \"room\" #x\"000102030405060708090a0b0c0d0e0f\" 1 []>";
+pub(crate) const CONFIG: &[u8] = b"<bind \"room\" #x\"000102030405060708090a0b0c0d0e0f\" 1 []>";
 
 /// The names of the twenty, a letter each.
 const NAMES: &[u8; 20] = b"abcdefghijklmnopqrst";
 
 /// A turn that resolves the room's reference: `[[0 <A <resolve S #:[0 1]> 1>]]`.
-const RESOLVE: &[u8] = b"\xb5\xb5\xb0\x00\xb4\xb3\x01A\xb4\xb3\x07resolve\xb4\xb3\x03ref\xb7\xb3\
+pub(crate) const RESOLVE: &[u8] =
+    b"\xb5\xb5\xb0\x00\xb4\xb3\x01A\xb4\xb3\x07resolve\xb4\xb3\x03ref\xb7\xb3\
     \x03oid\xb1\x04room\xb3\x03sig\xb2\x10\xbe\x09\xf0K\xb8\xe63r]Z\x15\x8a&\x82\xbb\xd5\x84\x84\
     \x86\xb5\xb0\x00\xb0\x01\x01\x84\x84\xb0\x01\x01\x84\x84\x84";
 
