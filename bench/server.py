@@ -54,12 +54,12 @@ def is_listened_at(port):
 
 
 class Server:
-    """`dsd serve` on a port of its own. Where it still runs at the end of the block, it is killed."""
+    """`dsd serve`, or another word that serves, on a port of its own. Where it still runs at the end of the block, it is killed."""
 
-    def __init__(self, connections, config=ROOM, workers=2, environment=(), host="127.0.0.1"):
+    def __init__(self, connections, config=ROOM, workers=2, environment=(), host="127.0.0.1", word="serve"):
         self.port = free_port(host)
         self.address = ("[%s]:%d" if ":" in host else "%s:%d") % (host, self.port)
-        words = [PROGRAM, "serve", self.address, config, str(workers), str(connections)]
+        words = [PROGRAM, word, self.address, config, str(workers), str(connections)]
         self.process = subprocess.Popen(
             words, stdin=subprocess.DEVNULL, stdout=subprocess.PIPE, stderr=subprocess.PIPE, text=True,
             env=dict(os.environ, **dict(environment)))

@@ -1,10 +1,11 @@
-"""Refuses one growth of memory of a program: a shim before the C library, which cc compiles."""
+"""Refuses one call of a program: a shim before the C library, which cc compiles. The calls are its growths of memory, or what it
+does to its files."""
 import mmap
 import os
 import struct
 import subprocess
 
-SHIM = r"""
+HEAD = r"""
 #define _GNU_SOURCE
 #include <dlfcn.h>
 #include <errno.h>
@@ -14,8 +15,22 @@ SHIM = r"""
 #include <stdlib.h>
 #include <sys/mman.h>
 
-static void *(*real)(size_t);
 static uint64_t *shared, refused;
+
+__attribute__((constructor)) static void start(void) {
+    int file = open(getenv("COUNT_IN"), O_RDWR);
+    refused = strtoull(getenv("REFUSED"), NULL, 10);
+    shared = mmap(NULL, 8, PROT_READ | PROT_WRITE, MAP_SHARED, file, 0);
+}
+
+/* Counts a call, and tells whether it is the one that is refused. */
+static int is_refused(void) {
+    return shared && __atomic_add_fetch(shared, 1, __ATOMIC_SEQ_CST) == refused;
+}
+"""
+
+GROWTHS = HEAD + r"""
+static void *(*real)(size_t);
 static uintptr_t begin, end;
 
 /* The program comes first. */
@@ -30,19 +45,15 @@ static int place(struct dl_phdr_info *info, size_t size, void *data) {
     return 1;
 }
 
-__attribute__((constructor)) static void start(void) {
-    int file = open(getenv("COUNT_IN"), O_RDWR);
-    real = dlsym(RTLD_NEXT, "malloc");
+__attribute__((constructor)) static void look(void) {
     dl_iterate_phdr(place, NULL);
-    refused = strtoull(getenv("REFUSED"), NULL, 10);
-    shared = mmap(NULL, 8, PROT_READ | PROT_WRITE, MAP_SHARED, file, 0);
 }
 
 void *malloc(size_t size) {
     uintptr_t caller = (uintptr_t)__builtin_return_address(0);
     if (!real)
         real = dlsym(RTLD_NEXT, "malloc");
-    if (shared && begin <= caller && caller < end && __atomic_add_fetch(shared, 1, __ATOMIC_SEQ_CST) == refused) {
+    if (begin <= caller && caller < end && is_refused()) {
         errno = ENOMEM;
         return NULL;
     }
@@ -50,14 +61,33 @@ void *malloc(size_t size) {
 }
 """
 
+WRITES = HEAD + r"""
+#include <unistd.h>
+
+#define OTHER(type, name, parameters, arguments, fault) \
+    type name parameters { \
+        type(*real) parameters = dlsym(RTLD_NEXT, #name); \
+        if (is_refused()) { \
+            errno = fault; \
+            return -1; \
+        } \
+        return real arguments; \
+    }
+
+OTHER(ssize_t, pwrite, (int file, const void *bytes, size_t size, off_t place), (file, bytes, size, place), ENOSPC)
+OTHER(int, ftruncate, (int file, off_t size), (file, size), EIO)
+OTHER(int, fsync, (int file), (file), EIO)
+OTHER(int, fdatasync, (int file), (file), EIO)
+"""
+
 
 class Shim:
-    """The shim, and the count that it shares."""
+    """A shim of these calls, and the count that it shares."""
 
-    def __init__(self, folder):
+    def __init__(self, folder, calls=GROWTHS):
         source, self.library = os.path.join(folder, "shim.c"), os.path.join(folder, "shim.so")
         with open(source, "w", encoding="ascii") as file:
-            file.write(SHIM)
+            file.write(calls)
         subprocess.run(["cc", "-O2", "-shared", "-fPIC", "-o", self.library, source, "-ldl"], check=True)
         self.counts = os.path.join(folder, "count")
         with open(self.counts, "wb") as file:

@@ -150,7 +150,8 @@ retract_step oid h x y is =
 
 -- ---- a message, a sync
 
-message_step : (oid : ℕ) (v : Plain) (x y : Hearing) → (let r : Result Hearing QueryFault = Ok (with_line oid (Said v) x) in r) ≡ Ok y
+message_step : (oid : ℕ) (v : Plain) (x y : Hearing)
+    → (let r : Result Hearing QueryFault = Ok (with_line oid (Said v) x) in r) ≡ Ok y
     → IsStep oid (Message v) x y
 message_step oid v x y is =
     let e = ok_same (with_line oid (Said v) x) y is in

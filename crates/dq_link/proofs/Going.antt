@@ -55,7 +55,8 @@ goes_on a b c st mid left wrote writing writes said saying says first then =
     let u = told then.packets b.client in
     let whole : told (first.packets ++ then.packets) a.client ≡ behind t.reactions u =
     told-append first.packets then.packets a.client b.client first.follows in
-    let e : length (lines_in (t.reactions ++ u.reactions)) ≡ length (lines_in t.reactions) + length (lines_in u.reactions) =
+    let e : length (lines_in (t.reactions ++ u.reactions))
+    ≡ length (lines_in t.reactions) + length (lines_in u.reactions) =
     ap length (lines-append t.reactions u.reactions) ∙ length-append (lines_in t.reactions) (lines_in u.reactions) in
     let few = first.fewer in
     let fewer' = then.fewer in

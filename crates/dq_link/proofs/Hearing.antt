@@ -114,5 +114,6 @@ both_heard before mid now a b first then = record {
   told = told_both before.left mid.left now.left a b first.told then.told;
   counted = counted_both before.given mid.given now.given (length a) (length b) (length (a ++ b)) (length-append a b)
       first.counted then.counted;
-  all = all_both before.ended mid.ended now.ended before.left mid.left now.left a b first.told then.told first.all then.all;
+  all = all_both before.ended mid.ended now.ended before.left mid.left now.left a b first.told then.told first.all
+      then.all;
 }

@@ -29,14 +29,16 @@ Text = Option (List ℕ)
 
 -- ---- one packet more
 
-pub one_more : (a b c : Asker) (st mid : StreamState) (p : Packet) (size : ℕ) (wrote writing writes said saying says : Text)
+pub one_more : (a b c : Asker) (st mid : StreamState) (p : Packet) (size : ℕ)
+    (wrote writing writes said saying says : Text)
     → IsGoing a st b mid wrote writing said saying → IsNext mid.rest mid.place (next.Whole p size)
     → Takes p b (Ok c) writing writes saying says → IsGoing a st c (read_off size mid) wrote writes said says
 one_more a b c st mid p size wrote writing writes said saying says first is (r, brings, reacted) =
     goes_on a b c st mid (read_off size mid) wrote writing writes said saying says first
     (packet_taken b c mid p size r writing writes saying says is brings reacted)
 
-pub packet_ends : (a b : Asker) (st mid : StreamState) (p : Packet) (size : ℕ) (wrote writing writes said saying says : Text)
+pub packet_ends : (a b : Asker) (st mid : StreamState) (p : Packet) (size : ℕ)
+    (wrote writing writes said saying says : Text)
     (e : QueryEnd) → HaveCourses → AreBytes mid.rest → 0 < b.left
     → IsGoing a st b mid wrote writing said saying → IsNext mid.rest mid.place (next.Whole p size)
     → Takes p b (Err e) writing writes saying says → HasGoneAnyway a st wrote writes said says e
@@ -104,7 +106,8 @@ module _ (b : Asker) (old new : Received) (wrote said : Text) (h : ToldHearing) 
       (ends_bare b old.stream wrote said next.Waits old.count h end.Spent refl refl waits ((b.some, refl, refl), full))
   hear_gone end.Left m are (none, ended) =
       at_none end.Left m none
-      (ends_bare b old.stream wrote said next.Waits old.count h end.Left refl refl waits (inr ((b.some, refl, refl), ended)))
+      (ends_bare b old.stream wrote said next.Waits old.count h end.Left refl refl waits
+      (inr ((b.some, refl, refl), ended)))
   hear_gone end.HearFailed m are none =
       at_none end.HearFailed m none
       (ends_bare b old.stream wrote said next.Waits old.count h end.HearFailed refl refl waits (b.some, refl, refl))
@@ -127,7 +130,8 @@ round_ends a b st old new wrote writes said says h e m count have waits same wer
     subst (λ (n : ℕ). HasGone a (with_bytes m st) wrote writes said says (n + length m) h e) same
     (ends_on a b (with_bytes m st) (with_bytes m old.stream) wrote writes writes said says says (old.count + length m) h e
     b.some (with_more m a b st old.stream wrote writes said says first)
-    (hear_gone b old new writes says h have waits (going_are_bytes a b st old.stream wrote writes said says first were) e m
+    (hear_gone b old new writes says h have waits
+    (going_are_bytes a b st old.stream wrote writes said says first were) e m
     are hears))
 
 -- ---- all of it
@@ -146,7 +150,8 @@ all_gone first a b m cur st wrote writing writes said opened saying says count h
     let all : HasGone a (with_bytes (b ++ m) no_stream) wrote writes opened says (length (b ++ m)) h e =
     subst (λ (k : ℕ). HasGone a (with_bytes (b ++ m) no_stream) wrote writes opened says k h e) n
     (ends_on a cur (with_bytes m (with_bytes b no_stream)) (with_bytes m st) wrote writing writes opened saying says
-    (count + length m) h e cur.some (with_more m a cur (with_bytes b no_stream) st wrote writing opened saying going) gone) in
+    (count + length m) h e cur.some
+    (with_more m a cur (with_bytes b no_stream) st wrote writing opened saying going) gone) in
     record {
       course = all.course;
       is = all.is;

@@ -100,7 +100,8 @@ output_later end.HearFailed a b c few is = absurd is
 output_later end.SayFailed a b c few is = absurd is
 
 -- a count that rose later, or earlier, rose in all
-pub cause_later : (e : QueryEnd) (a b c : ToldLink) (m n o : ℕ) → SameLink a b → m ≤ n → CauseOf e b c n o → CauseOf e a c m o
+pub cause_later : (e : QueryEnd) (a b c : ToldLink) (m n o : ℕ) → SameLink a b → m ≤ n → CauseOf e b c n o
+    → CauseOf e a c m o
 cause_later end.DialFailed a b c m n o same few is =
     let d : b.dial_faults ≡ a.dial_faults = same.dial in omega (arith, d, is)
 cause_later end.HearFailed a b c m n o same few is = omega (arith, same.hear, is)

@@ -148,7 +148,8 @@ pub record HasGone (a : Asker) (st : StreamState) (wrote writes said says : Opti
 -- the end doesn't hang on the link
 abbrev pub HasGoneAnyway : Asker → StreamState → Option (List ℕ) → Option (List ℕ) → Option (List ℕ)
     → Option (List ℕ) → QueryEnd → Type 0
-HasGoneAnyway a st wrote writes said says e = (count : ℕ) (h : ToldHearing) → HasGone a st wrote writes said says count h e
+HasGoneAnyway a st wrote writes said says e = (count : ℕ) (h : ToldHearing)
+    → HasGone a st wrote writes said says count h e
 
 abbrev pub GoesOn : Asker → Received → Received → Option (List ℕ) → Option (List ℕ) → Option (List ℕ)
     → Option (List ℕ) → Result Asker QueryEnd → Type 0

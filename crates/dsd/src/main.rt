@@ -5,6 +5,7 @@ ghost use Rattle.std.specs.Prelude.{◌≡◌, ◌↔◌, [], ◌∷◌, Contain
 ghost use Rattle.std.specs.declared.io.ErrorKind.TheVariants.{OutOfMemory};
 
 use dsd_program::run_words;
+use kp_sqlite::SqlKeeper;
 use out_ports::ports::Sink;
 use out_ports::streams::write_all;
 use out_real::{ReadSource, RealHost, STACK_BYTES, WriteSink};
@@ -16,7 +17,7 @@ use std::thread::{self, Builder};
 
 /// Does what the words after the program's name say, in a thread of its own, and ends with the
 /// status: the stack of a program's first thread isn't the program's to choose. Where there can be
-/// no such thread, nothing is done, and memory is wanting.
+/// no such thread, nothing is done, and memory is wanting. Bindings are kept in files.
 fn main(rt: HostRuntime) -> ExitCode {
     let mut diag = WriteSink::new(rt.stderr());
     let words = match words_of(&rt) {
@@ -30,6 +31,7 @@ fn main(rt: HostRuntime) -> ExitCode {
         let started = Builder::new()
             .stack_size(STACK_BYTES)
             .spawn_scoped(scope, || {
+                let mut keeper = SqlKeeper::new(&rt);
                 run_words(
                     &rt,
                     rt.alloc(),
@@ -38,6 +40,7 @@ fn main(rt: HostRuntime) -> ExitCode {
                     &mut out,
                     &mut diag,
                     &mut host,
+                    &mut keeper,
                 )
             });
         match started {

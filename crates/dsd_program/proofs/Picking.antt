@@ -1,19 +1,27 @@
 -- The first word picks the relation; and what is told of the same is the same.
-use Rattle.std.proofs.Common.{◌≡◌, ◌⊎◌, ℕ, List, Option, Bool, true, false, inl, inr, ap, sym, subst}
-use Rattle.dsd_query.specs.Queries.{is_query}
+use Rattle.std.proofs.Common.{◌≡◌, ◌⊎◌, ℕ, List, [], ◌∷◌, Option, Some, None, Bool, inl, inr, ap, subst, ◌∙◌}
+use Rattle.std.proofs.Common.{String, Global, string_bytes}
+use Rattle.std.specs.List.{slice_get}
+use Rattle.kp_keeper.specs.declared.records.Record.{Record}
 use Rattle.dq_link.specs.Asked.{HostRest, rest_of}
-use Rattle.dsd_program.specs.Told.{World, ToldSource, ToldSink, source_of, sink_of}
-use Rattle.dsd_program.specs.Does.{Asks, Runs, DoesBy, Does}
+use Rattle.dsd_top.specs.Asked.{texts}
+use Rattle.dsd_program.specs.Told.{World, ToldSource, ToldSink, ToldKeeper, source_of, sink_of, keeper_of}
+use Rattle.dsd_program.specs.Words.{BeginWith, Pick}
+use Rattle.dsd_program.specs.Does.{DoesBy, Does}
+use Rattle.dsd_program.specs.declared.word.Word.{Word}
 
-module _ (words : List (List ℕ)) (status : ℕ) (before now : World) where
-  abbrev by : Bool → Type 0
-  by b = DoesBy b words status before now
+-- words whose first one has these bytes begin with them
+pub begun : (ws : List (String Global)) (w : String Global) → Some w ≡ slice_get ws 0 → (name : List ℕ)
+    → string_bytes w ≡ name → BeginWith name (texts ws)
+begun [] w e name is = let clash : ◌≡◌ {A = Option (String Global)} (Some w) None = e in cc clash
+begun (v ∷ vs) w e name is =
+    let both : ◌≡◌ {A = Option (String Global)} (Some w) (Some v) = e in
+    let same : v ≡ w = cc both in (texts vs, ap (λ t. t ∷ texts vs) (ap (λ s. string_bytes s) same ∙ is))
 
-  pub asks : is_query words ≡ true → Asks words status before now → Does words status before now
-  asks is h = subst by (sym is) h
-
-  pub runs : is_query words ≡ false → Runs words status before now → Does words status before now
-  runs is h = subst by (sym is) h
+-- the word that was found is the one that is done
+pub done_by : (words : List (List ℕ)) (status : ℕ) (before now : World) (found w : Word) → Pick words found → found ≡ w
+    → DoesBy w words status before now → Does words status before now
+done_by words status before now found w pick is h = (w, subst (Pick words) is pick, h)
 
 -- ---- one of two
 
@@ -49,3 +57,10 @@ module _ {T : Type 0} (files : T → Option (List (List ℕ × List ℕ))) (addr
 
   pub same_rest : (h k : T) → k ≡ h → rest k ≡ rest h
   same_rest h k same = ap rest same
+
+module _ {T : Type 0} (kept : T → Option (List Record)) (file : T → Option (List ℕ)) (faults : T → ℕ) where
+  abbrev keeper : T → ToldKeeper
+  keeper k = keeper_of (kept k) (file k) (faults k)
+
+  pub same_keeper : (k l : T) → l ≡ k → keeper l ≡ keeper k
+  same_keeper k l same = ap keeper same

@@ -1,19 +1,23 @@
 //! All words.
 ghost use Rattle.dsd_top.specs.Asked.{texts};
 ghost use Rattle.dq_link.specs.Asked.{rest_of};
-ghost use Rattle.dsd_program.specs.Told.{source_of, sink_of, world_of};
+ghost use Rattle.dsd_program.specs.Told.{source_of, sink_of, keeper_of, world_of};
 ghost use Rattle.dsd_program.specs.Does.{Does};
 
-use dsd_query::{is_query, query_words};
-use dsd_serve::dsd_main;
+use crate::word::{Word, word_of};
+use dsd_keep::bindings_words;
+use dsd_query::query_words;
+use dsd_serve::{dsd_main, serve_kept_words};
+use kp_keeper::Keeping;
 use out_ports::ports::{Host, Sink, Source};
 use std::alloc::Global;
 use std::sync::Wait;
 use std::thread::Threads;
 
-/// Does what the words say, with threads and waits at hand, and answers the status. Words whose
-/// first one is `query` ask a server, as [`query_words`] has it; all others are [`dsd_main`]'s.
-pub fn run_words<Rt: Threads + Wait + Sync, I: Source, O: Sink, E: Sink, H: Host>(
+/// Does what the words say, with threads and waits at hand, and answers the status. The first word
+/// picks the call that does them: `query` asks a server, `bindings` goes to the keeper alone, and
+/// `serve-kept` serves by what it keeps; all other words are [`dsd_main`]'s.
+pub fn run_words<Rt: Threads + Wait + Sync, I: Source, O: Sink, E: Sink, H: Host, K: Keeping>(
     rt: &Rt,
     alloc: Global,
     words: &[String],
@@ -21,6 +25,7 @@ pub fn run_words<Rt: Threads + Wait + Sync, I: Source, O: Sink, E: Sink, H: Host
     out: &mut O,
     diag: &mut E,
     host: &mut H,
+    keeper: &mut K,
 ) -> u8
 where
     H::R: Send + Drop,
@@ -32,16 +37,20 @@ where
         (sink_of (E.held diag.old) (E.finishes diag.old) (E.faults diag.old))
         (H.link host.old)
         (rest_of (H.files host.old) (H.address host.old) (H.closed host.old) (H.gave host.old)
-        (H.stops host.old) (H.file_faults host.old) (H.port_faults host.old) (H.faults host.old)))
+        (H.stops host.old) (H.file_faults host.old) (H.port_faults host.old) (H.faults host.old))
+        (keeper_of (K.kept keeper.old) (K.file keeper.old) (K.faults keeper.old)))
         (world_of (source_of (I.left input.new) (I.ended input.new) (I.faults input.new))
         (sink_of (O.held out.new) (O.finishes out.new) (O.faults out.new))
         (sink_of (E.held diag.new) (E.finishes diag.new) (E.faults diag.new))
         (H.link host.new)
         (rest_of (H.files host.new) (H.address host.new) (H.closed host.new) (H.gave host.new)
-        (H.stops host.new) (H.file_faults host.new) (H.port_faults host.new) (H.faults host.new))) }
+        (H.stops host.new) (H.file_faults host.new) (H.port_faults host.new) (H.faults host.new))
+        (keeper_of (K.kept keeper.new) (K.file keeper.new) (K.faults keeper.new))) }
 {
-    if is_query(words) {
-        return query_words(alloc, words, out, diag, host);
+    match word_of(words) {
+        Word::Query => query_words(alloc, words, out, diag, host),
+        Word::Bindings => bindings_words(alloc, words, out, diag, keeper),
+        Word::ServeKept => serve_kept_words(rt, alloc, words, out, diag, host, keeper),
+        Word::Main => dsd_main(rt, alloc, words, input, out, diag, host),
     }
-    dsd_main(rt, alloc, words, input, out, diag, host)
 }

@@ -2,4 +2,5 @@ pub mod Accepting
 pub mod Asking
 pub mod Causing
 pub mod Choosing
+pub mod Keeping
 pub mod Sending

@@ -71,7 +71,7 @@ where
         → SaysWhy (texts words.now) (H.files host.old) result
         (E.held diag.old) (E.held diag.new) }
 {
-    let Some(serving) = find_serving(words) else {
+    let Some(serving) = find_serving("serve", words) else {
         return refuse(diag, Fault::BadWords);
     };
     match serve_and_tell(rt, alloc, &serving, out, host) {

@@ -5,7 +5,7 @@ ghost use Rattle.out_ports.specs.Ports.{Rose, Appends, AppendsFront};
 ghost use Rattle.dsd_top.specs.declared.faults.Fault.TheVariants as fault;
 ghost use Rattle.dsd_serve.specs.Limits.{most_links};
 ghost use Rattle.dsd_serve.specs.Causes.{IsWhyUnserved, status_for};
-ghost use Rattle.dsd_serve.specs.Causes.{IsWritingFault, IsListeningFault};
+ghost use Rattle.dsd_serve.specs.Causes.{IsWritingFault, IsListeningFault, IsServingFault};
 ghost use Rattle.dsd_serve.specs.Serving.{AreAccepts, IsServed, served_line, rest_in};
 ghost use Rattle.dsd_serve.specs.declared.unserved.Unserved.TheVariants.{Of, Unheard};
 
@@ -14,8 +14,10 @@ use crate::unserved::Unserved;
 use crate::words::Serving;
 use ds_skeleton::Skeleton;
 use dsd_top::{Conformance, Fault};
+use hub_core::Hub;
 use itoa::Buffer;
-use lc_watch::Table;
+use lc_guard::Guards;
+use lc_watch::{Table, Watcher};
 use out_ports::ports::{Host, HostFault, Sink};
 use out_ports::streams::write_all;
 use pv_value::{NoMemory, push_bytes};
@@ -93,7 +95,53 @@ fn listen<H: Host>(alloc: Global, address: &str, host: &mut H) -> Result<(), Uns
     }
 }
 
-/// Serves, and writes how it went.
+/// Serves over a hub, and writes how it went.
+pub(crate) fn serve_hub<Rt: Threads + Wait + Sync, O: Sink, H: Host>(
+    rt: &Rt,
+    alloc: Global,
+    hub: Hub<Skeleton, Guards<Conformance>, Watcher<Table>>,
+    serving: &Serving,
+    out: &mut O,
+    host: &mut H,
+) -> Result<(), Unserved>
+where
+    H::R: Send + Drop,
+    H::W: Send + Drop,
+    requires { serving.now.connections ≤ most_links }
+    ensures done { OnOk result (IsServed Appends
+        (λ a f. AreAccepts serving.now.connections a f (H.gave host.old) (H.gave host.new)
+        (H.stops host.old) (H.stops host.new) (H.faults host.old) (H.faults host.new))
+        (O.held out.old) (O.held out.new)) }
+    ensures cut { IsErrOf result (Of fault.WriteFailed) → IsServed AppendsFront
+        (λ a f. AreAccepts serving.now.connections a f (H.gave host.old) (H.gave host.new)
+        (H.stops host.old) (H.stops host.new) (H.faults host.old) (H.faults host.new))
+        (O.held out.old) (O.held out.new) }
+    ensures place { OnOk result (H.address host.new ≡ Some serving.now.address) }
+    ensures place_too { IsErrOf result (Of fault.WriteFailed) →
+        H.address host.new ≡ Some serving.now.address }
+    ensures cause { IfErr result IsServingFault }
+    ensures listen_failed { IsErrOf result Unheard →
+        Rose (H.port_faults host.old) (H.port_faults host.new) }
+    ensures write_failed { IsErrOf result (Of fault.WriteFailed) →
+        Rose (O.faults out.old) (O.faults out.new) }
+    ensures unwritten { IfErr result (λ why. status_for why ≢ 4 →
+        O.held out.new ≡ O.held out.old) }
+    ensures unfinished { O.finishes out.new ≡ O.finishes out.old }
+    ensures unopened { IfErr result (λ why. status_for why ≢ 4 → status_for why ≢ 5 →
+        (H.address host.new ≡ H.address host.old)
+        × (H.gave host.new ≡ H.gave host.old) × (H.stops host.new ≡ H.stops host.old)) }
+    ensures same_files { H.files host.new ≡ H.files host.old }
+    ensures lasting { (H.file_faults host.old ≤ H.file_faults host.new)
+        × (H.port_faults host.old ≤ H.port_faults host.new)
+        × (H.faults host.old ≤ H.faults host.new) }
+{
+    listen(alloc, serving.address, host)?;
+    let tally = serve(rt, alloc, hub, host, serving.workers, serving.connections)?;
+    write_tally(alloc, &tally, out)?;
+    Ok(())
+}
+
+/// Serves by the configuration in the file, and writes how it went.
 pub(crate) fn serve_and_tell<Rt: Threads + Wait + Sync, O: Sink, H: Host>(
     rt: &Rt,
     alloc: Global,
@@ -141,8 +189,5 @@ where
         Table,
         host,
     )?;
-    listen(alloc, serving.address, host)?;
-    let tally = serve(rt, alloc, hub, host, serving.workers, serving.connections)?;
-    write_tally(alloc, &tally, out)?;
-    Ok(())
+    serve_hub(rt, alloc, hub, serving, out, host)
 }

@@ -1,7 +1,7 @@
 //! The words that ask to serve.
 ghost use Rattle.std.specs.Prelude.{◌≡◌, MatchOption};
 ghost use Rattle.dsd_top.specs.Commands.{texts};
-ghost use Rattle.dsd_serve.specs.Serving.{IsServing, AskToServe};
+ghost use Rattle.dsd_serve.specs.Serving.{IsServingBy, AskToServeBy};
 
 use crate::numbers::number_in;
 use std::marker::Model;
@@ -12,7 +12,8 @@ const WORKERS: u32 = 16;
 /// The most connections.
 const CONNECTIONS: u32 = 1000;
 
-/// Where to serve, by which configuration, with how many workers and for how many connections.
+/// Where to serve, by the configuration in which file or by the bindings that it keeps, with how
+/// many workers and for how many connections.
 #[derive(Drop)]
 pub(crate) struct Serving<'a> {
     pub address: &'a str,
@@ -34,11 +35,12 @@ impl<'a> Model for Serving<'a> {
     } };
 }
 
-/// What the words ask to serve.
-pub(crate) fn find_serving(words: &[String]) -> Option<Serving<'_>>
-    ensures { MatchOption result (AskToServe (texts words.now) → ⊥) (IsServing (texts words.now)) }
+/// What the words ask to serve, by this first one.
+pub(crate) fn find_serving<'a>(first: &str, words: &'a [String]) -> Option<Serving<'a>>
+    ensures { MatchOption result (AskToServeBy first.now (texts words.now) → ⊥)
+        (IsServingBy first.now (texts words.now)) }
 {
-    if words.len() != 5 || words[0].as_str() != "serve" {
+    if words.len() != 5 || words[0].as_str() != first {
         return None;
     }
     let workers = number_in(words[3].as_str(), 1, WORKERS)?;

@@ -1,5 +1,6 @@
 //! The program with these words over a host, and with threads at hand.
 use dsd_program::run_words;
+use kp_keeper::{MemKeeper, MemKeeping, Records};
 use out_ports::memory::{MemHost, MemListen, MemSink, MemSource};
 use out_ports::ports::{Host, Sink};
 use std::alloc::{AllocError, Global};
@@ -29,6 +30,11 @@ pub fn no_host(alloc: Global) -> MemHost {
     MemHost::new(Vec::new(alloc), links, Vec::new(alloc), Vec::new(alloc))
 }
 
+/// A keeper that keeps nothing.
+fn no_keeper(alloc: Global) -> MemKeeping {
+    MemKeeping::new(MemKeeper::new(Records::new(alloc), 1000))
+}
+
 /// The status of `run` for this input.
 pub fn status_of_run<Rt: Threads + Wait + Sync, O: Sink>(
     rt: &Rt,
@@ -40,7 +46,17 @@ pub fn status_of_run<Rt: Threads + Wait + Sync, O: Sink>(
     let mut input = source_of(alloc, bytes)?;
     let mut diag = sink(alloc)?;
     let mut host = no_host(alloc);
-    Ok(run_words(rt, alloc, &words, &mut input, out, &mut diag, &mut host))
+    let mut keeper = no_keeper(alloc);
+    Ok(run_words(
+        rt,
+        alloc,
+        &words,
+        &mut input,
+        out,
+        &mut diag,
+        &mut host,
+        &mut keeper,
+    ))
 }
 
 /// Whether the program with these words ends with this status, this output and this line on
@@ -56,10 +72,29 @@ where
     H::R: Send + Drop,
     H::W: Send + Drop,
 {
+    let mut keeper = no_keeper(alloc);
+    ends_over(rt, alloc, words, host, &mut keeper, wanted)
+}
+
+/// The same over a keeper.
+pub fn ends_over<Rt: Threads + Wait + Sync, H: Host>(
+    rt: &Rt,
+    alloc: Global,
+    words: &[&str],
+    host: &mut H,
+    keeper: &mut MemKeeping,
+    wanted: (u8, &[u8], &[u8]),
+) -> Result<bool, AllocError>
+where
+    H::R: Send + Drop,
+    H::W: Send + Drop,
+{
     let words = words_of(alloc, words)?;
     let mut input = source_of(alloc, b"\xff")?;
     let mut out = sink(alloc)?;
     let mut diag = sink(alloc)?;
-    let status = run_words(rt, alloc, &words, &mut input, &mut out, &mut diag, host);
+    let status = run_words(
+        rt, alloc, &words, &mut input, &mut out, &mut diag, host, keeper,
+    );
     Ok(status == wanted.0 && out.held() == wanted.1 && diag.held() == wanted.2)
 }

@@ -7,7 +7,7 @@ use std::test::Fail;
 use std::thread::Threads;
 
 /// A host with one file, so many empty links, and a port that can't be opened where it is so.
-fn host(alloc: Global, config: &[u8], links: u32, closed: bool) -> Result<MemHost, AllocError> {
+pub fn host(alloc: Global, config: &[u8], links: u32, closed: bool) -> Result<MemHost, AllocError> {
     let mut all = Vec::new(alloc);
     for _ in 0..links {
         all.push(MemLink {

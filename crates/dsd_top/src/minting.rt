@@ -96,7 +96,7 @@ fn lone_value(values: &[Value]) -> Result<Value, WordsFault>
 }
 
 /// The key that a word is in hexadecimal digits of either case: at most 64 bytes, or none at all.
-fn key_of(alloc: Global, text: &str) -> Result<Vec<u8>, WordsFault>
+pub fn key_of(alloc: Global, text: &str) -> Result<Vec<u8>, WordsFault>
     ensures { IsFound (λ key. key.items) (IsKey text.now) result }
 {
     match hex::decode(alloc, text) {

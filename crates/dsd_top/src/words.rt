@@ -26,6 +26,14 @@ const USAGE: &str = "usage: dsd WORD, from standard input to standard output
                 serves so many links at the address, from no input
   query ADDR REF PATTERN N
                 what matches the pattern there, as it comes and goes: N lines, from no input
+  bindings FILE add OID KEY SPACE CAVEAT..
+                keeps a binding in the file: its signed reference, from no input
+  bindings FILE list
+                the bindings that the file keeps, from no input
+  bindings FILE revoke OID
+                keeps the binding no longer, from no input
+  serve-kept ADDR FILE WORKERS CONNECTIONS
+                the same by the bindings that the file keeps, from no input
   --help        these lines
   --version     the version
 ";

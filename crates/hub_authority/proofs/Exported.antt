@@ -165,7 +165,8 @@ has_left : (test : ℕ → Bool) (n : ℕ) (ns : List ℕ) → test n ≡ true �
 has_left test n [] passes has = absurd cc
 has_left test n (m ∷ ns) passes has = by (has_left test n ns passes) (test m) refl (m == n) refl has
   where
-    by : (has_number n ns ≡ true → has_number n (filter test ns) ≡ true) → (b : Bool) → test m ≡ b → (c : Bool) → (m == n) ≡ c → (c || has_number n ns) ≡ true
+    by : (has_number n ns ≡ true → has_number n (filter test ns) ≡ true) → (b : Bool) → test m ≡ b → (c : Bool)
+        → (m == n) ≡ c → (c || has_number n ns) ≡ true
         → has_number n (cond b (m ∷ filter test ns) (filter test ns)) ≡ true
     by rest true stay true one is = or_left (m == n) (has_number n (filter test ns)) one
     by rest true stay false other is = or_right (m == n) (has_number n (filter test ns)) (rest is)

@@ -37,7 +37,8 @@ any_weaker : {X : Type 0} (P Q : X → Bool) (xs : List X) → AllByRecursion (�
 any_weaker P Q [] weaker is = absurd cc
 any_weaker P Q (x ∷ xs) weaker is = by (any_weaker P Q xs weaker.1) (P x) refl is (Q x) refl
   where
-    by : (list_any P xs ≡ true → list_any Q xs ≡ true) → (a : Bool) → P x ≡ a → (a || list_any P xs) ≡ true → (b : Bool) → Q x ≡ b → (b || list_any Q xs) ≡ true
+    by : (list_any P xs ≡ true → list_any Q xs ≡ true) → (a : Bool) → P x ≡ a → (a || list_any P xs) ≡ true
+        → (b : Bool) → Q x ≡ b → (b || list_any Q xs) ≡ true
     by rest a p found true q = refl
     by rest true p found false q = absurd (let clash : false ≡ true = sym q ∙ weaker.0 p in cc)
     by rest false p later false q = rest later

@@ -21,7 +21,7 @@ pub fn exports_are_what_was_told()
 {}
 
 /// Names: what a live connection was sent is what was told, with a name in place of each reference:
-/// `[1 e]` for an object of its own, and `[0 n]` for the reference to which n was given. Each number
+/// `[1 e]` for an object of its own, and `[0 n]` for the reference to which n was given. A number
 /// is given once, and what is in force stands under the number that was given to it.
 pub fn names_mean_what_was_told()
     ensures { Names }

@@ -3,7 +3,8 @@ ghost use Rattle.std.specs.Prelude.{◌≡◌, ◌≤◌, ◌^◌, map, None, If
 ghost use Rattle.rl_ports.specs.Ports.{AreGiven, AreNumbered, swept};
 ghost use Rattle.rl_wire.specs.Crossing.{fault_out, foreign_in, crossed_out, exports_with};
 ghost use Rattle.rl_wire.specs.Crossing.{all_exported};
-ghost use Rattle.hub_machine.specs.Machine.{sent_event, told_value, foreign_told, naming, all_named};
+ghost use Rattle.hub_machine.specs.Machine.{sent_event, told_value, foreign_told, naming};
+ghost use Rattle.hub_machine.specs.Machine.{all_named};
 ghost use Rattle.hub_machine.specs.Machine.{numbers_told, exporting_in};
 ghost use Rattle.hub_machine.specs.Lemmas.Naming.{foreign_among};
 ghost use Rattle.hub_packets.specs.Refusals.{IsWhyRefused};

@@ -196,7 +196,8 @@ module _ (start n : ℕ) (few : n ≤ 20000) where
       let w : IsWithin (may_come s) (opened 1 s) = record {
         loaded = record {
           world = arrives.world;
-          names = each_with IsNamed (s.world.opened + 1) (ports_to (actor_reference 1)) s.connections (refl, refl) l.names;
+          names = each_with IsNamed (s.world.opened + 1) (ports_to (actor_reference 1)) s.connections (refl, refl)
+              l.names;
         };
         cost = arrives.cost;
       } in

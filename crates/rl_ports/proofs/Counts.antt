@@ -378,7 +378,8 @@ pub pins_without : (test : ℕ × Export → Bool) (kept : List (ℕ × Export))
 pins_without test [] stays = refl
 pins_without test (e ∷ es) stays = one (test e) e.1.pinned refl refl (pins_without test es stays.1)
   where
-    one : (t b : Bool) → test e ≡ t → e.1.pinned ≡ b → pins (filter test es) ≡ pins es → pins (cond t (e ∷ filter test es) (filter test es))
+    one : (t b : Bool) → test e ≡ t → e.1.pinned ≡ b → pins (filter test es) ≡ pins es
+        → pins (cond t (e ∷ filter test es) (filter test es))
         ≡ keys_of (cond b (e ∷ filter (λ e. e.1.pinned) es) (filter (λ e. e.1.pinned) es))
     one true true is pinned rest = rw pinned (ap (λ x. e.0 ∷ x) rest)
     one true false is pinned rest = rw pinned rest

@@ -89,7 +89,8 @@ heavier x numbers sum r k =
 numbered_push : (x : ExportTable) (r : Plain) → x.next + 1 < 2 ^ 63 → AreNumbered x → AreNumbered (with_export r x)
 numbered_push x r small n =
     let keys = keys_append x.in_force ((x.next, r) ∷ []) in record {
-      ascending = subst (IsStrictlySortedBy nat_cmp) (sym keys) (ascend_last (keys_of x.in_force) x.next n.given n.ascending);
+      ascending = subst (IsStrictlySortedBy nat_cmp) (sym keys)
+          (ascend_last (keys_of x.in_force) x.next n.given n.ascending);
       given = subst (AllByRecursion (λ k. k < x.next + 1)) (sym keys)
           (all_append _ (keys_of x.in_force) (x.next ∷ [])
           (below_more x.next (x.next + 1) (keys_of x.in_force) (omega arith) n.given) (omega arith, tt));
@@ -194,7 +195,8 @@ below_without {X = X} m (e ∷ es) ascend below =
         let at : m ≡ e.0 = grind (arith, nat_tests, here) in
         let above = subst (λ j. AllByRecursion (λ k. nat_cmp j k ≡ Less) (keys_of es)) (sym at)
         (sorted_head nat_cmp _ _ ascend) in
-        all_from _ (λ k. k < m) (λ k h. absurd (nothing_between m k h)) (keys_of es) (all_both _ _ (keys_of es) above below.1)
+        all_from _ (λ k. k < m) (λ k h. absurd (nothing_between m k h)) (keys_of es)
+        (all_both _ _ (keys_of es) above below.1)
     by false there rest =
         let apart : e.0 < m = grind (arith, nat_tests, there, below.0) in (apart, rest)
 

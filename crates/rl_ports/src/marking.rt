@@ -30,7 +30,8 @@ fn raise_one(kept: &mut BTreeMap<u64, Export>, number: u64)
 
 /// A note more mentions each of these.
 pub(crate) fn raise(kept: &mut BTreeMap<u64, Export>, numbers: &[u64])
-    requires { AllByRecursion (λ e. e.1.mentions + times e.0 numbers.now < 2 ^ 64) kept.old.entries }
+    requires { AllByRecursion (λ e. e.1.mentions + times e.0 numbers.now < 2 ^ 64)
+        kept.old.entries }
     ensures { kept.new.entries ≡ at_numbers raised numbers.now kept.old.entries }
 {
     for number in numbers {

@@ -159,7 +159,8 @@ module _ (n : Lived) (few : 16 + n.opened < 2 ^ 32) where
           let x : Plain = sequence (then_more (integer (pos zero)) (then_more m no_more)) in
           own_known x (number_in m) (number_low m) known.0
       known_object (sequence (then_more (integer (pos (suc zero))) (then_more m cs))) known =
-          export_known (sequence (then_more (integer (pos (suc zero))) (then_more m cs))) (number_in m) known.0 known.1 known.2
+          export_known (sequence (then_more (integer (pos (suc zero))) (then_more m cs))) (number_in m) known.0
+          known.1 known.2
       known_object x known = let wire = known.0 in absurd cc
 
       value_comes_in : (v : Plain) → is_wired v ≡ true → first_fault exports (held_in v) ≡ None
@@ -188,7 +189,8 @@ module _ (n : Lived) (few : 16 + n.opened < 2 ^ 32) where
       peer_comes_in peer wire known = by (is_stale exports peer) refl
         where
           by : (b : Bool) → is_stale exports peer ≡ b
-              → If (option_map inside (cond {A = Option Plain} b None (Some (crossed_in exports k peer)))) (IsObjectValue n)
+              → If (option_map inside (cond {A = Option Plain} b None (Some (crossed_in exports k peer))))
+              (IsObjectValue n)
           by true is = tt
           by false fresh = fresh_peer peer wire known fresh
 

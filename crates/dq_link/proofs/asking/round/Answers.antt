@@ -41,7 +41,8 @@ returns-in_err-hear-clause-heard g c =
       λ are.
           let goes = c.in_ok-asker.ensures.goes are in
           subst (λ (s : ToldSaying). GoesRound t.0 c.args.asker old c.hear.new.received (g.O.Sink.held c.args.out.now)
-          (g.O.Sink.held c.packets.new.out) before.said.held s.held now.heard c.from_residual-in_err-hear.result) (sym said)
+          (g.O.Sink.held c.packets.new.out) before.said.held s.held now.heard c.from_residual-in_err-hear.result)
+          (sym said)
           (on_err (GoesRound t.0 c.args.asker old c.hear.new.received (g.O.Sink.held c.args.out.now)
           (g.O.Sink.held c.packets.new.out) before.said.held mid.said.held now.heard) c.from_residual-in_err-hear.result e
           c.from_residual-in_err-hear.ensures.1
@@ -56,7 +57,8 @@ returns-in_err-hear-clause-cause g c =
     let now : ToldLink = g.H.Listen.link c.hear.new.host in
     let outs = g.O.Sink.faults c.packets.new.out in
     let e = c.in_err-hear.field-0.0 in
-    on_err (λ r. IfErr r (λ x. CauseOf x before now (g.O.Sink.faults c.args.out.now) outs)) c.from_residual-in_err-hear.result e
+    on_err (λ r. IfErr r (λ x. CauseOf x before now (g.O.Sink.faults c.args.out.now) outs))
+    c.from_residual-in_err-hear.result e
     c.from_residual-in_err-hear.ensures.1
     (cause_later e before mid now (g.O.Sink.faults c.args.out.now) outs outs
     (link_of_said before mid c.packets.ensures.only) c.packets.ensures.output_lasting

@@ -1,11 +1,11 @@
 -- Which status comes, and what is said of its cause.
-use Rattle.std.proofs.Common.{Contains, lit<, sym, subst, rules}
+use Rattle.std.proofs.Common.{Contains, lit<, sym, subst, ◌∙◌, rules}
 use Rattle.dsd_top.specs.Commands.{texts}
 use Rattle.dsd_top.specs.declared.faults.Fault.TheVariants as fault
 use Rattle.dsd_serve.specs.Causes.{serve_statuses}
 use Rattle.dsd_serve.specs.Serving.{AskToServe, IsServing}
 use Rattle.dsd_serve.specs.declared.unserved.Unserved.TheVariants.{Of}
-use Rattle.dsd_serve.proofs.Causing.{why_known, stands}
+use Rattle.dsd_serve.proofs.Causing.{why_known, refused_config, stands}
 use Rattle.dsd_serve.proofs.mains.serve_words.Goals as goal
 
 pub returns-in_default-clause-known : goal.returns-in_default-clause-known
@@ -25,6 +25,15 @@ pub returns-in-Err-clause-known : goal.returns-in-Err-clause-known
 returns-in-Err-clause-known g c =
     subst (Contains serve_statuses) (sym c.tell_why.ensures.status)
     (why_known c.in-Some.serving (g.H.Listen.files c.args.host.now) c.in-Err.why c.in-Err.ensures.cause)
+
+pub returns-in-Err-clause-bad_config : goal.returns-in-Err-clause-bad_config
+returns-in-Err-clause-bad_config g c = λ e begins.
+    let is : IsServing (texts c.args.words.now) c.in-Some.serving = search rules in (
+      c.in-Some.serving,
+      is,
+      refused_config c.in-Some.serving (g.H.Listen.files c.args.host.now) c.in-Err.why c.in-Err.ensures.cause
+          (sym c.tell_why.ensures.status ∙ e),
+    )
 
 pub returns-in-Err-clause-said : goal.returns-in-Err-clause-said
 returns-in-Err-clause-said g c = λ e.

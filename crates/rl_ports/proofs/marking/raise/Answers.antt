@@ -27,6 +27,7 @@ loop-number-preserved c =
     record {
       marked = ap (at_numbers raised later) so
           ∙ ap (λ (ms : List ℕ). at_numbers raised ms kept) (sym first) ∙ c.loop-number.invariant.marked;
-      may = subst (λ (k : List (ℕ × Export)). AllByRecursion (MayRise (2 ^ 64) later) k) (sym so) (all_rise (2 ^ 64) x later kept
+      may = subst (λ (k : List (ℕ × Export)). AllByRecursion (MayRise (2 ^ 64) later) k) (sym so)
+          (all_rise (2 ^ 64) x later kept
           (subst (λ (ms : List ℕ). AllByRecursion (MayRise (2 ^ 64) ms) kept) first c.loop-number.invariant.may));
     }

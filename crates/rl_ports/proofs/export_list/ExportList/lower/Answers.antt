@@ -9,6 +9,7 @@ invariant_of-self c =
     let i = c.self.inside in
     subst (λ (es : List (ℕ × Export)). IsKept (table_of (record { kept = es; next = i.next })) i.numbers.entries i.weight
     × IsFirstPinned es) (sym c.lower.ensures) (
-      marked_kept lowered (λ e. refl) c.args.numbers.now i.kept.entries i.next i.numbers.entries i.weight c.self.invariant.0,
+      marked_kept lowered (λ e. refl) c.args.numbers.now i.kept.entries i.next i.numbers.entries i.weight
+          c.self.invariant.0,
       first_marked lowered (λ e is. is) c.args.numbers.now i.kept.entries c.self.invariant.1,
     )

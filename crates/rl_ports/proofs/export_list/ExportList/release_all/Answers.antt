@@ -14,7 +14,8 @@ loop-number-preserved c =
     record {
       kept = ap (λ (l : Listed). released_where (λ n. has_number n (drop (i + 1) ns)) l.kept) c.release.ensures
           ∙ released_both (λ n. x == n) (λ n. has_number n (drop (i + 1) ns)) kept
-          ∙ ap (λ (ms : List ℕ). released_where (λ n. has_number n ms) kept) (sym (drop_first ns i 0 c.loop-number-test.true))
+          ∙ ap (λ (ms : List ℕ). released_where (λ n. has_number n ms) kept)
+          (sym (drop_first ns i 0 c.loop-number-test.true))
           ∙ c.loop-number.invariant.kept;
       next = ap (λ (l : Listed). l.next) c.release.ensures ∙ c.loop-number.invariant.next;
     }

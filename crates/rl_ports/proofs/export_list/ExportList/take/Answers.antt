@@ -46,6 +46,7 @@ invariant_of-self c =
     c.take_number.new.numbers.entries (i.weight - c.take_number.result) × IsFirstPinned es)
     (sym c.remove.ensures.entries) (
       subst (λ (es : List (ℕ × Plain)). IsKept (record { in_force = es; next = i.next })
-          c.take_number.new.numbers.entries (i.weight - c.take_number.result)) (sym (shown_removed test i.kept.entries)) less,
+          c.take_number.new.numbers.entries (i.weight - c.take_number.result))
+          (sym (shown_removed test i.kept.entries)) less,
       first_without c.args.number i.kept.entries c.self.invariant.1 c.requires,
     )

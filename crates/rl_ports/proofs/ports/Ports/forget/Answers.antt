@@ -11,7 +11,8 @@ pub invariant_of-self : goal.invariant_of-self
 invariant_of-self c =
     let i = c.self.inside in
     let n = c.args.next in
-    subst (λ (l : Listed). AreCounted l i.notes.entries n i.dropped.items (vec_capacity i.dropped)) (sym c.truncate.ensures)
+    subst (λ (l : Listed). AreCounted l i.notes.entries n i.dropped.items (vec_capacity i.dropped))
+    (sym c.truncate.ensures)
     (counted_below i.exports i.notes.entries i.settled n n i.dropped.items (vec_capacity i.dropped) c.self.invariant
     (subst (λ (p : PortsState). AllByRecursion (λ e. AreGiven n e.1) p.notes) (sym c.self.view_is) c.requires.noted)
     (omega (arith, c.if-next-self.true)) (omega arith))
@@ -41,7 +42,8 @@ returns-then-next-self c =
     }) c.truncate.ensures
     ∙ (λ j. record {
       exports = record { in_force = shown_below n kept j; next = n };
-      pinned = pins_below n kept (subst (λ (p : PortsState). AreGiven n p.pinned) (sym c.self.view_is) c.requires.pinned) j;
+      pinned = pins_below n kept (subst (λ (p : PortsState). AreGiven n p.pinned) (sym c.self.view_is)
+          c.requires.pinned) j;
       notes = i.notes.entries;
       handles = i.handles.entries;
       dialect = i.dialect;
@@ -63,7 +65,8 @@ returns-else-next-self c =
     }) c.truncate.ensures
     ∙ (λ j. record {
       exports = record { in_force = shown_below n kept j; next = n };
-      pinned = pins_below n kept (subst (λ (p : PortsState). AreGiven n p.pinned) (sym c.self.view_is) c.requires.pinned) j;
+      pinned = pins_below n kept (subst (λ (p : PortsState). AreGiven n p.pinned) (sym c.self.view_is)
+          c.requires.pinned) j;
       notes = i.notes.entries;
       handles = i.handles.entries;
       dialect = i.dialect;

@@ -17,7 +17,8 @@ pub raise_noted-requires : goal.raise_noted-requires
 raise_noted-requires c = λ ns is.
     let i = c.self.inside in
     let found : note_of c.args.handle c.insert.new.self.entries ≡ Some c.args.oids = c.in_ok-earlier.ensures.updates.1 in
-    subst (λ (ms : List ℕ). AllByRecursion (MayRise (2 ^ 64) ms) i.exports.kept) (same_note c.args.oids ns (sym found ∙ is))
+    subst (λ (ms : List ℕ). AllByRecursion (MayRise (2 ^ 64) ms) i.exports.kept)
+    (same_note c.args.oids ns (sym found ∙ is))
     (may_hold i.exports i.notes.entries i.settled i.dropped.items (vec_capacity i.dropped) c.args.oids c.self.invariant
     (omega (arith, c.len.ensures.len, c.len.ensures.small)) c.as_slice.ensures.ascending)
 
@@ -28,7 +29,8 @@ lower-requires c =
     let raised_is = c.raise_noted.ensures c.args.oids found in
     let old : note_of c.args.handle i.notes.entries ≡ Some c.in-Some.earlier =
     sym c.in_ok-earlier.ensures.old ∙ c.in-Some.is in
-    subst (λ (ns : List ℕ). AllByRecursion (MayFall ns) c.raise_noted.new.exports.kept) (sym c.as_slice-in-Some.ensures.same)
+    subst (λ (ns : List ℕ). AllByRecursion (MayFall ns) c.raise_noted.new.exports.kept)
+    (sym c.as_slice-in-Some.ensures.same)
     (subst (λ (l : Listed). AllByRecursion (MayFall c.in-Some.earlier) l.kept) (sym raised_is)
     (may_replace i.exports i.notes.entries i.settled i.dropped.items (vec_capacity i.dropped) c.args.handle c.args.oids
     c.in-Some.earlier c.self.invariant c.in_ok-earlier.ensures.was_ordered old))
@@ -65,7 +67,8 @@ invariant_of-self-in-Some c =
     } in
     let dropped_is : c.drop_note.new.dropped.items ≡ i.dropped.items ++ earlier ∷ [] =
     c.drop_note.ensures.items ∙ ap (λ (ds : List (List ℕ)). ds ++ earlier ∷ []) c.in_ok-reserve.ensures.items in
-    subst (λ (x : Listed). AreCounted x c.insert.new.self.entries i.settled c.drop_note.new.dropped.items more) (sym lower_is)
+    subst (λ (x : Listed). AreCounted x c.insert.new.self.entries i.settled c.drop_note.new.dropped.items more)
+    (sym lower_is)
     (subst (λ (ns : List (ℕ × List ℕ)). AreCounted new ns i.settled c.drop_note.new.dropped.items more)
     (sym c.in_ok-earlier.ensures.entries)
     (subst (λ (ds : List (List ℕ)). AreCounted new (insert_entry nat_cmp i.notes.entries h oids) i.settled ds more)

@@ -30,7 +30,8 @@ invariant_of-self c =
     }) c.as_slice.ensures.same in
     let core = counted_gone i.exports i.notes.entries i.settled i.dropped.items (vec_capacity i.dropped) more h oids
     c.self.invariant (sym c.in-Some.ensures.value) c.drop_note.ensures.room in
-    subst (λ (x : Listed). AreCounted x c.remove.new.self.entries i.settled c.drop_note.new.dropped.items more) (sym lower_is)
+    subst (λ (x : Listed). AreCounted x c.remove.new.self.entries i.settled c.drop_note.new.dropped.items more)
+    (sym lower_is)
     (subst (λ (ns : List (ℕ × List ℕ)). AreCounted (record {
       kept = at_numbers lowered oids i.exports.kept;
       next = i.exports.next;

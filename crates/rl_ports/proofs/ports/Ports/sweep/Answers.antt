@@ -44,7 +44,8 @@ invariant_of-self c =
     let new : Listed = record { kept = released_where (is_left i.settled ds) kept; next = i.exports.next } in
     subst (λ (l : Listed). AreCounted l i.notes.entries c.next-next.result c.clear.new.self.items room) (sym is)
     (subst (λ (n : ℕ). AreCounted new i.notes.entries n c.clear.new.self.items room) (sym c.next-next.ensures.same)
-    (subst (λ (ns : List (List ℕ)). AreCounted new i.notes.entries i.exports.next ns room) (sym c.clear.ensures.items) core))
+    (subst (λ (ns : List (List ℕ)). AreCounted new i.notes.entries i.exports.next ns room)
+    (sym c.clear.ensures.items) core))
 
 pub returns : goal.returns
 returns c =
@@ -68,7 +69,8 @@ returns c =
     }) is
     ∙ (λ j. record {
       exports = record {
-        in_force = sym (swept_is i.settled ds i.notes.entries kept ascend c.self.invariant.counted c.self.invariant.left) j;
+        in_force = sym (swept_is i.settled ds i.notes.entries kept ascend c.self.invariant.counted
+            c.self.invariant.left) j;
         next = i.exports.next;
       };
       pinned = pins_released (is_left i.settled ds) kept j;

@@ -1,0 +1,4 @@
+pub mod Bound
+pub mod Forms
+pub mod Lemmas
+pub mod Spelled
