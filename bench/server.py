@@ -54,10 +54,11 @@ def is_listened_at(port):
 
 
 class Server:
-    """`dsd serve`, or another word that serves, on a port of its own. Where it still runs at the end of the block, it is killed."""
+    """`dsd serve`, or another word that serves, on a port of its own, or on one that another server had. Where it still runs at
+    the end of the block, it is killed."""
 
-    def __init__(self, connections, config=ROOM, workers=2, environment=(), host="127.0.0.1", word="serve"):
-        self.port = free_port(host)
+    def __init__(self, connections, config=ROOM, workers=2, environment=(), host="127.0.0.1", word="serve", port=None):
+        self.port = port or free_port(host)
         self.address = ("[%s]:%d" if ":" in host else "%s:%d") % (host, self.port)
         words = [PROGRAM, word, self.address, config, str(workers), str(connections)]
         self.process = subprocess.Popen(
@@ -73,6 +74,9 @@ class Server:
         return self
 
     def __exit__(self, *_):
+        self.kill()
+
+    def kill(self):
         self.process.kill()
         self.process.communicate()
 

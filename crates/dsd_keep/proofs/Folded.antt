@@ -9,7 +9,7 @@ use Rattle.kp_bound.specs.Spelled.{IsRecordOf}
 use Rattle.kp_bound.specs.Forms.{IsBareFormOf}
 use Rattle.dsd_keep.specs.Endings.{left_of}
 use Rattle.dsd_keep.specs.Folds.{Said, LeaveInTurn, Leave, AreCommandsOf, CommandsFold, KeysAreNotShown}
-use Rattle.dsd_keep.specs.Wishes.{command_of}
+use Rattle.dsd_keep.specs.Requests.{command_of}
 
 nothing_after : (o : Option (List Record)) → o ≡ option_map (After []) o
 nothing_after None = refl
@@ -26,7 +26,7 @@ module _ (s : Said) (ss : List Said) (before between now : Option (List Record))
       → (es : List Ended) × AreCommandsOf (s ∷ ss) es × (now ≡ option_map (After es) before)
   first (inl a) = (rest.0, inl (a.0, rest.1), rest.2 ∙ ap (option_map (After rest.0)) a.1)
   first (inr b) =
-      let e : Ended = record { command = command_of b.0.deed; status = s.status } in (
+      let e : Ended = record { command = command_of b.0.action; status = s.status } in (
         e ∷ rest.0,
         inr (b.0, b.1, (rest.0, refl, rest.1)),
         rest.2 ∙ ap (option_map (After rest.0)) b.2 ∙ one_after e rest.0 before,

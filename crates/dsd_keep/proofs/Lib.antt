@@ -3,4 +3,4 @@ pub mod Ended
 pub mod Folded
 pub mod Refused
 pub mod Spelled
-pub mod Wished
+pub mod Requested

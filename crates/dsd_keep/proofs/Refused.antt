@@ -7,7 +7,7 @@ use Rattle.dsd_top.specs.declared.minting.WordsFault.{WordsFault}
 use Rattle.dsd_top.specs.declared.minting.WordsFault.TheVariants.{Bad, NoMemory}
 use Rattle.dsd_keep.specs.Endings.{StandsUndone}
 use Rattle.dsd_keep.specs.Undone.{bindings_statuses}
-use Rattle.dsd_keep.specs.Wishes.{AskAWish, IsWish, Wish}
+use Rattle.dsd_keep.specs.Requests.{MakeARequest, IsRequest, Request}
 use Rattle.dsd_keep.specs.declared.undone.Undone.TheVariants.{Of}
 
 -- a list has what it has behind its first
@@ -24,9 +24,9 @@ refused_few NoMemory = (1, lit< tt, refl)
 
 module _ (words : List (List ℕ)) where
   abbrev pub IsRefused : WordsFault → Type 0
-  IsRefused f = IsFound {T = Wish} {A = Wish} (λ w. w) (IsWish words) (Err f)
+  IsRefused f = IsFound {T = Request} {A = Request} (λ w. w) (IsRequest words) (Err f)
 
-  pub refused_words : (f : WordsFault) → IsRefused f → status_of (from_words f) ≡ 2 → AskAWish words → ⊥
+  pub refused_words : (f : WordsFault) → IsRefused f → status_of (from_words f) ≡ 2 → MakeARequest words → ⊥
   refused_words Bad h e a = h a.0 a.1
   refused_words NoMemory h e a = absurd (cc e)
 

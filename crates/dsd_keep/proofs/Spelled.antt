@@ -8,7 +8,7 @@ use Rattle.kp_keeper.specs.declared.records.Record.{Record}
 use Rattle.dsd_top.specs.Minting.{IsPlainText}
 use Rattle.dsd_top.specs.Numbers.{IsNumberWithin}
 use Rattle.dsd_keep.specs.Asked.{Adding}
-use Rattle.dsd_keep.specs.Wishes.{IsForm, ArePlainTexts, AreCaveats, IsSpelledBy}
+use Rattle.dsd_keep.specs.Requests.{IsForm, ArePlainTexts, AreCaveats, IsSpelledBy}
 
 -- ---- one value
 

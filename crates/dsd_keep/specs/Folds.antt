@@ -6,13 +6,13 @@ use Rattle.kp_keeper.specs.declared.records.Record.{Record}
 use Rattle.kp_keeper.specs.Commands.{Ended, After}
 use Rattle.kp_bound.specs.Bound.{IsShownOf}
 use Rattle.dsd_keep.specs.Endings.{left_of}
-use Rattle.dsd_keep.specs.Wishes.{IfWish, command_of}
+use Rattle.dsd_keep.specs.Requests.{IfRequest, command_of}
 
 -- words that ended at this status have left this of what was kept: all of it, where they were bad or memory was
 -- wanting, else what their command leaves
 abbrev pub Leave : List (List ℕ) → ℕ → Option (List Record) → Option (List Record) → Type 0
 Leave words status before now =
-    (Contains (2 ∷ 5 ∷ []) status × (now ≡ before)) ⊎ IfWish words (λ w. now ≡ left_of w.deed status before)
+    (Contains (2 ∷ 5 ∷ []) status × (now ≡ before)) ⊎ IfRequest words (λ w. now ≡ left_of w.action status before)
 
 -- words, and the status at which they ended
 pub record Said : Type 0 where
@@ -30,8 +30,8 @@ abbrev pub AreCommandsOf : List Said → List Ended → Type 0
 AreCommandsOf [] es = es ≡ []
 AreCommandsOf (s ∷ ss) es =
     (Contains (2 ∷ 5 ∷ []) s.status × AreCommandsOf ss es)
-    ⊎ IfWish s.words (λ w. (rest : List Ended)
-    × (es ≡ record { command = command_of w.deed; status = s.status } ∷ rest) × AreCommandsOf ss rest)
+    ⊎ IfRequest s.words (λ w. (rest : List Ended)
+    × (es ≡ record { command = command_of w.action; status = s.status } ∷ rest) × AreCommandsOf ss rest)
 
 -- what is kept after words is what their commands leave, one after another
 abbrev pub CommandsFold : Type 0

@@ -2,6 +2,6 @@ pub mod Asked
 pub mod Endings
 pub mod Folds
 pub mod Undone
-pub mod Wish
-pub mod Wishes
+pub mod Request
+pub mod Requests
 pub mod Words

@@ -11,11 +11,11 @@ use Rattle.dsd_keep.specs.declared.undone.Undone.{Undone}
 use Rattle.dsd_keep.specs.declared.undone.Undone.TheVariants.{Of, KeeperFailed, BoundAlready, NotBound}
 
 -- every status that comes of what is asked, and every one that comes
-abbrev pub deed_statuses : List ℕ
-deed_statuses = 0 ∷ 4 ∷ 5 ∷ 6 ∷ 7 ∷ 15 ∷ 16 ∷ 17 ∷ []
+abbrev pub action_statuses : List ℕ
+action_statuses = 0 ∷ 4 ∷ 5 ∷ 6 ∷ 7 ∷ 15 ∷ 16 ∷ 17 ∷ []
 
 abbrev pub bindings_statuses : List ℕ
-bindings_statuses = 2 ∷ deed_statuses
+bindings_statuses = 2 ∷ action_statuses
 
 abbrev pub status_by : Undone → ℕ
 status_by (Of f) = status_of f

@@ -13,13 +13,13 @@ ghost use Rattle.dsd_keep.specs.Endings.{left_of, AreLinesOf, IsDoneBy, IsDone, 
 ghost use Rattle.dsd_keep.specs.Endings.{IsWhyUnadded, IsWhyUnlisted, IsWhyUnrevoked};
 ghost use Rattle.dsd_keep.specs.Endings.{IsWhyUnsettled, IsWhyUndone};
 ghost use Rattle.dsd_keep.specs.Folds.{Leave};
-ghost use Rattle.dsd_keep.specs.Undone.{bindings_statuses, deed_statuses, status_by, line_by};
-ghost use Rattle.dsd_keep.specs.Wishes.{AskAWish, IfWish};
+ghost use Rattle.dsd_keep.specs.Undone.{bindings_statuses, action_statuses, status_by, line_by};
+ghost use Rattle.dsd_keep.specs.Requests.{MakeARequest, IfRequest};
 ghost use Rattle.dsd_keep.specs.declared.undone.Undone.TheVariants.{Of, KeeperFailed};
-ghost use Rattle.dsd_keep.specs.declared.wishes.Deed.TheVariants as deeds;
+ghost use Rattle.dsd_keep.specs.declared.requests.Action.TheVariants as actions;
 
+use crate::requests::{Action, Request, find_request};
 use crate::undone::{Undone, tell_why};
-use crate::wishes::{Deed, Wish, find_wish};
 use dsd_top::{Fault, refuse};
 use kp_bound::shown_of;
 use kp_keeper::{Keeping, Kept, Record};
@@ -82,7 +82,7 @@ fn lines_of(alloc: Global, values: &[Value]) -> Result<Vec<u8>, NoMemory>
 
 /// The lines that show what is kept.
 fn listed<K: Keeping>(alloc: Global, keeper: &mut K) -> Result<Vec<u8>, Undone>
-    ensures done { IfOk result (λ text. IsDoneBy deeds.List (K.kept keeper.old) text.items) }
+    ensures done { IfOk result (λ text. IsDoneBy actions.List (K.kept keeper.old) text.items) }
     ensures same { K.kept keeper.new ≡ K.kept keeper.old }
     ensures cause { IfErr result (IsWhyUnlisted (K.kept keeper.old)) }
     ensures keeper_failed { IsErrOf result KeeperFailed →
@@ -96,23 +96,23 @@ fn listed<K: Keeping>(alloc: Global, keeper: &mut K) -> Result<Vec<u8>, Undone>
 }
 
 /// Does it with the file that is open, and answers what is to be written of it.
-fn settle<K: Keeping>(alloc: Global, deed: Deed, keeper: &mut K) -> Result<Vec<u8>, Undone>
-    ensures done { IfOk result (λ text. IsDoneBy deed (K.kept keeper.old) text.items) }
-    ensures left { OnOk result (K.kept keeper.new ≡ left_of deed 0 (K.kept keeper.old)) }
+fn settle<K: Keeping>(alloc: Global, action: Action, keeper: &mut K) -> Result<Vec<u8>, Undone>
+    ensures done { IfOk result (λ text. IsDoneBy action (K.kept keeper.old) text.items) }
+    ensures left { OnOk result (K.kept keeper.new ≡ left_of action 0 (K.kept keeper.old)) }
     ensures same { OnErr result (K.kept keeper.new ≡ K.kept keeper.old) }
-    ensures cause { IfErr result (IsWhyUnsettled deed (K.kept keeper.old)) }
+    ensures cause { IfErr result (IsWhyUnsettled action (K.kept keeper.old)) }
     ensures keeper_failed { IsErrOf result KeeperFailed →
         Rose (K.faults keeper.old) (K.faults keeper.new) }
     ensures same_file { K.file keeper.new ≡ K.file keeper.old }
     ensures lasting { K.faults keeper.old ≤ K.faults keeper.new }
 {
-    match deed {
-        Deed::Add(record, line) => {
+    match action {
+        Action::Add(record, line) => {
             put(keeper, &record)?;
             Ok(line)
         }
-        Deed::List => listed(alloc, keeper),
-        Deed::Revoke(oid) => {
+        Action::List => listed(alloc, keeper),
+        Action::Revoke(oid) => {
             remove(keeper, oid.as_slice())?;
             Ok(Vec::new(alloc))
         }
@@ -136,21 +136,22 @@ fn write<O: Sink>(out: &mut O, text: &[u8]) -> Result<(), WriteFault>
 /// Opens the file and does what is asked with it.
 fn act<O: Sink, K: Keeping>(
     alloc: Global,
-    wish: Wish,
+    request: Request,
     out: &mut O,
     keeper: &mut K,
 ) -> Result<(), Undone>
-    ensures done { OnOk result (IsDone Appends wish.entry.deed (K.kept keeper.old)
+    ensures done { OnOk result (IsDone Appends request.entry.action (K.kept keeper.old)
         (O.held out.old) (O.held out.new)) }
-    ensures cut { IsErrOf result (Of fault.WriteFailed) → IsDone AppendsFront wish.entry.deed
+    ensures cut { IsErrOf result (Of fault.WriteFailed) → IsDone AppendsFront request.entry.action
         (K.kept keeper.old) (O.held out.old) (O.held out.new) }
-    ensures left { OnOk result (K.kept keeper.new ≡ left_of wish.entry.deed 0 (K.kept keeper.old)) }
+    ensures left { OnOk result
+        (K.kept keeper.new ≡ left_of request.entry.action 0 (K.kept keeper.old)) }
     ensures left_then { IfErr result (λ why.
-        K.kept keeper.new ≡ left_of wish.entry.deed (status_by why) (K.kept keeper.old)) }
-    ensures place { OnOk result (K.file keeper.new ≡ Some wish.entry.file) }
+        K.kept keeper.new ≡ left_of request.entry.action (status_by why) (K.kept keeper.old)) }
+    ensures place { OnOk result (K.file keeper.new ≡ Some request.entry.file) }
     ensures place_then { IfErr result (λ why. status_by why ≢ 5 → status_by why ≢ 15
-        → K.file keeper.new ≡ Some wish.entry.file) }
-    ensures cause { IfErr result (IsWhyUndone wish.entry.deed (K.kept keeper.old)) }
+        → K.file keeper.new ≡ Some request.entry.file) }
+    ensures cause { IfErr result (IsWhyUndone request.entry.action (K.kept keeper.old)) }
     ensures keeper_failed { IsErrOf result KeeperFailed →
         Rose (K.faults keeper.old) (K.faults keeper.new) }
     ensures write_failed { IsErrOf result (Of fault.WriteFailed) →
@@ -160,8 +161,8 @@ fn act<O: Sink, K: Keeping>(
     ensures unfinished { O.finishes out.new ≡ O.finishes out.old }
     ensures lasting { K.faults keeper.old ≤ K.faults keeper.new }
 {
-    keeper.keep(wish.file)?;
-    let text = settle(alloc, wish.deed, keeper)?;
+    keeper.keep(request.file)?;
+    let text = settle(alloc, request.action, keeper)?;
     write(out, &text)?;
     Ok(())
 }
@@ -169,20 +170,20 @@ fn act<O: Sink, K: Keeping>(
 /// Does what is asked, and answers the status.
 fn obey<O: Sink, E: Sink, K: Keeping>(
     alloc: Global,
-    wish: Wish,
+    request: Request,
     out: &mut O,
     diag: &mut E,
     keeper: &mut K,
 ) -> u8
-    ensures known { Contains deed_statuses result }
+    ensures known { Contains action_statuses result }
     ensures cause { result ≢ 0 → (why : _) × (status_by why ≡ result)
-        × IsWhyUndone wish.entry.deed (K.kept keeper.old) why }
-    ensures done { result ≡ 0 → IsDone Appends wish.entry.deed (K.kept keeper.old)
+        × IsWhyUndone request.entry.action (K.kept keeper.old) why }
+    ensures done { result ≡ 0 → IsDone Appends request.entry.action (K.kept keeper.old)
         (O.held out.old) (O.held out.new) }
-    ensures cut { result ≡ 4 → IsDone AppendsFront wish.entry.deed (K.kept keeper.old)
+    ensures cut { result ≡ 4 → IsDone AppendsFront request.entry.action (K.kept keeper.old)
         (O.held out.old) (O.held out.new) }
-    ensures left { K.kept keeper.new ≡ left_of wish.entry.deed result (K.kept keeper.old) }
-    ensures place { result ≢ 5 → result ≢ 15 → K.file keeper.new ≡ Some wish.entry.file }
+    ensures left { K.kept keeper.new ≡ left_of request.entry.action result (K.kept keeper.old) }
+    ensures place { result ≢ 5 → result ≢ 15 → K.file keeper.new ≡ Some request.entry.file }
     ensures keeper_failed { result ≡ 15 → Rose (K.faults keeper.old) (K.faults keeper.new) }
     ensures write_failed { result ≡ 4 → Rose (O.faults out.old) (O.faults out.new) }
     ensures unwritten { result ≢ 0 → result ≢ 4 → O.held out.new ≡ O.held out.old }
@@ -191,13 +192,14 @@ fn obey<O: Sink, E: Sink, K: Keeping>(
     ensures lasting { K.faults keeper.old ≤ K.faults keeper.new }
     ensures silent { result ≡ 0 → E.held diag.new ≡ E.held diag.old }
     ensures said { result ≢ 0 → (why : _) × (status_by why ≡ result)
-        × IsWhyUndone wish.entry.deed (K.kept keeper.old) why
+        × IsWhyUndone request.entry.action (K.kept keeper.old) why
         × AppendsFront (E.held diag.old) (E.held diag.new) (line_by why) }
     ensures said_all { result ≢ 0 → (Rose (E.faults diag.old) (E.faults diag.new) → ⊥)
-        → (why : _) × (status_by why ≡ result) × IsWhyUndone wish.entry.deed (K.kept keeper.old) why
+        → (why : _) × (status_by why ≡ result)
+        × IsWhyUndone request.entry.action (K.kept keeper.old) why
         × Appends (E.held diag.old) (E.held diag.new) (line_by why) }
 {
-    match act(alloc, wish, out, keeper) {
+    match act(alloc, request, out, keeper) {
         Ok(()) => 0,
         Err(why) => tell_why(diag, why),
     }
@@ -218,22 +220,22 @@ pub fn bindings_words<O: Sink, E: Sink, K: Keeping>(
     // Each status, and when it comes. Where the words are of the table, no count rose and no cause
     // of 6, 7, 16 or 17 stands, the status is 0, or 5 for want of memory.
     ensures known { Contains bindings_statuses result }
-    ensures words { result ≡ 2 → AskAWish (texts words.now) → ⊥ }
-    ensures other_words { (AskAWish (texts words.now) → ⊥) → Contains (2 ∷ 5 ∷ []) result }
+    ensures words { result ≡ 2 → MakeARequest (texts words.now) → ⊥ }
+    ensures other_words { (MakeARequest (texts words.now) → ⊥) → Contains (2 ∷ 5 ∷ []) result }
     ensures cause { result ≢ 0 → IsUndone (texts words.now) (K.kept keeper.old) result }
     ensures keeper_failed { result ≡ 15 → Rose (K.faults keeper.old) (K.faults keeper.new) }
     ensures write_failed { result ≡ 4 → Rose (O.faults out.old) (O.faults out.new) }
 
     // What is written, of a keeper that tells what it keeps by that.
-    ensures done { result ≡ 0 → IfWish (texts words.now) (λ w. IsDone Appends w.deed
+    ensures done { result ≡ 0 → IfRequest (texts words.now) (λ w. IsDone Appends w.action
         (K.kept keeper.old) (O.held out.old) (O.held out.new)) }
-    ensures cut { result ≡ 4 → IfWish (texts words.now) (λ w. IsDone AppendsFront w.deed
+    ensures cut { result ≡ 4 → IfRequest (texts words.now) (λ w. IsDone AppendsFront w.action
         (K.kept keeper.old) (O.held out.old) (O.held out.new)) }
     ensures unwritten { result ≢ 0 → result ≢ 4 → O.held out.new ≡ O.held out.old }
 
     // What is kept, and in which file: the one opened last is that of the words.
     ensures left { Leave (texts words.now) result (K.kept keeper.old) (K.kept keeper.new) }
-    ensures place { result ≢ 2 → result ≢ 5 → result ≢ 15 → IfWish (texts words.now)
+    ensures place { result ≢ 2 → result ≢ 5 → result ≢ 15 → IfRequest (texts words.now)
         (λ w. K.file keeper.new ≡ Some w.file) }
 
     // What stands after it.
@@ -251,8 +253,8 @@ pub fn bindings_words<O: Sink, E: Sink, K: Keeping>(
         → SaysWhy Appends (texts words.now) (K.kept keeper.old) result
         (E.held diag.old) (E.held diag.new) }
 {
-    match find_wish(alloc, words) {
-        Ok(wish) => obey(alloc, wish, out, diag, keeper),
+    match find_request(alloc, words) {
+        Ok(request) => obey(alloc, request, out, diag, keeper),
         Err(fault) => refuse(diag, Fault::from(fault)),
     }
 }

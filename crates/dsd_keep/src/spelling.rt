@@ -5,7 +5,8 @@ ghost use Rattle.kp_keeper.specs.declared.records.Record.{Record};
 ghost use Rattle.dsd_top.specs.Asked.{texts};
 ghost use Rattle.dsd_top.specs.Minting.{IsFound};
 ghost use Rattle.dsd_top.specs.Numbers.{IsNumberWithin};
-ghost use Rattle.dsd_keep.specs.Wishes.{IsForm, ArePlainTexts, AreCaveats, IsSpelledBy, IsRecordBy};
+ghost use Rattle.dsd_keep.specs.Requests.{IsForm, ArePlainTexts, AreCaveats, IsSpelledBy};
+ghost use Rattle.dsd_keep.specs.Requests.{IsRecordBy};
 
 use crate::words::Adding;
 use dsd_top::{WordsFault, key_of, number_within, plain_value};

@@ -12,9 +12,9 @@ use Rattle.dsd_query.specs.Queries.{AskAQuestion, IfQuery}
 use Rattle.dsd_keep.specs.Endings.{IsDone, IsUndone, SaysWhy as SaysUndone}
 use Rattle.dsd_keep.specs.Folds.{Leave}
 use Rattle.dsd_keep.specs.Undone.{bindings_statuses}
-use Rattle.dsd_keep.specs.Wishes.{AskAWish, IfWish}
+use Rattle.dsd_keep.specs.Requests.{MakeARequest, IfRequest}
 use Rattle.dsd_serve.specs.Causes.{serve_statuses, SaysWhy, SaysWhyFront}
-use Rattle.dsd_serve.specs.Configs.{IsBadConfigAt}
+use Rattle.dsd_config.specs.Configs.{IsBadConfigAt}
 use Rattle.dsd_serve.specs.Kept.{kept_statuses, IsUnservedKept, SaysWhyKept}
 use Rattle.dsd_serve.specs.Serving.{AskToServe, AskForSomething, IfServing, AskToServeKept, IfServingKept}
 use Rattle.dsd_serve.specs.Serving.{AreAccepts, IsServed}
@@ -51,16 +51,18 @@ pub record Asks (words : List (List ℕ)) (status : ℕ) (before now : World) : 
 -- ---- `bindings`: what `bindings_words` ensures
 pub record Keeps (words : List (List ℕ)) (status : ℕ) (before now : World) : Type 0 where
   pub known : Contains bindings_statuses status
-  pub bad_words : status ≡ 2 → AskAWish words → ⊥
-  pub other_words : (AskAWish words → ⊥) → Contains (2 ∷ 5 ∷ []) status
+  pub bad_words : status ≡ 2 → MakeARequest words → ⊥
+  pub other_words : (MakeARequest words → ⊥) → Contains (2 ∷ 5 ∷ []) status
   pub cause : status ≢ 0 → IsUndone words before.keeper.kept status
   pub keeper_failed : status ≡ 15 → Rose before.keeper.faults now.keeper.faults
   pub write_failed : status ≡ 4 → Rose before.out.faults now.out.faults
-  pub done : status ≡ 0 → IfWish words (λ w. IsDone Appends w.deed before.keeper.kept before.out.held now.out.held)
-  pub cut : status ≡ 4 → IfWish words (λ w. IsDone AppendsFront w.deed before.keeper.kept before.out.held now.out.held)
+  pub done : status ≡ 0 → IfRequest words (λ w. IsDone Appends w.action before.keeper.kept before.out.held
+      now.out.held)
+  pub cut : status ≡ 4 → IfRequest words (λ w. IsDone AppendsFront w.action before.keeper.kept before.out.held
+      now.out.held)
   pub unwritten : status ≢ 0 → status ≢ 4 → now.out.held ≡ before.out.held
   pub left : Leave words status before.keeper.kept now.keeper.kept
-  pub place : status ≢ 2 → status ≢ 5 → status ≢ 15 → IfWish words (λ w. now.keeper.file ≡ Some w.file)
+  pub place : status ≢ 2 → status ≢ 5 → status ≢ 15 → IfRequest words (λ w. now.keeper.file ≡ Some w.file)
   pub unread : now.input ≡ before.input
   pub unhosted : (now.link ≡ before.link) × (now.rest ≡ before.rest)
   pub unasked : status ≡ 2 → (now.out ≡ before.out) × (now.keeper ≡ before.keeper)
@@ -87,7 +89,7 @@ pub record ServesKept (words : List (List ℕ)) (status : ℕ) (before now : Wor
       before.rest.gave now.rest.gave before.rest.stops now.rest.stops before.rest.accept_faults now.rest.accept_faults)
       before.out.held now.out.held)
   pub place : Contains (0 ∷ 4 ∷ []) status → IfServingKept words (λ s. (now.rest.address ≡ Some s.address) ×
-      (now.keeper.file ≡ Some s.config))
+      (now.keeper.file ≡ Some s.file))
   pub unread : now.input ≡ before.input
   pub unasked : status ≡ 2 → (now.link ≡ before.link) × (now.rest ≡ before.rest) × (now.keeper ≡ before.keeper)
   pub unopened : status ≢ 0 → status ≢ 4 → status ≢ 5 → (now.rest.address ≡ before.rest.address) × (now.rest.gave ≡
@@ -132,7 +134,7 @@ pub record Runs (words : List (List ℕ)) (status : ℕ) (before now : World) : 
       before.rest.gave now.rest.gave before.rest.stops now.rest.stops before.rest.accept_faults now.rest.accept_faults)
       before.out.held now.out.held)
   pub place : Contains (0 ∷ 4 ∷ []) status → IfServing words (λ s. now.rest.address ≡ Some s.address)
-  pub bad_server : status ≡ 7 → IfServing words (λ s. (n : _) × IsBadConfigAt before.rest.files s.config n)
+  pub bad_server : status ≡ 7 → IfServing words (λ s. (n : _) × IsBadConfigAt before.rest.files s.file n)
   pub listen_failed : status ≡ 8 → AskToServe words × Rose before.rest.port_faults now.rest.port_faults
   pub unopened : begins_with_serve words ≡ true → status ≢ 0 → status ≢ 4 → status ≢ 5 → (now.rest.address ≡
       before.rest.address) × (now.rest.gave ≡ before.rest.gave) × (now.rest.stops ≡ before.rest.stops)

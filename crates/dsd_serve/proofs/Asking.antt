@@ -18,7 +18,7 @@ five_words (v ∷ x ∷ y ∷ z ∷ u ∷ []) e w a c k n p q r s t = cc (p, q, 
 five_words (v ∷ x ∷ y ∷ z ∷ u ∷ o ∷ os) e w a c k n p q r s t = absurd (omega (arith, e))
 
 pub words_are : (ws : List (List ℕ)) (first w a c k n : List ℕ) (s : Serving) → ws ≡ w ∷ a ∷ c ∷ k ∷ n ∷ []
-    → w ≡ first → a ≡ s.address → c ≡ s.config → k ≡ decimal s.workers → n ≡ decimal s.connections
+    → w ≡ first → a ≡ s.address → c ≡ s.file → k ≡ decimal s.workers → n ≡ decimal s.connections
     → ws ≡ words_for first s
 words_are ws first w a c k n s e p q r t u = cc (e, p, q, r, t, u)
 

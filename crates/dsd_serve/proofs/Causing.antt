@@ -3,7 +3,7 @@ use Rattle.std.proofs.Common.{◌≡◌, ℕ, List, Contains, lit<, refl, arith}
 use Rattle.dsd_top.specs.Schemas.{Files}
 use Rattle.dsd_top.specs.declared.faults.Fault.TheVariants as fault
 use Rattle.dsd_serve.specs.Causes.{serve_statuses, status_for, IsWhyUnserved, StandsServing, IsServingFault}
-use Rattle.dsd_serve.specs.Configs.{IsBadConfigAt}
+use Rattle.dsd_config.specs.Configs.{IsBadConfigAt}
 use Rattle.dsd_serve.specs.Serving.{Serving, IsServing}
 use Rattle.dsd_serve.specs.declared.unserved.Unserved.{Unserved}
 use Rattle.dsd_serve.specs.declared.unserved.Unserved.TheVariants.{Of, Unheard, KeeperFailed}
@@ -34,7 +34,7 @@ module _ (s : Serving) (files : Files) where
 
   -- at status 7 it is a configuration that is refused
   pub refused_config : (why : Unserved) → IsWhyUnserved s files why → status_for why ≡ 7
-      → (n : ℕ) × IsBadConfigAt files s.config n
+      → (n : ℕ) × IsBadConfigAt files s.file n
   refused_config (Of (fault.BadInput n)) h e = absurd h
   refused_config (Of fault.BadWords) h e = absurd h
   refused_config (Of fault.ReadFailed) h e = absurd (omega (arith, e))

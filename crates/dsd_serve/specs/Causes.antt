@@ -10,7 +10,7 @@ use Rattle.dsd_top.specs.Schemas.{Files}
 use Rattle.dsd_top.specs.Statuses.{status_of}
 use Rattle.dsd_top.specs.declared.faults.Fault.{Fault}
 use Rattle.dsd_top.specs.declared.faults.Fault.TheVariants as fault
-use Rattle.dsd_serve.specs.Configs.{IsBadConfigAt}
+use Rattle.dsd_config.specs.Configs.{IsBadConfigAt}
 use Rattle.dsd_serve.specs.Serving.{Serving, IsServing, AskToServe}
 use Rattle.dsd_serve.specs.declared.unserved.Unserved.{Unserved}
 use Rattle.dsd_serve.specs.declared.unserved.Unserved.TheVariants.{Of, Unheard, KeeperFailed}
@@ -43,7 +43,7 @@ abbrev pub IsWhyUnserved : Serving → Files → Unserved → Type 0
 IsWhyUnserved s files (Of fault.ReadFailed) = Unit {0}
 IsWhyUnserved s files (Of fault.WriteFailed) = Unit {0}
 IsWhyUnserved s files (Of fault.NoMemory) = Unit {0}
-IsWhyUnserved s files (Of (fault.BadConfig n)) = IsBadConfigAt files s.config n
+IsWhyUnserved s files (Of (fault.BadConfig n)) = IsBadConfigAt files s.file n
 IsWhyUnserved s files (Of f) = ⊥
 IsWhyUnserved s files Unheard = Unit {0}
 IsWhyUnserved s files KeeperFailed = ⊥

@@ -1,5 +1,4 @@
 pub mod Causes
-pub mod Configs
 pub mod Kept
 pub mod Limits
 pub mod Serving

@@ -9,13 +9,13 @@ use Rattle.dsd_serve.specs.Limits.{most_workers, most_links}
 -- at an address, by a file that holds a configuration or keeps bindings, with so many workers, for so many connections
 pub record Serving : Type 0 where
   pub address : List ℕ
-  pub config : List ℕ
+  pub file : List ℕ
   pub workers : ℕ
   pub connections : ℕ
 
 -- the words for it, behind the first one
 abbrev pub words_for : List ℕ → Serving → List (List ℕ)
-words_for first s = first ∷ s.address ∷ s.config ∷ decimal s.workers ∷ decimal s.connections ∷ []
+words_for first s = first ∷ s.address ∷ s.file ∷ decimal s.workers ∷ decimal s.connections ∷ []
 
 -- the words ask by the first one to serve so, with 1 to 16 workers and for 1 to 1,000 connections
 pub record IsServingBy (first : List ℕ) (words : List (List ℕ)) (s : Serving) : Type 0 where

@@ -72,9 +72,9 @@ where
     ensures place { OnOk result (H.address host.new ≡ Some serving.now.address) }
     ensures place_too { IsErrOf result (Of fault.WriteFailed) →
         H.address host.new ≡ Some serving.now.address }
-    ensures file { OnOk result (K.file keeper.new ≡ Some serving.now.config) }
+    ensures file { OnOk result (K.file keeper.new ≡ Some serving.now.file) }
     ensures file_too { IsErrOf result (Of fault.WriteFailed) →
-        K.file keeper.new ≡ Some serving.now.config }
+        K.file keeper.new ≡ Some serving.now.file }
     ensures cause { IfErr result (IsWhyUnservedKept (K.kept keeper.old)) }
     ensures keeper_failed { IsErrOf result KeeperFailed →
         Rose (K.faults keeper.old) (K.faults keeper.new) }
@@ -96,7 +96,7 @@ where
         × (K.faults keeper.old ≤ K.faults keeper.new) }
 {
     let hub = hub_kept::<Skeleton, Conformance, Table, K>(
-        serving.config,
+        serving.file,
         Conformance,
         Table,
         keeper,
@@ -141,7 +141,7 @@ where
         (H.stops host.old) (H.stops host.new) (H.faults host.old) (H.faults host.new))
         (O.held out.old) (O.held out.new)) }
     ensures place { Contains (0 ∷ 4 ∷ []) result → IfServingKept (texts words.now)
-        (λ s. (H.address host.new ≡ Some s.address) × (K.file keeper.new ≡ Some s.config)) }
+        (λ s. (H.address host.new ≡ Some s.address) × (K.file keeper.new ≡ Some s.file)) }
 
     // What stands after it.
     ensures unasked { result ≡ 2 → (host.new ≡ host.old) × (keeper.new ≡ keeper.old) }

@@ -9,7 +9,6 @@
 //! contract doesn't pass through a call.
 #![tactic(auto)]
 
-mod configs;
 mod kept;
 mod mains;
 mod numbers;

@@ -9,7 +9,7 @@ ghost use Rattle.dsd_top.specs.Statuses.{IsStatus, statuses_of, IfTold, file_of,
 ghost use Rattle.dsd_top.specs.Statuses.{IsCut, IsShown, IsShownFront, IsBadInput, IsOver};
 ghost use Rattle.dsd_top.specs.Statuses.{IsBadConfig, IsUntold, Stands};
 ghost use Rattle.dsd_serve.specs.Causes.{serve_statuses, SaysWhy, SaysWhyFront};
-ghost use Rattle.dsd_serve.specs.Configs.{IsBadConfigAt};
+ghost use Rattle.dsd_config.specs.Configs.{IsBadConfigAt};
 ghost use Rattle.dsd_serve.specs.Serving.{AskToServe, AskForSomething, IfServing, AreAccepts};
 ghost use Rattle.dsd_serve.specs.Serving.{IsServed};
 
@@ -50,7 +50,7 @@ where
     ensures place { Contains (0 ∷ 4 ∷ []) result → IfServing (texts words.now)
         (λ s. H.address host.new ≡ Some s.address) }
     ensures bad_config { result ≡ 7 → IfServing (texts words.now)
-        (λ s. (n : _) × IsBadConfigAt (H.files host.old) s.config n) }
+        (λ s. (n : _) × IsBadConfigAt (H.files host.old) s.file n) }
     ensures read_failed { result ≡ 3 → Rose (H.file_faults host.old) (H.file_faults host.new) }
     ensures listen_failed { result ≡ 8 → Rose (H.port_faults host.old) (H.port_faults host.new) }
     ensures write_failed { result ≡ 4 → Rose (O.faults out.old) (O.faults out.new) }
@@ -154,7 +154,7 @@ where
     ensures place { Contains (0 ∷ 4 ∷ []) result → IfServing (texts words.now)
         (λ s. H.address host.new ≡ Some s.address) }
     ensures bad_server { result ≡ 7 → IfServing (texts words.now)
-        (λ s. (n : _) × IsBadConfigAt (H.files host.old) s.config n) }
+        (λ s. (n : _) × IsBadConfigAt (H.files host.old) s.file n) }
     ensures listen_failed { result ≡ 8 → AskToServe (texts words.now)
         × Rose (H.port_faults host.old) (H.port_faults host.new) }
     // Before the configuration is judged and the address open nothing is accepted.

@@ -9,10 +9,10 @@ ghost use Rattle.dsd_serve.specs.Causes.{IsWritingFault, IsListeningFault, IsSer
 ghost use Rattle.dsd_serve.specs.Serving.{AreAccepts, IsServed, served_line, rest_in};
 ghost use Rattle.dsd_serve.specs.declared.unserved.Unserved.TheVariants.{Of, Unheard};
 
-use crate::configs::hub_in;
 use crate::unserved::Unserved;
 use crate::words::Serving;
 use ds_skeleton::Skeleton;
+use dsd_config::hub_in;
 use dsd_top::{Conformance, Fault};
 use hub_core::Hub;
 use itoa::Buffer;
@@ -184,7 +184,7 @@ where
 {
     let hub = hub_in::<Skeleton, Conformance, Table, H>(
         alloc,
-        serving.config,
+        serving.file,
         Conformance,
         Table,
         host,

@@ -17,7 +17,7 @@ const CONNECTIONS: u32 = 1000;
 #[derive(Drop)]
 pub(crate) struct Serving<'a> {
     pub address: &'a str,
-    pub config: &'a str,
+    pub file: &'a str,
     pub workers: u32,
     pub connections: u32,
 }
@@ -29,7 +29,7 @@ impl<'a> Model for Serving<'a> {
 
     ghost view = { λ s. record {
       address = s.address.now;
-      config = s.config.now;
+      file = s.file.now;
       workers = s.workers;
       connections = s.connections;
     } };
@@ -47,7 +47,7 @@ pub(crate) fn find_serving<'a>(first: &str, words: &'a [String]) -> Option<Servi
     let connections = number_in(words[4].as_str(), 1, CONNECTIONS)?;
     Some(Serving {
         address: words[1].as_str(),
-        config: words[2].as_str(),
+        file: words[2].as_str(),
         workers,
         connections,
     })

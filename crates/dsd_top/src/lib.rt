@@ -23,6 +23,7 @@ mod words;
 
 pub use conformance::Conformance;
 pub use faults::Fault;
+pub use inputs::read_input;
 pub use laws::minted_references_verify;
 pub use lines::{refuse, say};
 pub use minting::{WordsFault, key_of, plain_value, reference_line};

@@ -124,3 +124,24 @@ fn work_calls_its_place(rt: HostRuntime) -> Result<(), Fail> {
     assert!(rt; called_by_work(&rt, rt.alloc()));
     Ok(())
 }
+
+/// For how many steps a place was called, as one hears of it who rests there and commits nothing:
+/// first of a step that left work there, and then of another.
+fn calls_heard<R: Wait>(rt: &R, alloc: Global) -> (u64, u64) {
+    let Ok((gate, mut first)) = Gate::begin(alloc, Sum { total: 900 }, 2) else {
+        return (0, 0);
+    };
+    let Ok(other) = gate.split(&mut first, 63) else {
+        return (0, 0);
+    };
+    let _ = answer(rt, &gate, &mut first, 200);
+    let once = gate.rest_beyond(rt, &other, 0);
+    let _ = answer(rt, &gate, &mut first, 200);
+    (once, gate.rest_beyond(rt, &other, once))
+}
+
+#[test]
+fn who_commits_nothing_hears_of_each_call(rt: HostRuntime) -> Result<(), Fail> {
+    assert!(rt; calls_heard(&rt, rt.alloc()) == (1, 2));
+    Ok(())
+}

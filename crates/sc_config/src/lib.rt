@@ -12,6 +12,3 @@ mod laws;
 pub use configs::configured;
 pub use faults::ConfigFault;
 pub use laws::one_configuration;
-
-#[cfg(test)]
-mod tests;

@@ -9,6 +9,8 @@ mod counted;
 #[cfg(test)]
 mod drip;
 #[cfg(test)]
+mod gates;
+#[cfg(test)]
 mod puts;
 #[cfg(test)]
 mod sessions;

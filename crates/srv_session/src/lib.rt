@@ -10,8 +10,6 @@
 mod laws;
 mod seated;
 mod served;
-#[cfg(test)]
-mod tests;
 
 pub use laws::{histories_are_the_machines, news_are_called, news_are_seen};
 pub use seated::Seated;

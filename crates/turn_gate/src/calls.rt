@@ -125,6 +125,17 @@ impl<T: Replayed> Gate<T> {
         self.rest_at(rt, pass.place, pass.heard);
     }
 
+    /// Sleeps as [`Gate::rest`] does, but until the place was called for a step behind the first
+    /// `known`, and answers for how many steps it was called. It may end sooner.
+    ///
+    /// It is for who commits nothing, and so hears of no step: handed in again, the answer is what
+    /// it knows by then. No clause speaks of the answer.
+    pub fn rest_beyond<R: Wait>(&self, rt: &R, pass: &Pass<T>, known: u64) -> u64
+        requires gate { IsPassOf self.now pass.now }
+    {
+        self.rest_at(rt, pass.place, known)
+    }
+
     /// Whether the value was given up. No clause speaks of it: who needs it for a promise commits.
     pub fn is_lost(&self) -> bool {
         self.was_given_up()

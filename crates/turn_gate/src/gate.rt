@@ -238,26 +238,28 @@ impl<T: Replayed> Gate<T> {
     }
 
     // Sleeps until this place was called for a step behind those that were heard of, or the value
-    // was given up.
-    pub(crate) fn rest_at<R: Wait>(&self, rt: &R, place: usize, heard: u64)
+    // was given up. Answers for how many steps it was called.
+    pub(crate) fn rest_at<R: Wait>(&self, rt: &R, place: usize, heard: u64) -> u64
         requires { place < 64 }
     {
         let (_count, mut seat) = self.table.shared.load_new_seat::<Visit>(COUNT);
         self.table
             .shared
             .fetch_add::<Touch>(&mut seat, place * LINE + RESTERS, 1);
+        let mut called = self.called(place);
         for _ in rt.forever() {
-            let called = self.called(place);
             if called > heard || self.was_given_up() {
                 break;
             }
             self.table
                 .shared
                 .park(rt, place * LINE + CALLS, (called & 0xffff_ffff) as u32);
+            called = self.called(place);
         }
         self.table
             .shared
             .fetch_sub::<Touch>(&mut seat, place * LINE + RESTERS, 1);
+        called
     }
 
     // Takes the slot, and leaves in the view which step is to be done, where one is announced.

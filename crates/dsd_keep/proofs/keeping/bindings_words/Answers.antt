@@ -5,26 +5,26 @@ use Rattle.dsd_top.specs.Asked.{texts}
 use Rattle.dsd_top.specs.Lines.{line_of}
 use Rattle.dsd_top.specs.Statuses.{status_of, from_words}
 use Rattle.dsd_top.specs.declared.faults.Fault.{Fault}
-use Rattle.dsd_keep.specs.Undone.{bindings_statuses, deed_statuses}
+use Rattle.dsd_keep.specs.Undone.{bindings_statuses, action_statuses}
 use Rattle.dsd_keep.specs.declared.undone.Undone.TheVariants.{Of}
 use Rattle.dsd_keep.proofs.Ended.{stands}
 use Rattle.dsd_keep.proofs.Refused.{behind_first, refused_known, refused_few, refused_words, refused_stands}
 use Rattle.dsd_keep.proofs.keeping.bindings_words.Goals as goal
 
 pub returns-in-Ok-clause-known : goal.returns-in-Ok-clause-known
-returns-in-Ok-clause-known g c = behind_first 2 deed_statuses c.obey.result c.obey.ensures.known
+returns-in-Ok-clause-known g c = behind_first 2 action_statuses c.obey.result c.obey.ensures.known
 
 pub returns-in-Ok-clause-said : goal.returns-in-Ok-clause-said
 returns-in-Ok-clause-said g c = λ e.
     let kept = g.K.Keeper.kept c.args.keeper.now in
     let why = c.obey.ensures.said e in
-    (why.0, why.1, stands kept (texts c.args.words.now) c.in-Ok.wish c.in-Ok.ensures why.0 why.2, why.3)
+    (why.0, why.1, stands kept (texts c.args.words.now) c.in-Ok.request c.in-Ok.ensures why.0 why.2, why.3)
 
 pub returns-in-Ok-clause-said_all : goal.returns-in-Ok-clause-said_all
 returns-in-Ok-clause-said_all g c = λ e quiet.
     let kept = g.K.Keeper.kept c.args.keeper.now in
     let why = c.obey.ensures.said_all e quiet in
-    (why.0, why.1, stands kept (texts c.args.words.now) c.in-Ok.wish c.in-Ok.ensures why.0 why.2, why.3)
+    (why.0, why.1, stands kept (texts c.args.words.now) c.in-Ok.request c.in-Ok.ensures why.0 why.2, why.3)
 
 pub returns-in-Err-clause-known : goal.returns-in-Err-clause-known
 returns-in-Err-clause-known g c =

@@ -4,7 +4,7 @@ use Rattle.pv_canon.specs.Canonical.{canonical}
 use Rattle.pv_value.specs.Plain.{Plain, plains, sequence}
 use Rattle.dsd_top.specs.Asked.{texts}
 use Rattle.dsd_top.proofs.Minted.{refuted}
-use Rattle.dsd_keep.specs.Wishes.{ArePlainTexts, AreCaveats}
+use Rattle.dsd_keep.specs.Requests.{ArePlainTexts, AreCaveats}
 use Rattle.dsd_keep.proofs.Spelled.{no_caveats, one_sequence}
 use Rattle.dsd_keep.proofs.spelling.caveats_in.Goals as goal
 

@@ -2,7 +2,7 @@
 use Rattle.std.proofs.Common.{sym, ◌∙◌}
 use Rattle.dsd_top.specs.Minting.{IsPlainText}
 use Rattle.dsd_top.proofs.Minted.{refuted}
-use Rattle.dsd_keep.specs.Wishes.{IsForm}
+use Rattle.dsd_keep.specs.Requests.{IsForm}
 use Rattle.dsd_keep.proofs.Spelled.{no_form, one_form}
 use Rattle.dsd_keep.proofs.spelling.form_in.Goals as goal
 

@@ -5,7 +5,7 @@ use Rattle.dsd_top.specs.Asked.{texts}
 use Rattle.dsd_top.specs.Minting.{IsFound, IsKey}
 use Rattle.dsd_top.proofs.Minted.{refuted}
 use Rattle.dsd_keep.specs.Asked.{Adding}
-use Rattle.dsd_keep.specs.Wishes.{IsForm, AreCaveats, IsSpelledBy}
+use Rattle.dsd_keep.specs.Requests.{IsForm, AreCaveats, IsSpelledBy}
 use Rattle.dsd_keep.proofs.Spelled.{no_oid, no_list, one_record}
 use Rattle.dsd_keep.proofs.spelling.spelled_by.Goals as goal
 

@@ -4,7 +4,7 @@ use Rattle.pv_value.specs.Plain.{Plain}
 use Rattle.dsd_top.specs.Asked.{texts}
 use Rattle.dsd_top.specs.Minting.{IsPlainText, IsFound}
 use Rattle.dsd_top.proofs.Minted.{words_drop, words_end, refuted}
-use Rattle.dsd_keep.specs.Wishes.{ArePlainTexts}
+use Rattle.dsd_keep.specs.Requests.{ArePlainTexts}
 use Rattle.dsd_keep.proofs.Spelled.{AreReadSoFar, none_read, one_read, not_read, all_read, all_same}
 use Rattle.dsd_keep.proofs.spelling.values_in.Goals as goal
 

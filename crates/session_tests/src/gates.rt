@@ -1,12 +1,12 @@
 //! A gate over the hub.
 ghost use Rattle.std.specs.Prelude.{◌≡◌};
 
-use crate::{Seated, Served, ServedStep};
 use ds_space::{PlainSpace, Space};
-use hub_core::{Fault, Reply, Step};
+use hub_machine::{Fault, Reply, Step};
 use lc_watch::{Behaves, Table, Watcher};
 use out_ports::memory::{MemSink, MemSource};
 use sr_pass::{Judge, NoNames};
+use srv_session::{Seated, Served, ServedStep};
 use srv_turns::{ReaderEnd, Turns, WriterEnd, serve_reader, serve_writer};
 use std::alloc::{AllocError, Global};
 use std::sync::Wait;

@@ -1,12 +1,12 @@
 //! Configurations over the plain body of a dataspace.
 
-use crate::{ConfigFault, configured};
 use ds_space::PlainSpace;
 use lc_guard::Predicate;
 use lc_watch::Table;
 use ps_check::conforms;
 use ps_schema::Schema;
 use pv_value::Value;
+use sc_config::{ConfigFault, configured};
 use std::alloc::Global;
 
 const ROOMS: &str = r#"

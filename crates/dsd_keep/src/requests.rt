@@ -1,7 +1,7 @@
 //! What the words ask to be done.
 ghost use Rattle.dsd_top.specs.Asked.{texts};
 ghost use Rattle.dsd_top.specs.Minting.{IsFound, IsReferenceLine};
-ghost use Rattle.dsd_keep.specs.Wishes.{IsDeed, IsWish, minting_of};
+ghost use Rattle.dsd_keep.specs.Requests.{IsAction, IsRequest, minting_of};
 ghost use Rattle.dsd_keep.specs.declared.words.Asked.TheVariants as asks;
 
 use crate::spelling::{form_in, record_by};
@@ -14,7 +14,7 @@ use std::marker::Model;
 
 /// What is to be done.
 #[derive(Drop)]
-pub(crate) enum Deed {
+pub(crate) enum Action {
     /// The record is to be kept, and then the line of its signed reference is written.
     Add(Record, Vec<u8>),
     List,
@@ -24,17 +24,17 @@ pub(crate) enum Deed {
 
 /// What is to be done, and with which file.
 #[derive(Drop)]
-pub(crate) struct Wish<'a> {
+pub(crate) struct Request<'a> {
     pub file: &'a str,
-    pub deed: Deed,
+    pub action: Action,
 }
 
-impl<'a> Model for Wish<'a> {
-    ghost use Rattle.dsd_keep.specs.Wish.{Wish};
+impl<'a> Model for Request<'a> {
+    ghost use Rattle.dsd_keep.specs.Request.{Request};
 
-    ghost Value = { Wish };
+    ghost Value = { Request };
 
-    ghost view = { λ w. record { file = w.file.now; deed = w.deed } };
+    ghost view = { λ w. record { file = w.file.now; action = w.action } };
 }
 
 /// The line of the signed reference, as `mint` prints it for the oid and the key. The caveats are
@@ -51,35 +51,35 @@ fn line_by(alloc: Global, adding: &Adding) -> Result<Vec<u8>, WordsFault>
 }
 
 /// The record that the words behind `add` give, and its line.
-fn adding_of(alloc: Global, adding: &Adding) -> Result<Deed, WordsFault>
-    ensures { IsFound (λ d. d) (IsDeed (asks.Add adding.now)) result }
+fn adding_of(alloc: Global, adding: &Adding) -> Result<Action, WordsFault>
+    ensures { IsFound (λ d. d) (IsAction (asks.Add adding.now)) result }
 {
     let record = record_by(alloc, adding)?;
     let line = line_by(alloc, adding)?;
-    Ok(Deed::Add(record, line))
+    Ok(Action::Add(record, line))
 }
 
 /// What is asked, as it is to be done.
-fn deed_of(alloc: Global, asked: &Asked) -> Result<Deed, WordsFault>
-    ensures { IsFound (λ d. d) (IsDeed asked.now) result }
+fn action_of(alloc: Global, asked: &Asked) -> Result<Action, WordsFault>
+    ensures { IsFound (λ d. d) (IsAction asked.now) result }
 {
     match asked {
         Asked::Add(adding) => adding_of(alloc, adding),
-        Asked::List => Ok(Deed::List),
-        Asked::Revoke(revoking) => Ok(Deed::Revoke(form_in(alloc, revoking.oid)?)),
+        Asked::List => Ok(Action::List),
+        Asked::Revoke(revoking) => Ok(Action::Revoke(form_in(alloc, revoking.oid)?)),
     }
 }
 
 /// What the words ask to be done, and with which file.
-pub(crate) fn find_wish(alloc: Global, words: &[String]) -> Result<Wish<'_>, WordsFault>
-    ensures { IsFound (λ w. w) (IsWish (texts words.now)) result }
+pub(crate) fn find_request(alloc: Global, words: &[String]) -> Result<Request<'_>, WordsFault>
+    ensures { IsFound (λ w. w) (IsRequest (texts words.now)) result }
 {
     let Some(asking) = find_asking(words) else {
         return Err(WordsFault::Bad);
     };
-    let deed = deed_of(alloc, &asking.asked)?;
-    Ok(Wish {
+    let action = action_of(alloc, &asking.asked)?;
+    Ok(Request {
         file: asking.file,
-        deed,
+        action,
     })
 }

@@ -12,9 +12,9 @@ use Rattle.dsd_keep.specs.Asked.{Adding}
 use Rattle.dsd_keep.specs.Words.{asking_of, Asking}
 use Rattle.dsd_keep.specs.declared.words.Asked.{Asked}
 use Rattle.dsd_keep.specs.declared.words.Asked.TheVariants as asks
-use Rattle.dsd_keep.specs.declared.wishes.Deed.{Deed}
-use Rattle.dsd_keep.specs.declared.wishes.Deed.TheVariants as deeds
-pub use Rattle.dsd_keep.specs.Wish.{Wish}
+use Rattle.dsd_keep.specs.declared.requests.Action.{Action}
+use Rattle.dsd_keep.specs.declared.requests.Action.TheVariants as actions
+pub use Rattle.dsd_keep.specs.Request.{Request}
 
 -- the word is the text of a value with nothing embedded in it, and this is its canonical form
 abbrev pub IsForm : List ℕ → List ℕ → Type 0
@@ -48,27 +48,27 @@ minting_of a = record { oid = a.oid; key = a.key; caveats = [] }
 
 -- what is asked is this: to keep the record, whose signed reference `mint` prints on that line; or to let the oid go; or
 -- to list
-abbrev pub IsDeed : Asked → Deed → Type 0
-IsDeed (asks.Add a) (deeds.Add r line) = IsRecordBy a r × IsReferenceLine (minting_of a) line.items
-IsDeed (asks.Revoke w) (deeds.Revoke oid) = IsForm w.oid oid
-IsDeed asks.List deeds.List = Unit {0}
-IsDeed asked deed = ⊥
+abbrev pub IsAction : Asked → Action → Type 0
+IsAction (asks.Add a) (actions.Add r line) = IsRecordBy a r × IsReferenceLine (minting_of a) line.items
+IsAction (asks.Revoke w) (actions.Revoke oid) = IsForm w.oid oid
+IsAction asks.List actions.List = Unit {0}
+IsAction asked action = ⊥
 
-abbrev pub command_of : Deed → Command
-command_of (deeds.Add r line) = add r
-command_of (deeds.Revoke oid) = revoke oid
-command_of deeds.List = list
+abbrev pub command_of : Action → Command
+command_of (actions.Add r line) = add r
+command_of (actions.Revoke oid) = revoke oid
+command_of actions.List = list
 
 -- the words ask this, of this file
-pub record IsWish (words : List (List ℕ)) (w : Wish) : Type 0 where
+pub record IsRequest (words : List (List ℕ)) (w : Request) : Type 0 where
   pub asking : Asking
   pub asked : asking_of words ≡ Some asking
   pub file : w.file ≡ asking.file
-  pub deed : IsDeed asking.asked w.deed
+  pub action : IsAction asking.asked w.action
 
-abbrev pub AskAWish : List (List ℕ) → Type 0
-AskAWish words = (w : Wish) × IsWish words w
+abbrev pub MakeARequest : List (List ℕ) → Type 0
+MakeARequest words = (w : Request) × IsRequest words w
 
 -- the words ask something, of which this holds
-abbrev pub IfWish : List (List ℕ) → (Wish → Type 0) → Type 0
-IfWish words Is = (w : Wish) × IsWish words w × Is w
+abbrev pub IfRequest : List (List ℕ) → (Request → Type 0) → Type 0
+IfRequest words Is = (w : Request) × IsRequest words w × Is w

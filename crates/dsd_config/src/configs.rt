@@ -4,7 +4,7 @@ ghost use Rattle.out_ports.specs.Ports.{Rose};
 ghost use Rattle.sc_config.specs.Configs.{IsConfigured};
 ghost use Rattle.dsd_top.specs.Limits.{most_file};
 ghost use Rattle.dsd_top.specs.declared.faults.Fault.TheVariants as fault;
-ghost use Rattle.dsd_serve.specs.Configs.{IsConfigIn, IsWhyTextRefused, IsWhyRefused};
+ghost use Rattle.dsd_config.specs.Configs.{IsConfigIn, IsWhyTextRefused, IsWhyRefused};
 
 use ds_space::Space;
 use dsd_top::{FILE_BYTES, Fault};
@@ -36,7 +36,7 @@ fn hub_of<S: Space + Drop, F: Predicate + Drop, G: Behaviour + Drop>(
 }
 
 /// The hub that the configuration in a file sets up.
-pub(crate) fn hub_in<S: Space + Drop, F: Predicate + Drop, G: Behaviour + Drop, H: Host>(
+pub fn hub_in<S: Space + Drop, F: Predicate + Drop, G: Behaviour + Drop, H: Host>(
     alloc: Global,
     file: &str,
     predicate: F,

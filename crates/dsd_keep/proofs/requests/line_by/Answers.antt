@@ -1,8 +1,8 @@
 use Rattle.std.proofs.Common.{ℕ, List, Vec, Global, subst}
 use Rattle.dsd_top.specs.Minting.{IsFound, IsReferenceLine}
-use Rattle.dsd_keep.specs.Wishes.{minting_of}
+use Rattle.dsd_keep.specs.Requests.{minting_of}
 use Rattle.dsd_keep.specs.Asked.{Adding}
-use Rattle.dsd_keep.proofs.wishes.line_by.Goals as goal
+use Rattle.dsd_keep.proofs.requests.line_by.Goals as goal
 
 pub returns : goal.returns
 returns c =
